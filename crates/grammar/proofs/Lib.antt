@@ -1,0 +1,11 @@
+pub mod Tests
+pub mod Derivatives
+pub mod Items
+pub mod Roles
+pub mod Fitting
+pub mod Automaton
+pub mod Steps
+pub mod Markings
+pub mod Verdicts
+pub mod Unique
+pub mod Boundaries

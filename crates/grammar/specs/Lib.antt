@@ -1,0 +1,5 @@
+pub mod Notation
+pub mod Productions
+pub mod Viable
+pub mod Tables
+pub mod Steps
