@@ -1,0 +1,160 @@
+-- Demand 3: the flat file of an accepted text is accepted, draws the same shapes, and flattened again gives the same bytes.
+-- Assumes nothing.
+use mathlib.Core.Path.{_≡_, refl, sym, ap, ap₂, _∙_, subst}
+use mathlib.Core.Bool.{Bool, true, false, _&&_}
+use mathlib.Core.List.{List, [], _∷_, _++_, map}
+use mathlib.Core.Option.{Option, none, some}
+use Prim.Native.Nat.{ℕ, zero, suc, _+_, _≤_, _<_}
+use native.Mathlib.Omega.{arith}
+use borrow.Author.Tests.{ltb-true, le-leb, leb-true}
+use lib.Dec.{T, ltb, leb}
+use lib.IntN.{ℤ}
+use lib.ListN.{length}
+use Rattle.grammar.specs.Notation.{Letter}
+use Rattle.grammar.specs.Viable.{Marked}
+use Rattle.definition.specs.Words.{if_then_else_, Placed, first}
+use Rattle.definition.specs.Commands.{Shape, Command, commands}
+use Rattle.definition.specs.Standing.{outside}
+use Rattle.definition.specs.Faults.{Refusal, allFaults, firstFault}
+use Rattle.definition.specs.Drawing.{Chain, Drawn, Event, called, drew, entered, removed, refused, deeds, story}
+use Rattle.definition.specs.Counts.{Counts, counts, End, finished, stopped, counted, goOn, ending, shapesOf}
+use Rattle.definition.specs.Flat.{lines, flat}
+use Rattle.definition.specs.Answer.{Outcome, accepted, rejected, flatFile, drawingOf, fitted, drawn, outcomeOf, Answers, read}
+use Rattle.definition.proofs.Range.{All, shapes-within}
+use Rattle.definition.proofs.Reread.{plain, Redrawn, Sayable, flatLetters, flat-redrawn, flat-plain, drawn-shapes, drawn-ending}
+use Rattle.definition.proofs.Spelling.{Spelt, flat-marked}
+use Rattle.definition.proofs.Said.{Good, all-good, all-both, sayable, spelt, length-map}
+use Rattle.definition.proofs.Faultless.{flat-clear}
+
+stopped≢finished : {n p : ℕ} {chain : Chain} {c : Counts} → stopped n p chain ≡ finished c → ⊥
+stopped≢finished e = subst ended? e tt
+  where
+    ended? : End → Type 0
+    ended? (stopped n p chain) = Unit {0}
+    ended? (finished c) = ⊥
+
+-- a drawing that finished has at most 1,048,576 shapes
+shapes-bound : (c : Counts) (es : List Event) (c′ : Counts) → c .shapes ≤ 1048576 → ending c es ≡ finished c′ → c .shapes + length (shapesOf es) ≤ 1048576
+unfolding ending counted goOn shapesOf
+shapes-bound c [] c′ h e = omega (arith, h)
+shapes-bound c (drew d ∷ es) c′ h e = go (ltb (c .shapes) 1048576) refl (shapes-bound (counts (c .calls) (c .shapes + 1) (c .redefinitions)) es c′) e
+  where
+    go : (b : Bool) → ltb (c .shapes) 1048576 ≡ b
+        → (c .shapes + 1 ≤ 1048576 → ending (counts (c .calls) (c .shapes + 1) (c .redefinitions)) es ≡ finished c′ → c .shapes + 1 + length (shapesOf es) ≤ 1048576)
+        → goOn (if b then finished (counts (c .calls) (c .shapes + 1) (c .redefinitions)) else stopped 17 (d .place) (d .chain)) (λ x. ending x es) ≡ finished c′
+        → c .shapes + suc (length (shapesOf es)) ≤ 1048576
+    go true t f g = omega (arith, f (omega (arith, ltb-true (c .shapes) 1048576 t)) g)
+    go false t f g = absurd (stopped≢finished g)
+shapes-bound c (called p chain d ∷ es) c′ h e = go (ltb (c .calls) 1048576) (shapes-bound (counts (c .calls + 1) (c .shapes) (c .redefinitions)) es c′ h) e
+  where
+    go : (b : Bool) → (ending (counts (c .calls + 1) (c .shapes) (c .redefinitions)) es ≡ finished c′ → c .shapes + length (shapesOf es) ≤ 1048576)
+        → goOn (if b then finished (counts (c .calls + 1) (c .shapes) (c .redefinitions)) else stopped 15 p chain) (λ x. ending x es) ≡ finished c′
+        → c .shapes + length (shapesOf es) ≤ 1048576
+    go true f g = f g
+    go false f g = absurd (stopped≢finished g)
+shapes-bound c (entered d before ∷ es) c′ h e = shapes-bound _ es c′ h e
+shapes-bound c (removed n before ∷ es) c′ h e = shapes-bound c es c′ h e
+shapes-bound c (refused n p chain ∷ es) c′ h e = absurd (stopped≢finished e)
+
+-- what it is to be accepted
+pub record Accepted (m : List Letter) (room : ℕ) (c : Counts) (es : List Event) : Type 0 where
+  pub no-fault : firstFault (commands 0 m) ≡ none
+  pub is-story : es ≡ drawingOf (commands 0 m)
+  pub ended : ending (counts 0 0 0) es ≡ finished c
+  pub fits : (leb (length (flat (shapesOf es))) room && leb (length (flat (shapesOf es))) 16777216) ≡ true
+
+Yes : Outcome → Type 0
+Yes (accepted c es) = Unit {0}
+Yes (rejected n p chain) = ⊥
+
+pub accepted-by : (m : List Letter) (room : ℕ) (c : Counts) (es : List Event) → outcomeOf m room ≡ accepted c es → Accepted m room c es
+unfolding outcomeOf
+accepted-by m room c es e = by-fault (firstFault (commands 0 m)) refl e
+  where
+    story-of : List Event
+    story-of = drawingOf (commands 0 m)
+
+    by-fit : (b : Bool) (x : Counts) → ending (counts 0 0 0) story-of ≡ finished x → (leb (length (flat (shapesOf story-of))) room && leb (length (flat (shapesOf story-of))) 16777216) ≡ b
+        → firstFault (commands 0 m) ≡ none → (if b then accepted x story-of else rejected 18 0 []) ≡ accepted c es → Accepted m room c es
+    by-fit true x q f n h =
+        let ex : x ≡ c = cc in
+        let ee : story-of ≡ es = cc in
+        subst (λ (y : List Event). Accepted m room c y) ee (record { no-fault = n; is-story = refl; ended = q ∙ ap (λ (y : Counts). finished y) ex; fits = f })
+    by-fit false x q f n h = absurd (unfold Yes in (subst Yes (sym h) tt))
+
+    by-end : (x : End) → ending (counts 0 0 0) story-of ≡ x → firstFault (commands 0 m) ≡ none → fitted x story-of room ≡ accepted c es → Accepted m room c es
+    by-end (stopped n p chain) q f h = absurd (unfold Yes fitted in (subst Yes (sym h) tt))
+    by-end (finished x) q f h = by-fit _ x q refl f (unfold fitted in h)
+
+    by-fault : (f : Option Refusal) → firstFault (commands 0 m) ≡ f → drawn f (commands 0 m) room ≡ accepted c es → Accepted m room c es
+    by-fault (some r) q h = absurd (unfold Yes drawn in (subst Yes (sym h) tt))
+    by-fault none q h = by-end (ending (counts 0 0 0) story-of) refl q (unfold drawn in h)
+
+and-second : (x y : Bool) → (x && y) ≡ true → y ≡ true
+and-second true y e = e
+and-second false y e = absurd (subst (λ (b : Bool). T b) (sym e) tt)
+
+-- demand 3, of the shapes ds that an accepted text draws
+pub record Again (ds : List Drawn) (room : ℕ) : Type 0 where
+  pub events : List Event
+  pub answers : Answers (flat ds) room (accepted (counts 0 (length ds) 0) events)
+  pub same-shapes : map plain (shapesOf events) ≡ map plain ds
+  pub same-bytes : flat (shapesOf events) ≡ flat ds
+
+pub flattened : (t : List ℕ) (m : List Letter) (room : ℕ) (c : Counts) (es : List Event) → Marked t m → outcomeOf m room ≡ accepted c es → Again (shapesOf es) room
+flattened t m room c es k e = record { events = map drew xs; answers = subst (Answers (flat (shapesOf es)) room) is-outcome (read small (flat-marked (shapesOf es) spell)); same-shapes = shapes-same; same-bytes = bytes-same }
+  where
+    a : Accepted m room c es
+    a = accepted-by m room c es e
+
+    ds : List Drawn
+    ds = shapesOf es
+
+    good : All (λ (d : Drawn). Good (d .layer-of) (d .itself)) (shapesOf es)
+    good = subst (λ (y : List Event). All (λ (d : Drawn). Good (d .layer-of) (d .itself)) (shapesOf y)) (sym (a .is-story)) (all-good m (k .rule) (a .no-fault))
+
+    say : All Sayable (shapesOf es)
+    say =
+        subst (λ (y : List Event). All Sayable (shapesOf y)) (sym (a .is-story))
+        (all-both _ _ Sayable sayable (shapesOf (drawingOf (commands 0 m))) (all-good m (k .rule) (a .no-fault)) (shapes-within [] (deeds (outside []) (commands 0 m))))
+
+    r : Redrawn (drawingOf (commands 0 (flatLetters (shapesOf es)))) (shapesOf es)
+    r = flat-redrawn (shapesOf es) say
+
+    xs : List Drawn
+    xs = r .shapes
+
+    shapes-same : map plain (shapesOf (map drew (r .shapes))) ≡ map plain (shapesOf es)
+    shapes-same = ap (λ (y : List Drawn). map plain y) (drawn-shapes (r .shapes)) ∙ r .says
+
+    bytes-same : flat (shapesOf (map drew (r .shapes))) ≡ flat (shapesOf es)
+    bytes-same = unfold flat in ap (λ (w : List ℕ). w ++ (69 ∷ 10 ∷ [])) (flat-plain [] (shapesOf (map drew (r .shapes))) (shapesOf es) shapes-same)
+
+    spell : All Spelt (shapesOf es)
+    spell = all-both (λ (d : Drawn). Good (d .layer-of) (d .itself)) (λ (d : Drawn). Good (d .layer-of) (d .itself)) Spelt (λ d g g′. spelt d g) (shapesOf es) good good
+
+    small : length (flat (shapesOf es)) ≤ 16777216
+    small = leb-true (length (flat (shapesOf es))) 16777216 (and-second (leb (length (flat (shapesOf es))) room) _ (a .fits))
+
+    as-many : length (r .shapes) ≡ length (shapesOf es)
+    as-many = sym (length-map plain (r .shapes)) ∙ ap (λ (y : List (List ℕ × Shape ℤ)). length y) (r .says) ∙ length-map plain (shapesOf es)
+
+    bound : 0 + length (r .shapes) ≤ 1048576
+    bound = omega (arith, as-many, shapes-bound (counts 0 0 0) es c (omega arith) (a .ended))
+
+    clear : firstFault (commands 0 (flatLetters (shapesOf es))) ≡ none
+    clear = unfold firstFault first in ap (λ (y : List Refusal). first y) (flat-clear (shapesOf es) say good)
+
+    fit-again : fitted (finished (counts 0 (0 + length (r .shapes)) 0)) (map drew (r .shapes)) room ≡ accepted (counts 0 (0 + length (r .shapes)) 0) (map drew (r .shapes))
+    fit-again = unfold fitted in rw (bytes-same, a .fits)
+
+    is-outcome : outcomeOf (flatLetters (shapesOf es)) room ≡ accepted (counts 0 (length (shapesOf es)) 0) (map drew (r .shapes))
+    is-outcome =
+        let cs = commands 0 (flatLetters (shapesOf es)) in
+        let start : outcomeOf (flatLetters (shapesOf es)) room ≡ drawn none cs room = unfold outcomeOf in ap (λ (f : Option Refusal). drawn f cs room) clear in
+        let drew-it : drawn none cs room ≡ fitted (ending (counts 0 0 0) (map drew (r .shapes))) (map drew (r .shapes)) room =
+        unfold drawn in ap (λ (y : List Event). fitted (ending (counts 0 0 0) y) y room) (r .only) in
+        start ∙ drew-it
+        ∙ ap (λ (x : End). fitted x (map drew (r .shapes)) room) (drawn-ending 0 (r .shapes) bound)
+        ∙ fit-again
+        ∙ ap (λ (n : ℕ). accepted (counts 0 n 0) (map drew (r .shapes))) (omega (arith, as-many))

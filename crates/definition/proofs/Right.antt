@@ -1,0 +1,64 @@
+-- What the function `answerOf` computes is what is promised; and only one outcome is.
+-- Assumes nothing.
+use mathlib.Core.Path.{_≡_, refl, sym, ap, _∙_, subst}
+use mathlib.Core.Bool.{Bool, true, false, not}
+use mathlib.Core.List.{List, [], _∷_}
+use Prim.Native.Nat.{ℕ, zero, suc, _≤_, _<_}
+use native.Mathlib.Omega.{arith}
+use lib.Dec.{T, ltb, ltb→lt, nltb→le}
+use lib.ListN.{length, getD}
+use Rattle.grammar.specs.Notation.{Letter}
+use Rattle.grammar.specs.Viable.{bytes, Marked}
+use Rattle.grammar.specs.Steps.{marked, verdictOf}
+use Rattle.grammar.specs.Viable
+use Rattle.grammar.specs.Viable.{Grammatical, LongestViable}
+use Rattle.grammar.specs.declared.Verdict.{Verdict}
+use Rattle.grammar.specs.declared.Verdict.the-variants.{InGrammar, StuckAt}
+use Rattle.grammar.proofs.Markings.{marking-is}
+use Rattle.grammar.proofs.Verdicts.{Bytes, judged}
+use Rattle.grammar.proofs.Unique
+use borrow.Author.Tests.{lt-ltb, le-ltb}
+use Rattle.definition.specs.Words.{if_then_else_}
+use Rattle.definition.specs.declared.Answer.{Answer}
+use Rattle.definition.specs.Answer.{Outcome, rejected, given-back, roomAfter, outcomeOf, Answers, too-long, not-cif, read, Promised}
+use Rattle.definition.specs.Computed.{verdict, answerOf}
+
+by-verdict : (t : List ℕ) (room : ℕ) → Bytes t → length t ≤ 16777216 → (v : Verdict) → Viable.Judged t v → Answers t room (verdict v t room)
+unfolding verdict
+by-verdict t room b h InGrammar g =
+    subst (λ (m : List Letter). Answers t room (outcomeOf m room)) (marking-is (g .1)) (read h (g .1))
+by-verdict t room b h (StuckAt n) g = not-cif h (g .0) (g .1)
+
+by-length : (t : List ℕ) (room : ℕ) → Bytes t → (c : Bool) → ltb 16777216 (length t) ≡ c
+    → Answers t room (if c then rejected 1 0 [] else verdict (verdictOf 0 0 0 t) t room)
+by-length t room b true e = too-long (ltb→lt 16777216 (length t) (subst T (sym e) tt))
+by-length t room b false e =
+    by-verdict t room b (nltb→le 16777216 (length t) (subst (λ (c : Bool). T (not c)) (sym e) tt)) (verdictOf 0 0 0 t) (judged t b)
+
+pub right : (t : List ℕ) (room : ℕ) → Bytes t → Answers t room (answerOf t room)
+unfolding answerOf
+right t room b = by-length t room b (ltb 16777216 (length t)) refl
+
+-- whatever is promised is what the function computes
+to-verdict : (t : List ℕ) (room : ℕ) (v : Verdict) → length t ≤ 16777216 → verdictOf 0 0 0 t ≡ v → answerOf t room ≡ verdict v t room
+unfolding answerOf
+to-verdict t room v h e = rw (le-ltb 16777216 (length t) h) (ap (λ (x : Verdict). verdict x t room) e)
+
+pub settled : (t : List ℕ) (room : ℕ) → Bytes t → {o : Outcome} → Answers t room o → o ≡ answerOf t room
+unfolding answerOf verdict
+settled t room b (too-long h) = rw (lt-ltb 16777216 (length t) h)
+settled t room b (not-cif {n} h g l) =
+    sym (to-verdict t room (StuckAt n) h (Unique.one-verdict t (verdictOf 0 0 0 t) (StuckAt n) (judged t b) (g, l)))
+settled t room b (read {m} h k) =
+    ap (λ (x : List Letter). outcomeOf x room) (marking-is k)
+    ∙ sym (to-verdict t room InGrammar h (Unique.one-verdict t (verdictOf 0 0 0 t) InGrammar (judged t b) (m, k)))
+
+-- two outcomes that are promised are one
+pub unique : (t : List ℕ) (room : ℕ) → Bytes t → {o p : Outcome} → Answers t room o → Answers t room p → o ≡ p
+unique t room b x y = settled t room b x ∙ sym (settled t room b y)
+
+-- so the contract settles the answer and the room
+pub one-answer : (t room : List ℕ) → Bytes t → {r r′ : Answer} {left left′ : List ℕ} → Promised t room r left → Promised t room r′ left′ → (r ≡ r′) × (left ≡ left′)
+one-answer t room b p q =
+    let e : p .outcome ≡ q .outcome = unique t (length room) b (p .answers) (q .answers) in
+    (p .given ∙ ap (λ (o : Outcome). given-back o) e ∙ sym (q .given), p .kept ∙ ap (λ (o : Outcome). roomAfter o room) e ∙ sym (q .kept))

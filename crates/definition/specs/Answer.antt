@@ -1,0 +1,72 @@
+-- What the reader answers of a text and a room.
+-- Assumes nothing.
+use mathlib.Core.Path.{_≡_}
+use mathlib.Core.Bool.{Bool, true, false, _&&_}
+use mathlib.Core.List.{List, [], _∷_, _++_}
+use mathlib.Core.Option.{Option, none, some}
+use Prim.Native.Nat.{ℕ, _≤_, _<_}
+use lib.Dec.{leb}
+use lib.ListN.{length, drop}
+use Rattle.grammar.specs.Notation.{Letter}
+use Rattle.grammar.specs.Viable.{Marked}
+use Rattle.grammar.specs.Viable.{Grammatical, LongestViable}
+use Rattle.definition.specs.declared.Answer.{Answer}
+use Rattle.definition.specs.Words.{if_then_else_, Placed}
+use Rattle.definition.specs.Commands.{Command, commands}
+use Rattle.definition.specs.Standing.{outside}
+use Rattle.definition.specs.Faults.{Refusal, firstFault}
+use Rattle.definition.specs.Drawing.{Chain, Event, deeds, story}
+use Rattle.definition.specs.Counts.{Counts, counts, End, finished, stopped, ending, shapesOf}
+use Rattle.definition.specs.Flat.{flat}
+
+-- how a reading comes out: drawn, with the counts and all that happened; or refused, with the calls open there
+pub data Outcome : Type 0 where
+  accepted : Counts → List Event → Outcome
+  rejected : (number place : ℕ) → Chain → Outcome
+
+-- 01, "What the reader takes and gives": on success the number and place are 0; on refusal the length and all counts are 0
+unfoldable pub flatFile : Outcome → List ℕ
+flatFile (accepted c es) = flat (shapesOf es)
+flatFile (rejected n p chain) = []
+
+abbrev pub answer : (number place length : ℕ) → Counts → Answer
+answer n p l c = record { number = n; place = p; length = l; shapes = c .shapes; calls = c .calls; redefinitions = c .redefinitions }
+
+unfoldable pub given-back : Outcome → Answer
+given-back (accepted c es) = answer 0 0 (length (flat (shapesOf es))) c
+given-back (rejected n p chain) = answer n p 0 (counts 0 0 0)
+
+-- the first bytes of the room hold the flat file, and the rest of the room is unchanged
+abbrev pub roomAfter : Outcome → List ℕ → List ℕ
+roomAfter o room = flatFile o ++ drop (length (flatFile o)) room
+
+-- the drawing of commands
+abbrev pub drawingOf : List (Placed Command) → List Event
+drawingOf cs = story [] (deeds (outside []) cs)
+
+-- 01, refusal 18: flat file longer than the room or than 16,777,216
+unfoldable pub fitted : End → List Event → ℕ → Outcome
+fitted (stopped n p chain) es room = rejected n p chain
+fitted (finished c) es room =
+    if leb (length (flat (shapesOf es))) room && leb (length (flat (shapesOf es))) 16777216 then accepted c es else rejected 18 0 []
+
+-- 01, order: 3 to 9 for all commands, then 10 to 17 in the order of drawing, then 18
+unfoldable pub drawn : Option Refusal → List (Placed Command) → ℕ → Outcome
+drawn (some r) cs room = rejected (r .what) (r .place) []
+drawn none cs room = fitted (ending (counts 0 0 0) (drawingOf cs)) (drawingOf cs) room
+
+unfoldable pub outcomeOf : List Letter → ℕ → Outcome
+outcomeOf m room = drawn (firstFault (commands 0 m)) (commands 0 m) room
+
+-- what may come of a text t and a room of the length said: 1; then 2, which knows grammar only; then what the text's commands say
+pub data Answers (t : List ℕ) (room : ℕ) : Outcome → Type 0 where
+  too-long : 16777216 < length t → Answers t room (rejected 1 0 [])
+  not-cif : {n : ℕ} → length t ≤ 16777216 → (Grammatical t → ⊥) → LongestViable t n → Answers t room (rejected 2 n [])
+  read : {m : List Letter} → length t ≤ 16777216 → Marked t m → Answers t room (outcomeOf m room)
+
+-- the contract of a reader that gives back r of the text t, and leaves the room so
+pub record Promised (t room : List ℕ) (r : Answer) (left : List ℕ) : Type 0 where
+  pub outcome : Outcome
+  pub answers : Answers t (length room) outcome
+  pub given : r ≡ given-back outcome
+  pub kept : left ≡ roomAfter outcome room

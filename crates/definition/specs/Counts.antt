@@ -1,0 +1,52 @@
+-- The counts of a drawing and how it ends: the story's events counted along, up to the first refusal.
+-- Assumes nothing.
+use mathlib.Core.Bool.{Bool, true, false}
+use mathlib.Core.List.{List, [], _∷_}
+use Prim.Native.Nat.{ℕ, _+_}
+use lib.Dec.{ltb}
+use Rattle.definition.specs.Words.{if_then_else_, none?}
+use Rattle.definition.specs.Table.{find}
+use Rattle.definition.specs.Drawing.{Chain, Drawn, Event, called, drew, entered, removed, refused}
+
+-- 01: the running counts of calls, shapes and redefinitions are one record, carried along through the drawing
+pub record Counts : Type 0 where
+  pub calls : ℕ
+  pub shapes : ℕ
+  pub redefinitions : ℕ
+
+abbrev pub counts : ℕ → ℕ → ℕ → Counts
+counts c s r = record { calls = c; shapes = s; redefinitions = r }
+
+-- how it ends: with counts, or by a refusal and the calls open there
+pub data End : Type 0 where
+  finished : Counts → End
+  stopped : (number place : ℕ) → Chain → End
+
+-- one event counted. 01, refusals 15 and 17: call 1,048,577 and shape 1,048,577
+unfoldable pub counted : Counts → Event → End
+counted c (called p chain d) =
+    if ltb (c .calls) 1048576 then finished (counts (c .calls + 1) (c .shapes) (c .redefinitions)) else stopped 15 p chain
+counted c (drew d) =
+    if ltb (c .shapes) 1048576 then finished (counts (c .calls) (c .shapes + 1) (c .redefinitions)) else stopped 17 (d .place) (d .chain)
+counted c (entered d before) =
+    finished (counts (c .calls) (c .shapes) (if none? (find (d .symbol) before) then c .redefinitions else c .redefinitions + 1))
+counted c (removed n before) = finished c
+counted c (refused n p chain) = stopped n p chain
+
+unfoldable pub goOn : End → (Counts → End) → End
+goOn (finished c) f = f c
+goOn (stopped n p chain) f = stopped n p chain
+
+-- the first refusal ends it
+unfoldable pub ending : Counts → List Event → End
+ending c [] = finished c
+ending c (e ∷ es) = goOn (counted c e) (λ c′. ending c′ es)
+
+-- the shapes of a story
+unfoldable pub shapesOf : List Event → List Drawn
+shapesOf [] = []
+shapesOf (drew d ∷ es) = d ∷ shapesOf es
+shapesOf (called p chain d ∷ es) = shapesOf es
+shapesOf (entered d before ∷ es) = shapesOf es
+shapesOf (removed n before ∷ es) = shapesOf es
+shapesOf (refused n p chain ∷ es) = shapesOf es

@@ -1,0 +1,126 @@
+-- The drawing of 7.1.2.4: all that happens, in order, and how it ends.
+-- Assumes nothing.
+use mathlib.Core.Bool.{Bool, true, false}
+use mathlib.Core.List.{List, [], _∷_, _++_, map}
+use mathlib.Core.Option.{Option, none, some}
+use Prim.Native.Nat.{ℕ, zero, suc, _+_}
+use lib.Dec.{ltb, eqb}
+use lib.IntN.{ℤ, natAbs}
+use lib.ListN.{length}
+use Rattle.definition.specs.Words.{if_then_else_, Placed, at, any, none?}
+use Rattle.definition.specs.Commands.{Shape, Turn, Command, draw, layer, call, start, finish, delete, nothing}
+use Rattle.definition.specs.Standing.{Standing, after, scaledShape, scaledTurn}
+use Rattle.definition.specs.Faults.{beyond, both}
+use Rattle.definition.specs.Turns.{moved, offAxes}
+use Rattle.definition.specs.Table.{Step, shape, instance, Definition, Table, find, enter, forget}
+
+-- what a command does when it is drawn: its distances are scaled as the text is read, and its layer is the one that stands
+unfoldable pub stepOf : Standing → Command → List Step
+stepOf s (draw k) = shape (s .layer-set) (scaledShape s k) ∷ []
+stepOf s (call n ts) = instance (natAbs (n .what)) (map (scaledTurn s) ts) ∷ []
+stepOf s (layer l) = []
+stepOf s (start n a b) = []
+stepOf s finish = []
+stepOf s (delete n) = []
+stepOf s nothing = []
+
+-- 7.1.2.4: the commands within a definition are retained, in the same order, up to its DF
+unfoldable pub retained : Standing → List (Placed Command) → List (Placed Step)
+retained s [] = []
+retained s (c ∷ cs) =
+    let rest = retained (after (c .what) s) cs in
+    if s .inside then map (at (c .place)) (stepOf s (c .what)) ++ rest else []
+
+-- 7.1.2.4: an executable command stands in no definition and is output directly; a definition is entered in the table; DD removes
+pub data Deed : Type 0 where
+  output : Placed Step → Deed
+  define : Definition → Deed
+  remove : (symbol : Placed ℕ) → Deed
+
+-- a command and those after it
+unfoldable pub deedOf : Standing → ℕ → Command → List (Placed Command) → List Deed
+deedOf s p (draw k) cs = if s .inside then [] else map (λ x. output (at p x)) (stepOf s (draw k))
+deedOf s p (call n ts) cs = if s .inside then [] else map (λ x. output (at p x)) (stepOf s (call n ts))
+deedOf s p (start n a b) cs = define (record { symbol = natAbs (n .what); place = p; body = retained (after (start n a b) s) cs }) ∷ []
+deedOf s p (delete n) cs = remove (at p (natAbs (n .what))) ∷ []
+deedOf s p (layer l) cs = []
+deedOf s p finish cs = []
+deedOf s p nothing cs = []
+
+unfoldable pub deeds : Standing → List (Placed Command) → List Deed
+deeds s [] = []
+deeds s (c ∷ cs) = deedOf s (c .place) (c .what) cs ++ deeds (after (c .what) s) cs
+
+-- the calls that are open, the outermost first: the place of each, and its symbol
+abbrev pub Chain : Type 0
+Chain = List (Placed ℕ)
+
+-- a shape as it is drawn: its command's place, the open calls, their transformations in one list, its layer, and itself in its final place
+pub record Drawn : Type 0 where
+  pub place : ℕ
+  pub chain : Chain
+  pub net : List (Turn ℤ)
+  pub layer-of : List ℕ
+  pub itself : Shape ℤ
+
+-- what can happen: a call finds a definition; a shape is drawn; a definition is entered in the table, and entries are removed from it; a refusal
+pub data Event : Type 0 where
+  called : (place : ℕ) → Chain → (found : Definition) → Event
+  drew : Drawn → Event
+  entered : Definition → (before : Table) → Event
+  removed : (symbol : Placed ℕ) → (before : Table) → Event
+  refused : (number place : ℕ) → Chain → Event
+
+-- 01, refusal 16: a final point beyond 16,777,215
+unfoldable pub drawShape : Chain → List (Turn ℤ) → ℕ → List ℕ → Shape ℤ → Event
+drawShape chain net p l k =
+    let m = moved net k in
+    if any beyond (both (m .points)) then refused 16 p chain
+    else drew (record { place = p; chain = chain; net = net; layer-of = l; itself = m })
+
+-- 01: a body draws its calls, by the function given, and its shapes, in written order
+unfoldable pub drawStep : (ℕ → ℕ → List (Turn ℤ) → List Event) → Chain → List (Turn ℤ) → ℕ → Step → List Event
+drawStep drawCall chain net p (shape l k) = drawShape chain net p l k ∷ []
+drawStep drawCall chain net p (instance n ts) = drawCall p n ts
+
+unfoldable pub drawBody : (ℕ → ℕ → List (Turn ℤ) → List Event) → Chain → List (Turn ℤ) → List (Placed Step) → List Event
+drawBody drawCall chain net [] = []
+drawBody drawCall chain net (s ∷ ss) = drawStep drawCall chain net (s .place) (s .what) ++ drawBody drawCall chain net ss
+
+-- 01, refusals 11 to 14: an R off the axes; an undefined symbol; a symbol already being drawn; depth 33, where no level is left
+unfoldable pub callFault : (left : ℕ) → Option Definition → Chain → (symbol : ℕ) → List (Turn ℤ) → Option ℕ
+callFault left found chain n ts =
+    if offAxes ts then some 11
+    else if none? found then some 12
+    else if any (λ c. eqb (c .what) n) chain then some 13
+    else if eqb left 0 then some 14 else none
+
+-- the refusal, if there is one, or else what the definition leads to
+unfoldable pub unless : Option ℕ → ℕ → Chain → Option Definition → (Definition → List Event) → List Event
+unless (some number) p chain found go = refused number p chain ∷ []
+unless none p chain none go = []
+unless none p chain (some d) go = called p chain d ∷ go d
+
+-- 01: and a call draws its body. An executable call has depth 1 and 32 levels left; the inner call's list acts before the outer's
+unfoldable pub drawCall : (left : ℕ) → Table → Chain → List (Turn ℤ) → ℕ → ℕ → List (Turn ℤ) → List Event
+drawCall zero t chain net p n ts = unless (callFault 0 (find n t) chain n ts) p chain (find n t) (λ d. [])
+drawCall (suc left) t chain net p n ts =
+    let deeper : Chain = chain ++ (at p n ∷ []) in
+    unless (callFault (suc left) (find n t) chain n ts) p chain (find n t)
+    (λ d. drawBody (drawCall left t deeper (ts ++ net)) deeper (ts ++ net) (d .body))
+
+-- 7.1.2.4: what happens at a deed. 01, refusal 10: 513 live definitions
+unfoldable pub happens : Table → Deed → List Event
+happens t (output s) = drawStep (drawCall 32 t [] []) [] [] (s .place) (s .what)
+happens t (define d) = (if ltb 512 (length (enter d t)) then refused 10 (d .place) [] else entered d t) ∷ []
+happens t (remove n) = removed n t ∷ []
+
+unfoldable pub tableAfter : Table → Deed → Table
+tableAfter t (output s) = t
+tableAfter t (define d) = enter d t
+tableAfter t (remove n) = forget (n .what) t
+
+-- all that happens, in order
+unfoldable pub story : Table → List Deed → List Event
+story t [] = []
+story t (d ∷ ds) = happens t d ++ story (tableAfter t d) ds

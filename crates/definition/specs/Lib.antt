@@ -1,0 +1,12 @@
+pub mod Words
+pub mod Commands
+pub mod Standing
+pub mod Faults
+pub mod Turns
+pub mod Table
+pub mod Drawing
+pub mod Counts
+pub mod Flat
+pub mod Answer
+pub mod Listing
+pub mod Computed

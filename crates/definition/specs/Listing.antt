@@ -1,0 +1,51 @@
+-- The lines of the list program (01, "The list program").
+-- Assumes nothing.
+use mathlib.Core.Bool.{Bool, true, false}
+use mathlib.Core.List.{List, [], _∷_, _++_, map, flatMap}
+use Prim.Native.Nat.{ℕ, _+_, _<_, _≤_}
+use lib.IntN.{ℤ, pos}
+use lib.ListN.{length}
+use lib.Signed.{leZ}
+use Rattle.definition.specs.Words.{if_then_else_, Point, bytesOf}
+use Rattle.definition.specs.Drawing.{Drawn}
+use Rattle.definition.specs.Counts.{shapesOf}
+use Rattle.definition.specs.Flat.{decimal, spaced, letterOf, numbersOfShape}
+use Rattle.definition.specs.Answer.{Outcome, accepted, rejected, Answers}
+
+-- fields behind a word, each after a tab
+unfoldable pub fields : List (List ℕ) → List ℕ
+fields [] = bytesOf "\n"
+fields (f ∷ fs) = bytesOf "\t" ++ (f ++ fields fs)
+
+-- `shape`, its count, layer, kind letter, its numbers parted by spaces
+unfoldable pub shapeLines : ℕ → List Drawn → List ℕ
+shapeLines n [] = []
+shapeLines n (d ∷ ds) =
+    bytesOf "shape" ++ (fields (decimal (pos n) ∷ d .layer-of ∷ (letterOf (d .itself .kind) ∷ []) ∷ spaced (numbersOfShape (d .itself)) ∷ [])
+    ++ shapeLines (n + 1) ds)
+
+-- the lowest, or the highest, of numbers: the one before which the test puts it
+unfoldable pub extreme : (ℤ → ℤ → Bool) → ℤ → List ℤ → ℤ
+extreme before z [] = z
+extreme before z (y ∷ ys) = extreme before (if before z y then z else y) ys
+
+unfoldable pub windowLine : List (Point ℤ) → List ℕ
+windowLine [] = bytesOf "window" ++ fields (bytesOf "none" ∷ [])
+windowLine (p ∷ ps) =
+    let lowest : ℤ → List ℤ → ℤ = extreme leZ in
+    let highest : ℤ → List ℤ → ℤ = extreme (λ a b. leZ b a) in
+    let xs = map (λ (q : Point ℤ). q .x) ps in
+    let ys = map (λ (q : Point ℤ). q .y) ps in
+    bytesOf "window" ++ fields (decimal (lowest (p .x) xs) ∷ decimal (lowest (p .y) ys) ∷ decimal (highest (p .x) xs) ∷ decimal (highest (p .y) ys) ∷ [])
+
+unfoldable pub listing : Outcome → List ℕ
+listing (accepted c es) =
+    shapeLines 1 (shapesOf es)
+    ++ (bytesOf "total" ++ (fields (decimal (pos (c .shapes)) ∷ decimal (pos (c .calls)) ∷ decimal (pos (c .redefinitions)) ∷ [])
+    ++ windowLine (flatMap (λ d. d .itself .points) (shapesOf es))))
+listing (rejected n p chain) = bytesOf "refused" ++ fields (decimal (pos n) ∷ decimal (pos p) ∷ [])
+
+-- it takes at most 32,768 bytes, a longer text is refusal 1, and its room is 32,768 bytes
+pub data Lists (t : List ℕ) : List ℕ → Type 0 where
+  over : 32768 < length t → Lists t (listing (rejected 1 0 []))
+  within : {o : Outcome} → length t ≤ 32768 → Answers t 32768 o → Lists t (listing o)
