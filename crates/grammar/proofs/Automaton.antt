@@ -1,27 +1,28 @@
--- The reader's steps are those of the grammar: sound, complete, and each state has a completion.
+-- The recogniser goes as the grammar does: each step is sound and complete, and every live state has a completion. All that is said above a
+-- state, a depth and a byte rests on this file.
 -- Assumes nothing.
 use mathlib.Core.Path.{_≡_, refl, sym, ap, _∙_, subst}
 use mathlib.Core.Bool.{Bool, true, false, not, _&&_, _||_}
-use mathlib.Core.List.{List, [], _∷_, _++_, append-assoc, append-nil}
+use mathlib.Core.List.{List, [], _∷_, append-nil}
 use mathlib.Core.Logic.{_⊎_, inl, inr}
 use Prim.Native.Nat.{ℕ, zero, suc, _+_, _-_, _*_, _/_, _%_, _≤_, _<_}
-use native.Mathlib.Nat.{not-suc-le-zero, eq-or-lt-of-le, le-of-suc-le-suc}
+use native.Mathlib.Nat.{not-suc-le-zero, le-of-suc-le-suc}
 use native.Mathlib.Numerals.{add-one}
 use native.Mathlib.Omega.{arith}
-use borrow.Author.Tests.{ltb-true, ltb-false, eqb-true, eqb-false, eq-eqb, ne-eqb, lt-ltb, le-ltb}
+use borrow.Author.Tests.{ltb-true, ltb-false, eqb-false}
 use lib.Dec.{T, ltb, leb, eqb, ltb→lt, leb→le, eqb→eq, eqb·suc-zero}
 use lib.ListN.{length, getD}
-use Rattle.grammar.specs.Notation.{Class, Role, Letter, Expression, Match, has, is, dec, Role-discrete, one, skip, head, second, turn, axis, sign, lead, later, name, stop, commentText, Digit, Upper, Blank, User, Comment, lpar, rpar, semicolon, char}
+use Rattle.grammar.specs.Notation.{Class, Role, Letter, Expression, Match, has, is, dec, one, skip, head, second, turn, axis, sign, lead, later, name, stop, Digit, Upper, Blank, User, Comment, lpar, rpar, semicolon}
 use Rattle.grammar.specs.Notation.{'-', 'B', 'C', 'D', 'E', 'F', 'L', 'M', 'P', 'R', 'S', 'T', 'W', 'X', 'Y'}
 use Rattle.grammar.specs.Productions.{cifFile}
 use Rattle.grammar.specs.Tables.{kinds, samples, table, roles, ends, letter, kindCount, entryCount, roleCount, stateCount, lparKind, stuck, rparKind, deep, roleUnit, foreignKind, accepting}
-use Rattle.grammar.specs.Steps.{choose, kindOf, nextOf, entryOf, modeAfter, entered, within, mode, markOf, roleOf, marked, number}
+use Rattle.grammar.specs.Steps.{choose, kindOf, nextOf, entryOf, modeAfter, entered, within, mode, markOf, roleOf, number}
 use Rattle.grammar.specs.declared.Mode.{Mode}
-use Rattle.grammar.proofs.Derivatives.{Sequence, Choice, Item, end, next, Items, here, there, push, push-in, push-out, derive, nullable}
-use Rattle.grammar.proofs.Items.{no-items, dec-sound, deriveItems, deriveItem, complete, sound, final, final-sound, final-complete, part, part-sound}
+use Rattle.grammar.proofs.Derivatives.{Choice, Item, end, next, Items, here, there, push, push-in, push-out, derive}
+use Rattle.grammar.proofs.Items.{no-items, deriveItems, deriveItem, complete, sound, final, final-sound, part, part-sound}
 use Rattle.grammar.proofs.Roles.{sole, soleSeq, soleItems, soleItems-role}
-use Rattle.grammar.proofs.Tests.{and-left, and-right, and-both, or-right, or-cases, bit-eq, sameBit, every, every-at, upto, upto-at}
-use Rattle.grammar.proofs.Fitting.{under, deepen, labels, entry, ranged, fits, table-fits, classes, alike, kindFits, kinds-fit, sampleFits, samples-fit, reach, lastFits, last-fits, labels-first, roleFits, roles-fit}
+use Rattle.grammar.proofs.Tests.{and-left, and-right, and-both, or-right, or-cases, bit-eq, sameBit, every-at, upto-at}
+use Rattle.grammar.proofs.Fitting.{deepen, labels, entry, ranged, fits, table-fits, classes, alike, kindFits, kinds-fit, sampleFits, samples-fit, reach, lastFits, last-fits, labels-first, roleFits, roles-fit}
 
 -- tests, turned into facts
 alike-at : (cs : List Class) (a b : ℕ) → T (alike cs a b) → (n : ℕ) (d : Class) → n < length cs → has (getD cs n d) a ≡ has (getD cs n d) b
@@ -399,14 +400,6 @@ whole-back (there m) = absurd (no-items m refl)
 
 pub start-back : {w : List Letter} → Lang 0 0 w → Match cifFile w
 start-back {w} m = whole-back (subst (λ (is : Choice). Items (deepen 0 is) w) label-first m)
-
-pub next-below : (q k : ℕ) → q < stateCount → k < kindCount → nextOf q k < 256
-next-below q k hq hk = go (ranges (nextOf q k) (row q k hq hk .range))
-  where
-    go : (nextOf q k < stateCount) ⊎ ((nextOf q k ≡ stuck) ⊎ ((deep ≤ nextOf q k) × (nextOf q k < deep + stateCount))) → nextOf q k < 256
-    go (inl h) = omega arith
-    go (inr (inl h)) = omega arith
-    go (inr (inr h)) = omega arith
 
 -- the roles and their numbers
 pub mark-number : (m : ℕ) → m < roleCount → number (getD roles m skip) ≡ m

@@ -7,11 +7,11 @@ use mathlib.Core.List.{List, [], _∷_, _++_}
 use mathlib.Core.Logic.{_⊎_, inl, inr}
 use Prim.Native.Nat.{ℕ, zero, suc, _+_, _-_, _*_, _/_, _%_, _<_}
 use native.Mathlib.Omega.{arith}
-use borrow.Author.Tests.{eq-eqb, ne-eqb}
+use borrow.Author.Tests.{eq-eqb}
 use lib.Dec.{T, ltb, eqb, eqb→eq, eqb·suc-zero}
-use lib.ListN.{length, getD}
-use Rattle.grammar.specs.Notation.{Role, Letter, has, 'S', 'F', second, skip, stop}
-use Rattle.grammar.specs.Tables.{stateCount, kindCount, entryCount, roleUnit, roleCount, stuck, deep, lparKind, rparKind, foreignKind, startKind, finishKind, kinds, table, roles, letter, insides}
+use lib.ListN.{getD}
+use Rattle.grammar.specs.Notation.{Role, Letter, has, 'S', 'F', second, stop}
+use Rattle.grammar.specs.Tables.{stateCount, kindCount, entryCount, roleUnit, stuck, deep, lparKind, rparKind, foreignKind, startKind, finishKind, kinds, table, letter, insides}
 use Rattle.grammar.specs.Steps.{choose, kindOf, entryOf, nextOf, modeAfter, entered, within, mode, markOf, roleOf, number, inside, marked}
 use Rattle.grammar.specs.Viable.{bytes, Marked}
 use Rattle.grammar.specs.declared.Mode.{Mode}

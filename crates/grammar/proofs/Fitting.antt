@@ -1,19 +1,19 @@
 -- What each state of the recogniser stands for, and the tests of the tables against the grammar: antt computes each over every entry, so that the
 -- tables need not be believed.
 -- Assumes nothing.
-use mathlib.Core.Path.{_≡_, refl, sym, ap, _∙_, subst}
+use mathlib.Core.Path.{_≡_, refl}
 use mathlib.Core.Bool.{Bool, true, false, not, _&&_, _||_}
 use mathlib.Core.List.{List, [], _∷_, _++_}
 use Prim.Native.Nat.{ℕ, zero, suc, _+_, _-_, _/_, _%_}
 use lib.Dec.{T, ltb, leb, eqb}
-use lib.ListN.{length, getD}
+use lib.ListN.{getD}
 use Rattle.grammar.specs.Steps.{choose, number, inside}
-use Rattle.grammar.specs.Notation.{Class, Role, Letter, Expression, has, is, dec, Role-discrete, one, skip, sign, lead, later, commentText, Digit, Upper, Blank, User, Comment, lpar, rpar, semicolon, stop, second}
+use Rattle.grammar.specs.Notation.{Class, Letter, has, is, one, skip, commentText, Digit, Upper, Blank, User, Comment, lpar, rpar, semicolon, stop, second}
 use Rattle.grammar.specs.Notation.{'-', 'B', 'C', 'D', 'E', 'F', 'L', 'M', 'P', 'R', 'S', 'T', 'W', 'X', 'Y'}
 use Rattle.grammar.specs.Productions.{cifFile}
 use Rattle.grammar.specs.Tables.{kinds, samples, tree, table, roles, ends, letter, stateCount, roleUnit, lparKind, accepting, kindCount, deep, rparKind, stuck, foreignKind, roleCount, insideState, insides, startKind, outsideState, finishKind}
-use Rattle.grammar.proofs.Derivatives.{Sequence, Choice, push, derive, nullable}
-use Rattle.grammar.proofs.Items.{deriveItems, deriveItem, final, part, member, same}
+use Rattle.grammar.proofs.Derivatives.{Sequence, Choice, push, derive}
+use Rattle.grammar.proofs.Items.{deriveItems, final, part, same}
 use Rattle.grammar.proofs.Roles.{soleItems}
 use Rattle.grammar.proofs.Tests.{sameBit, every, upto}
 

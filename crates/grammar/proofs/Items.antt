@@ -3,12 +3,12 @@
 -- Assumes nothing.
 use mathlib.Core.Path.{_≡_, refl, sym, ap, ap₂, _∙_, subst}
 use mathlib.Core.Bool.{Bool, true, false, _&&_, _||_}
-use mathlib.Core.List.{List, [], _∷_, _++_}
+use mathlib.Core.List.{List, [], _∷_}
 use mathlib.Core.Logic.{_⊎_, inl, inr}
 use Prim.Native.Nat.{ℕ}
 use native.Mathlib.Omega.{arith}
 use lib.Dec.{T}
-use Rattle.grammar.specs.Notation.{Class, Role, Letter, Expression, Match, is, dec, Class-discrete, Role-discrete, Expression-discrete}
+use Rattle.grammar.specs.Notation.{Class, Role, Letter, Expression, is, dec, Class-discrete, Role-discrete, Expression-discrete}
 use Rattle.grammar.specs.Steps.{choose}
 use Rattle.grammar.proofs.Tests.{and-left, and-right, and-both, or-left, or-right, or-cases}
 use Rattle.grammar.proofs.Derivatives.{nil≢cons, head-eq, tail-eq, nil-left, nil-right, Sequence, Choice}

@@ -13,10 +13,10 @@ use Rattle.grammar.specs.Notation.{Digit, Upper, Blank, User, Comment, '
 use Rattle.grammar.specs.Notation.{'B', 'C', 'D', 'E', 'F', 'L', 'M', 'P', 'R', 'S', 'T', 'W', 'X', 'Y'}
 use Rattle.grammar.specs.Notation.{char, both, left, right, none, more, absent, present, text}
 use Rattle.grammar.specs.Tables.{stateCount, stuck, letter}
-use Rattle.grammar.specs.Steps.{modeAfter, roleOf, marked}
+use Rattle.grammar.specs.Steps.{modeAfter, marked}
 use Rattle.grammar.specs.Viable.{bytes, Marked}
 use Rattle.grammar.proofs.Tests.{and-left, and-right}
-use Rattle.grammar.proofs.Automaton.{Lang, Alive, step-role, step-to, start-to}
+use Rattle.grammar.proofs.Automaton.{Lang, step-role, step-to, start-to}
 
 -- every byte of a class is ASCII
 below : (a n : ℕ) → T (leb a n) → n ≤ 127 → a < 128

@@ -1,15 +1,15 @@
--- The role of a text's first letter, where the expression leaves no choice.
+-- The role of a first letter where the expression leaves no choice: why a text has one marking although the print is ambiguous.
 -- Assumes nothing.
 use mathlib.Core.Path.{_≡_, refl, sym, ap, _∙_, subst}
 use mathlib.Core.Bool.{Bool, true, false, not, _&&_, _||_}
-use mathlib.Core.List.{List, [], _∷_, _++_}
+use mathlib.Core.List.{List, [], _∷_}
 use mathlib.Core.Logic.{_⊎_, inl, inr}
 use Prim.Native.Nat.{ℕ}
-use lib.Dec.{T, T-not}
+use lib.Dec.{T}
 use Rattle.grammar.specs.Notation.{Class, Role, Letter, Expression, Match, has, is, dec, Role-discrete, one, _▹_, _∣_, many, option, commentText, skip, Comment, lpar}
 use Rattle.grammar.specs.Notation.{char, both, left, right, none, more, absent, present, text}
 use Rattle.grammar.proofs.Tests.{and-left, and-right, follows}
-use Rattle.grammar.proofs.Derivatives.{nil≢cons, head-eq, tail-eq, Sequence, Choice, nullable, nullable-complete, Item, end, next, Items, here, there, First, plain, nest, first}
+use Rattle.grammar.proofs.Derivatives.{nil≢cons, head-eq, Sequence, Choice, nullable, nullable-complete, Item, end, next, Items, here, there, First, plain, nest, first}
 use Rattle.grammar.proofs.Items.{dec-sound}
 
 -- a first letter of byte b has the role ρ

@@ -1,17 +1,17 @@
 -- The cases of the running account in specs/Steps.antt, as the code comes to them.
 -- Assumes nothing.
-use mathlib.Core.Path.{_≡_, refl, sym, ap, _∙_, subst}
+use mathlib.Core.Path.{_≡_, sym, ap, _∙_, subst}
 use mathlib.Core.Bool.{Bool, true, false, _&&_}
-use mathlib.Core.List.{List, [], _∷_}
-use Prim.Native.Nat.{ℕ, suc, _+_, _-_, _*_, _/_, _%_, _≤_, _<_}
+use mathlib.Core.List.{List}
+use Prim.Native.Nat.{ℕ, _+_, _-_, _/_, _%_, _≤_, _<_}
 use native.Mathlib.Omega.{arith}
 use native.Mathlib.Numerals.{add-one}
 use borrow.Author.Tests.{eq-eqb, ne-eqb}
-use lib.Dec.{T, eqb, ltb}
+use lib.Dec.{eqb, ltb}
 use lib.ListN.{length, getD, drop, drop-of-length-le}
 use lib.Seq.{drop-cons}
 use Rattle.grammar.specs.declared.Verdict.the-variants.{InGrammar, StuckAt}
-use Rattle.grammar.specs.Tables.{roleUnit, stuck, deep, accepting, lparKind, rparKind, foreignKind, stateCount}
+use Rattle.grammar.specs.Tables.{roleUnit, stuck, deep, accepting, stateCount}
 use Rattle.grammar.specs.Steps.{choose, kindOf, entryOf, nextOf, markOf, modeAfter, entered, within, mode, verdictOf}
 use Rattle.grammar.specs.declared.Mode.{Mode}
 use Rattle.grammar.proofs.Automaton.{step-range}

@@ -10,14 +10,14 @@ use borrow.Author.Tests.{eqb-true, eqb-false}
 use lib.Dec.{T, eqb, eqb·suc-zero}
 use lib.ListN.{length, getD, take, drop, take-append-drop}
 use lib.Seq.{take-take}
-use Rattle.grammar.specs.Notation.{Letter, Expression}
+use Rattle.grammar.specs.Notation.{Letter}
 use Rattle.grammar.specs.Tables.{stateCount, stuck, accepting, letter}
 use Rattle.grammar.specs.Steps.{choose, modeAfter, roleOf, verdictOf}
-use Rattle.grammar.specs.Viable.{bytes, Marked, Grammatical, Viable, LongestViable, Judged}
+use Rattle.grammar.specs.Viable.{bytes, Grammatical, Viable, Judged}
 use Rattle.grammar.specs.declared.Verdict.{Verdict}
 use Rattle.grammar.specs.declared.Verdict.the-variants.{InGrammar, StuckAt}
 use Rattle.grammar.proofs.Tests.{and-left, and-right, and-both}
-use Rattle.grammar.proofs.Derivatives.{Sequence, Choice, Items}
+use Rattle.grammar.proofs.Derivatives.{Choice, Items}
 use Rattle.grammar.proofs.Items.{final, final-sound, final-complete}
 use Rattle.grammar.proofs.Fitting.{deepen}
 use Rattle.grammar.proofs.Automaton.{label, Lang, step-to, step-back, step-range, accepts, deepen-zero, live, start-to, start-back}

@@ -77,11 +77,6 @@ marked q d (a ∷ w) =
     let p = modeAfter q d a in
     choose (eqb (p .state) stuck) [] (letter a (roleOf q d a) ∷ marked (p .state) (p .depth) w)
 
--- where a text leads, if it is not stuck on the way
-unfoldable pub modeBehind : ℕ → ℕ → List ℕ → Mode
-modeBehind q d [] = mode q d
-modeBehind q d (a ∷ w) = modeBehind (modeAfter q d a .state) (modeAfter q d a .depth) w
-
 -- the verdict on what is left of a text at place n
 unfoldable pub verdictOf : ℕ → ℕ → ℕ → List ℕ → Verdict
 verdictOf q d n [] = choose (eqb q accepting && eqb d 0) InGrammar (StuckAt n)

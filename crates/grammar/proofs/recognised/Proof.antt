@@ -1,6 +1,6 @@
 -- `recognised` meets its contract: where the loop stands, what is left of the text decides as the whole text does.
 -- Assumes nothing.
-use mathlib.Core.Path.{_≡_, sym, ap, _∙_}
+use mathlib.Core.Path.{sym, ap, _∙_}
 use Prim.Native.Nat.{_-_}
 use lib.ListN.{length}
 use Rattle.grammar.specs.Steps.{mode}

@@ -1,6 +1,6 @@
 -- `step` meets its contract: outside comments by the table, within them by the byte's kind.
 -- Assumes nothing.
-use mathlib.Core.Path.{_≡_, _∙_}
+use mathlib.Core.Path.{_∙_}
 use Rattle.grammar.proofs.Steps.{outside-is, within-is, mark-out, mark-in}
 use borrow.Author.Needs.{needs}
 use Rattle.grammar.proofs.step.Statement.{statement}
