@@ -3,10 +3,8 @@
 use mathlib.Core.Path.{_≡_, refl, sym, ap, ap₂, _∙_, subst}
 use mathlib.Core.Bool.{Bool, true, false, _||_}
 use mathlib.Core.List.{List, [], _∷_, _++_, append-assoc, map}
-use Prim.Native.Nat.{ℕ, zero, suc, _+_, _-_, _*_, _/_, _%_, _≤_, _<_}
+use Prim.Native.Nat.{ℕ, zero, suc, _+_, _-_, _*_, _<_}
 use native.Mathlib.Omega.{arith}
-use borrow.Author.Tests.{ltb-true}
-use lib.Dec.{T, ltb, leb}
 use lib.IntN.{ℤ, pos, negsuc, negℤ, natAbs}
 use lib.ListN.{length}
 use Rattle.grammar.specs.Notation.{Role, Letter, dec, Role-discrete, skip, head, second, turn, axis, sign, name, stop, lead, later}
@@ -14,7 +12,8 @@ use Rattle.grammar.specs.Viable.{bytes}
 use Rattle.grammar.specs.Tables.{letter}
 use Rattle.definition.specs.Words.{if_then_else_, Placed, at, Point}
 use Rattle.definition.specs.Commands.{Number, worth, numbers, _plays_}
-use Rattle.definition.specs.Flat.{digits, decimal, spaced}
+use Rattle.definition.specs.Flat.{shortest, decimal, spaced}
+use Rattle.definition.proofs.Decimals.{val, shortest-is}
 
 abbrev pub laters : List ℕ → List Letter
 laters [] = []
@@ -25,8 +24,8 @@ digitLetters [] = []
 digitLetters (c ∷ cs) = letter c lead ∷ laters cs
 
 unfoldable pub decimalLetters : ℤ → List Letter
-decimalLetters (pos n) = digitLetters (digits 20 n)
-decimalLetters (negsuc n) = letter 45 sign ∷ digitLetters (digits 20 (natAbs (negsuc n)))
+decimalLetters (pos n) = digitLetters (shortest n)
+decimalLetters (negsuc n) = letter 45 sign ∷ digitLetters (shortest (natAbs (negsuc n)))
 
 unfoldable pub spacedLetters : List ℤ → List Letter
 spacedLetters [] = []
@@ -50,8 +49,8 @@ digits-bytes (c ∷ cs) = ap (λ (x : List ℕ). c ∷ x) (laters-bytes cs)
 
 decimal-bytes : (z : ℤ) → bytes (decimalLetters z) ≡ decimal z
 unfolding decimalLetters decimal
-decimal-bytes (pos n) = digits-bytes (digits 20 n)
-decimal-bytes (negsuc n) = ap (λ (x : List ℕ). 45 ∷ x) (digits-bytes (digits 20 (natAbs (negsuc n))))
+decimal-bytes (pos n) = digits-bytes (shortest n)
+decimal-bytes (negsuc n) = ap (λ (x : List ℕ). 45 ∷ x) (digits-bytes (shortest (natAbs (negsuc n))))
 
 pub spaced-bytes : (zs : List ℤ) → bytes (spacedLetters zs) ≡ spaced zs
 unfolding spacedLetters spaced
@@ -62,36 +61,6 @@ spaced-bytes (z ∷ y ∷ zs) =
     ∙ ap₂ {C = List ℕ} (λ (a b : List ℕ). a ++ (32 ∷ b)) (decimal-bytes z) (spaced-bytes (y ∷ zs))
 
 -- ---- decimals are read back
-
-val : ℕ → List ℕ → ℕ
-val v [] = v
-val v (c ∷ cs) = val (10 * v + (c - 48)) cs
-
-val-snoc : (v : ℕ) (cs : List ℕ) (c : ℕ) → val v (cs ++ (c ∷ [])) ≡ 10 * val v cs + (c - 48)
-unfolding val
-val-snoc v [] c = refl
-val-snoc v (d ∷ cs) c = val-snoc (10 * v + (d - 48)) cs c
-
--- n has at most d digits
-abbrev Short : ℕ → ℕ → Type 0
-Short zero n = n ≡ 0
-Short (suc d) n = Short d (n / 10)
-
-short-below : (d b n : ℕ) → n ≤ b → Short d b → Short d n
-short-below zero b n h s = omega (arith, h, s)
-short-below (suc d) b n h s = short-below d (b / 10) (n / 10) (omega (arith, h)) s
-
-in-range : (n : ℕ) → n ≤ 16777215 → Short 20 n
-in-range n h = short-below 20 16777215 n h refl
-
-digits-val : (d n : ℕ) → Short d n → val 0 (digits d n) ≡ n
-unfolding val digits
-digits-val zero n s = sym s
-digits-val (suc d) n s = go (ltb n 10) refl (digits-val d (n / 10) s)
-  where
-    go : (b : Bool) → ltb n 10 ≡ b → val 0 (digits d (n / 10)) ≡ n / 10 → val 0 ((if b then [] else digits d (n / 10)) ++ ((48 + n % 10) ∷ [])) ≡ n
-    go true e ih = val-snoc 0 [] (48 + n % 10) ∙ (let h : n < 10 = ltb-true n 10 e in omega (arith, h))
-    go false e ih = val-snoc 0 (digits d (n / 10)) (48 + n % 10) ∙ (let q : val 0 (digits d (n / 10)) ≡ n / 10 = ih in omega (arith, q))
 
 -- digits, up to a letter that is none
 worth-val : (v : ℕ) (cs : List ℕ) (l : Letter) (m : List Letter) → (l plays later) ≡ false → worth v (laters cs ++ l ∷ m) ≡ val v cs
@@ -136,30 +105,22 @@ digits-read n s (c ∷ cs) l m e h = step ∙ two
         ap₂ {C = List Number} (λ (v : ℕ) (ns : List Number). (if s then at (n - 1) (negℤ (pos v)) else at n (pos v)) ∷ ns) first-val
         (pass-laters (n + 1) cs (l ∷ m) ∙ ap (λ (k : ℕ). numbers k false (l ∷ m)) (omega arith))
 
-pub some-digit : (d n : ℕ) → 0 < length (digits (suc d) n)
-unfolding digits
-some-digit d n = go (if ltb n 10 then [] else digits d (n / 10))
-  where
-    go : (cs : List ℕ) → 0 < length (cs ++ ((48 + n % 10) ∷ []))
-    go [] = omega arith
-    go (c ∷ cs) = omega arith
-
 -- a number that is said is read
-number-read : (n : ℕ) (z : ℤ) (l : Letter) (m : List Letter) → Ends l → natAbs z ≤ 16777215
+number-read : (n : ℕ) (z : ℤ) (l : Letter) (m : List Letter) → Ends l
     → (k : ℕ) × (values (numbers n false (decimalLetters z ++ l ∷ m)) ≡ z ∷ values (numbers k false (l ∷ m)))
 unfolding decimalLetters
-number-read n (pos v) l m e h = (
-  n + length (digits 20 v),
-  ap (λ (ns : List Number). values ns) (digits-read n false (digits 20 v) l m e (some-digit 19 v))
-      ∙ ap (λ (x : ℕ). pos x ∷ values (numbers (n + length (digits 20 v)) false (l ∷ m))) (digits-val 20 v (in-range v h)),
+number-read n (pos v) l m e = (
+  n + length (shortest v),
+  ap (λ (ns : List Number). values ns) (digits-read n false (shortest v) l m e (shortest-is v .says .some))
+      ∙ ap (λ (x : ℕ). pos x ∷ values (numbers (n + length (shortest v)) false (l ∷ m))) (shortest-is v .says .value),
 )
-number-read n (negsuc v) l m e h = (
-  n + 1 + length (digits 20 (suc v)),
-  ap (λ (ns : List Number). values ns) (signed ∙ digits-read (n + 1) true (digits 20 (suc v)) l m e (some-digit 19 (suc v)))
-      ∙ ap (λ (x : ℕ). negℤ (pos x) ∷ values (numbers (n + 1 + length (digits 20 (suc v))) false (l ∷ m))) (digits-val 20 (suc v) (in-range (suc v) h)),
+number-read n (negsuc v) l m e = (
+  n + 1 + length (shortest (suc v)),
+  ap (λ (ns : List Number). values ns) (signed ∙ digits-read (n + 1) true (shortest (suc v)) l m e (shortest-is (suc v) .says .some))
+      ∙ ap (λ (x : ℕ). negℤ (pos x) ∷ values (numbers (n + 1 + length (shortest (suc v))) false (l ∷ m))) (shortest-is (suc v) .says .value),
 )
   where
-    signed : numbers n false (letter 45 sign ∷ (digitLetters (digits 20 (suc v)) ++ l ∷ m)) ≡ numbers (n + 1) true (digitLetters (digits 20 (suc v)) ++ l ∷ m)
+    signed : numbers n false (letter 45 sign ∷ (digitLetters (shortest (suc v)) ++ l ∷ m)) ≡ numbers (n + 1) true (digitLetters (shortest (suc v)) ++ l ∷ m)
     signed = unfold numbers dec in refl
 
 space-ends : Ends (letter 32 skip)
@@ -168,27 +129,23 @@ space-ends = unfold dec in record { no-later = refl; no-lead = refl; no-sign = r
 stop-ends : (l : Letter) → l .role ≡ stop → Ends l
 stop-ends l e = record { no-later = unfold dec in rw e; no-lead = unfold dec in rw e; no-sign = unfold dec in rw e }
 
-unfoldable pub InRange : List ℤ → Type 0
-InRange [] = Unit {0}
-InRange (z ∷ zs) = (natAbs z ≤ 16777215) × InRange zs
-
 -- numbers that are said with spaces, up to a semicolon, are read
-pub spaced-read : (n : ℕ) (zs : List ℤ) (l : Letter) (m : List Letter) → l .role ≡ stop → InRange zs → values (numbers n false (spacedLetters zs ++ l ∷ m)) ≡ zs
-unfolding spacedLetters InRange
-spaced-read n [] l m e h = stopped n
+pub spaced-read : (n : ℕ) (zs : List ℤ) (l : Letter) (m : List Letter) → l .role ≡ stop → values (numbers n false (spacedLetters zs ++ l ∷ m)) ≡ zs
+unfolding spacedLetters
+spaced-read n [] l m e = stopped n
   where
     stopped : (k : ℕ) → values (numbers k false (l ∷ m)) ≡ []
     stopped k = unfold numbers dec in rw e
-spaced-read n (z ∷ []) l m e h =
-    let r = number-read n z l m (stop-ends l e) (h .0) in r .1 ∙ ap (λ (x : List ℤ). z ∷ x) (stopped (r .0))
+spaced-read n (z ∷ []) l m e =
+    let r = number-read n z l m (stop-ends l e) in r .1 ∙ ap (λ (x : List ℤ). z ∷ x) (stopped (r .0))
   where
     stopped : (k : ℕ) → values (numbers k false (l ∷ m)) ≡ []
     stopped k = unfold numbers dec in rw e
-spaced-read n (z ∷ y ∷ zs) l m e h =
-    let r = number-read n z (letter 32 skip) (spacedLetters (y ∷ zs) ++ l ∷ m) space-ends (h .0) in
+spaced-read n (z ∷ y ∷ zs) l m e =
+    let r = number-read n z (letter 32 skip) (spacedLetters (y ∷ zs) ++ l ∷ m) space-ends in
     ap (λ (x : List Letter). values (numbers n false x)) (append-assoc (decimalLetters z) (letter 32 skip ∷ spacedLetters (y ∷ zs)) (l ∷ m))
     ∙ r .1
-    ∙ ap (λ (x : List ℤ). z ∷ x) (passed (r .0) ∙ spaced-read (r .0 + 1) (y ∷ zs) l m e (h .1))
+    ∙ ap (λ (x : List ℤ). z ∷ x) (passed (r .0) ∙ spaced-read (r .0 + 1) (y ∷ zs) l m e)
   where
     passed : (k : ℕ) → values (numbers k false (letter 32 skip ∷ (spacedLetters (y ∷ zs) ++ l ∷ m))) ≡ values (numbers (k + 1) false (spacedLetters (y ∷ zs) ++ l ∷ m))
     passed k = unfold numbers dec in refl

@@ -19,9 +19,9 @@ use Rattle.definition.specs.Flat.{letterOf, numbersOfShape}
 use Rattle.definition.specs.Drawing.{Drawn}
 use Rattle.definition.proofs.Range.{All}
 use Rattle.definition.proofs.Rows.{same-eq}
-use Rattle.definition.proofs.Again.{values, spacedLetters, InRange}
+use Rattle.definition.proofs.Again.{values, spacedLetters}
 use Rattle.definition.proofs.Shapes.{valued, shape-read, read-outside, scaled-outside}
-use Rattle.definition.proofs.Reread.{Sayable, names, ended, lineLetters, lastLetters, saidLetters, linesLetters, flatLetters, line-commands, names-headless, spaced-headless, layer-read, none-beyond, range-left, range-right}
+use Rattle.definition.proofs.Reread.{InRange, Sayable, names, ended, lineLetters, lastLetters, saidLetters, linesLetters, flatLetters, line-commands, names-headless, spaced-headless, layer-read, none-beyond, range-left, range-right}
 use Rattle.definition.proofs.Said.{Good, range-++, or-first, or-second, length-map}
 
 none-listed : (n : ℕ) (t : ℤ → Bool) (ds : List Number) → any t (values ds) ≡ false → atNumbers n t ds ≡ []
@@ -108,7 +108,7 @@ shape-clear d n m s g f =
     let l = d .layer-of in
     let zs = numbersOfShape (d .itself) in
     let r = line-commands n (letterOf (d .itself .kind)) (spacedLetters zs) m (spaced-headless zs) in
-    let w = shape-read n (d .itself) (s .formed) (letter 59 stop) (letter 10 skip ∷ m) refl (s .in-range) in
+    let w = shape-read n (d .itself) (s .formed) (letter 59 stop) (letter 10 skip ∷ m) refl in
     ap (allFaults (outside l)) (r .1 ∙ ap (λ (c : Command). at n c ∷ commands (r .0) m) (w .1))
     ∙ begun (w .0) (commands (r .0) m)
     ∙ ap (λ (x : List Refusal). x ++ allFaults (outside l) (commands (r .0) m))

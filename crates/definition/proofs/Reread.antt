@@ -21,9 +21,9 @@ use Rattle.definition.specs.Turns.{act, aim, inOrder, moved}
 use Rattle.definition.specs.Table.{Table, shape}
 use Rattle.definition.specs.Drawing.{Drawn, Event, drew, refused, stepOf, deedOf, deeds, drawShape, drawStep, happens, tableAfter, story}
 use Rattle.definition.specs.Counts.{shapesOf, counts, End, finished, counted, goOn, ending}
-use Rattle.definition.specs.Flat.{letterOf, numbersOfShape, spaced, line, said, lines, flat, digits}
+use Rattle.definition.specs.Flat.{letterOf, numbersOfShape, spaced, line, said, lines, flat, shortest}
 use Rattle.definition.proofs.Range.{All, all-++}
-use Rattle.definition.proofs.Again.{values, digitLetters, decimalLetters, spacedLetters, InRange, bytes-++, spaced-bytes}
+use Rattle.definition.proofs.Again.{values, digitLetters, decimalLetters, spacedLetters, bytes-++, spaced-bytes}
 use Rattle.definition.proofs.Rows.{same-eq}
 use Rattle.definition.proofs.Shapes.{Formed, valued, shape-read, read-outside}
 
@@ -106,8 +106,8 @@ digits-headless (c ∷ cs) = (refl, go cs)
 
 decimal-headless : (z : ℤ) → Headless (decimalLetters z)
 unfolding All dec decimalLetters
-decimal-headless (pos n) = digits-headless (digits 20 n)
-decimal-headless (negsuc n) = (refl, digits-headless (digits 20 (suc n)))
+decimal-headless (pos n) = digits-headless (shortest n)
+decimal-headless (negsuc n) = (refl, digits-headless (shortest (suc n)))
 
 pub spaced-headless : (zs : List ℤ) → Headless (spacedLetters zs)
 unfolding All dec spacedLetters
@@ -148,6 +148,10 @@ layer-read n l m h = begun ∙ ap (λ (x : List ℕ). layer (take 4 x)) (names-r
 -- what the flat file says of a shape
 abbrev pub plain : Drawn → List ℕ × Shape ℤ
 plain d = (d .layer-of, d .itself)
+
+unfoldable pub InRange : List ℤ → Type 0
+InRange [] = Unit {0}
+InRange (z ∷ zs) = (natAbs z ≤ 16777215) × InRange zs
 
 -- what the flat file needs of a shape
 pub record Sayable (d : Drawn) : Type 0 where
@@ -209,7 +213,7 @@ shape-line t d n m g =
     let l = d .layer-of in
     let zs = numbersOfShape (d .itself) in
     let r = line-commands n (letterOf (d .itself .kind)) (spacedLetters zs) m (spaced-headless zs) in
-    let w = shape-read n (d .itself) (g .formed) (letter 59 stop) (letter 10 skip ∷ m) refl (g .in-range) in (
+    let w = shape-read n (d .itself) (g .formed) (letter 59 stop) (letter 10 skip ∷ m) refl in (
       r .0,
       ap (from t l) (r .1 ∙ ap (λ (c : Command). at n c ∷ commands (r .0) m) (w .1))
           ∙ put (w .0) (commands (r .0) m)

@@ -27,10 +27,9 @@ use Rattle.definition.specs.Answer.{drawingOf}
 use Rattle.definition.proofs.Range.{All, Within, shapes-within}
 use Rattle.definition.proofs.Sizes
 use Rattle.definition.proofs.Sizes.{Fits, Fits₂, Fit, FitStep, nil-left, nil-right, abs-neg, fit-moved, fit-step, no-fault}
-use Rattle.definition.proofs.Again.{InRange}
 use Rattle.definition.proofs.Shapes
 use Rattle.definition.proofs.Shapes.{Formed}
-use Rattle.definition.proofs.Reread.{Sayable, again, plain, Redrawn, flatLetters, flat-redrawn}
+use Rattle.definition.proofs.Reread.{InRange, Sayable, again, plain, Redrawn, flatLetters, flat-redrawn}
 use Rattle.definition.proofs.Spelling.{NameChar, Spelt, flat-marked}
 use Rattle.definition.proofs.Made
 use Rattle.definition.proofs.Made.{Drafted, Name, Made, all-named, all-made}

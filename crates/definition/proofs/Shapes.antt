@@ -14,7 +14,7 @@ use Rattle.definition.specs.Commands.{Kind, box, flash, wire, polygon, S
 use Rattle.definition.specs.Standing.{outside, given, scaled, scaledPoint, scaledShape}
 use Rattle.definition.specs.Faults.{both}
 use Rattle.definition.specs.Flat.{letterOf, numbersOfShape}
-use Rattle.definition.proofs.Again.{values, spacedLetters, InRange, spaced-read}
+use Rattle.definition.proofs.Again.{values, spacedLetters, spaced-read}
 
 -- a shape as a command makes it
 pub data Formed : Shape ℤ → Type 0 where
@@ -54,12 +54,12 @@ drop-values : (ns : List Number) → values (drop 1 ns) ≡ drop 1 (values ns)
 drop-values [] = refl
 drop-values (x ∷ ns) = refl
 
-pub shape-read : (n : ℕ) (k : Shape ℤ) → Formed k → (l : Letter) (m : List Letter) → l .role ≡ stop → InRange (numbersOfShape k)
+pub shape-read : (n : ℕ) (k : Shape ℤ) → Formed k → (l : Letter) (m : List Letter) → l .role ≡ stop
     → (w : Shape Number) × (commandAt n (letter (letterOf (k .kind)) head) (spacedLetters (numbersOfShape k) ++ l ∷ m) ≡ draw w) × (valued w ≡ k)
 unfolding letterOf
-shape-read n k (a-box a b c d) l m e h =
+shape-read n k (a-box a b c d) l m e =
     let ns = numbers (n + 1) false (spacedLetters (numbersOfShape k) ++ l ∷ m) in
-    let v : values ns ≡ pos a ∷ pos b ∷ c .x ∷ c .y ∷ d .x ∷ d .y ∷ [] = spaced-read (n + 1) (numbersOfShape k) l m e h in
+    let v : values ns ≡ pos a ∷ pos b ∷ c .x ∷ c .y ∷ d .x ∷ d .y ∷ [] = spaced-read (n + 1) (numbersOfShape k) l m e in
     let nr : ℕ → Number = nth n ns (pos 0) in
     let at-i : (z : ℤ) (i : ℕ) → nth n ns z i .what ≡ getD (pos a ∷ pos b ∷ c .x ∷ c .y ∷ d .x ∷ d .y ∷ []) i z = λ z i. nth-value n ns z i ∙ ap (λ (zs : List ℤ). getD zs i z) v in (
       record { kind = box; sizes = unsigned (nr 0) ∷ unsigned (nr 1) ∷ []; points = point (nr 2) (nr 3) ∷ []; directions = point (nth n ns (pos 1) 4) (nr 5) ∷ [] },
@@ -71,18 +71,18 @@ shape-read n k (a-box a b c d) l m e h =
         directions = point (at-i (pos 1) 4 i) (at-i (pos 0) 5 i) ∷ [];
       },
     )
-shape-read n k (a-flash a c) l m e h =
+shape-read n k (a-flash a c) l m e =
     let ns = numbers (n + 1) false (spacedLetters (numbersOfShape k) ++ l ∷ m) in
-    let v : values ns ≡ pos a ∷ c .x ∷ c .y ∷ [] = spaced-read (n + 1) (numbersOfShape k) l m e h in
+    let v : values ns ≡ pos a ∷ c .x ∷ c .y ∷ [] = spaced-read (n + 1) (numbersOfShape k) l m e in
     let nr : ℕ → Number = nth n ns (pos 0) in
     let at-i : (i : ℕ) → nr i .what ≡ getD (pos a ∷ c .x ∷ c .y ∷ []) i (pos 0) = λ i. nth-value n ns (pos 0) i ∙ ap (λ (zs : List ℤ). getD zs i (pos 0)) v in (
       record { kind = flash; sizes = unsigned (nr 0) ∷ []; points = point (nr 1) (nr 2) ∷ []; directions = [] },
       unfold commandAt has in refl,
       λ i. record { kind = flash; sizes = pos (natAbs (at-i 0 i)) ∷ []; points = point (at-i 1 i) (at-i 2 i) ∷ []; directions = [] },
     )
-shape-read n k (a-wire a ps) l m e h =
+shape-read n k (a-wire a ps) l m e =
     let ns = numbers (n + 1) false (spacedLetters (numbersOfShape k) ++ l ∷ m) in
-    let v : values ns ≡ pos a ∷ both ps = spaced-read (n + 1) (numbersOfShape k) l m e h ∙ ap (λ (zs : List ℤ). pos a ∷ zs) (both-end ps) in
+    let v : values ns ≡ pos a ∷ both ps = spaced-read (n + 1) (numbersOfShape k) l m e ∙ ap (λ (zs : List ℤ). pos a ∷ zs) (both-end ps) in
     let nr : ℕ → Number = nth n ns (pos 0) in
     let first : nr 0 .what ≡ pos a = nth-value n ns (pos 0) 0 ∙ ap (λ (zs : List ℤ). getD zs 0 (pos 0)) v in
     let path : map given (paired (drop 1 ns)) ≡ ps =
@@ -91,9 +91,9 @@ shape-read n k (a-wire a ps) l m e h =
       unfold commandAt has in refl,
       λ i. record { kind = wire; sizes = pos (natAbs (first i)) ∷ []; points = path i; directions = [] },
     )
-shape-read n k (a-polygon ps) l m e h =
+shape-read n k (a-polygon ps) l m e =
     let ns = numbers (n + 1) false (spacedLetters (numbersOfShape k) ++ l ∷ m) in
-    let v : values ns ≡ both ps = spaced-read (n + 1) (numbersOfShape k) l m e h ∙ both-end ps in
+    let v : values ns ≡ both ps = spaced-read (n + 1) (numbersOfShape k) l m e ∙ both-end ps in
     let path : map given (paired ns) ≡ ps = paired-values ns ∙ ap (λ (zs : List ℤ). pairs zs) v ∙ pairs-both ps in (
       record { kind = polygon; sizes = []; points = paired ns; directions = [] },
       unfold commandAt has in refl,

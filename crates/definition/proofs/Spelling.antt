@@ -17,31 +17,13 @@ use Rattle.grammar.specs.Tables.{letter}
 use Rattle.definition.specs.Words.{if_then_else_, Point, same}
 use Rattle.definition.specs.Commands.{Kind, Shape}
 use Rattle.definition.specs.Faults
-use Rattle.definition.specs.Flat.{digits, letterOf, numbersOfShape, flat}
+use Rattle.definition.specs.Flat.{shortest, letterOf, numbersOfShape, flat}
 use Rattle.definition.specs.Drawing.{Drawn}
 use Rattle.definition.proofs.Range.{All, all-++}
-use Rattle.definition.proofs.Again.{laters, digitLetters, decimalLetters, spacedLetters, some-digit}
+use Rattle.definition.proofs.Decimals.{DigitByte, shortest-is}
+use Rattle.definition.proofs.Again.{laters, digitLetters, decimalLetters, spacedLetters}
 use Rattle.definition.proofs.Shapes.{Formed, a-box, a-flash, a-wire, a-polygon}
 use Rattle.definition.proofs.Reread.{names, ended, lineLetters, saidLetters, linesLetters, flatLetters, flat-bytes}
-
-abbrev DigitByte : ℕ → Type 0
-DigitByte a = T (leb 48 a && leb a 57)
-
-and-of : (s t : Bool) → T s → T t → T (s && t)
-and-of true t a b = b
-and-of false t a b = a
-
-all-digits : (d n : ℕ) → All DigitByte (digits d n)
-unfolding digits All
-all-digits zero n = tt
-all-digits (suc d) n = all-++ DigitByte (if ltb n 10 then [] else digits d (n / 10)) ((48 + n % 10) ∷ []) (go (ltb n 10) (all-digits d (n / 10))) (last, tt)
-  where
-    go : (b : Bool) → All DigitByte (digits d (n / 10)) → All DigitByte (if b then [] else digits d (n / 10))
-    go true h = tt
-    go false h = h
-
-    last : DigitByte (48 + n % 10)
-    last = and-of (leb 48 (48 + n % 10)) (leb (48 + n % 10) 57) (le→leb 48 (48 + n % 10) (omega arith)) (le→leb (48 + n % 10) 57 (omega arith))
 
 -- ---- numbers, points, paths
 
@@ -55,18 +37,18 @@ unfolding All is dec has digitLetters
 digits-match [] p h = absurd (omega (arith, p))
 digits-match (a ∷ cs) p h = both (letter a lead ∷ []) (laters cs) (char (h .0)) (laters-match cs (h .1)) refl
 
-decimal-digits : (n : ℕ) → Match integerD (digitLetters (digits 20 n))
-decimal-digits n = digits-match (digits 20 n) (some-digit 19 n) (all-digits 20 n)
+decimal-digits : (n : ℕ) → Match integerD (digitLetters (shortest n))
+decimal-digits n = digits-match (shortest n) (shortest-is n .says .some) (shortest-is n .says .digit-bytes)
 
 integer-match : (n : ℕ) → Match integer (decimalLetters (pos n))
 unfolding decimalLetters
-integer-match n = both [] (digitLetters (digits 20 n)) none (decimal-digits n) refl
+integer-match n = both [] (digitLetters (shortest n)) none (decimal-digits n) refl
 
 sinteger-match : (z : ℤ) → Match sinteger (decimalLetters z)
 unfolding decimalLetters is dec has
-sinteger-match (pos n) = both [] (digitLetters (digits 20 n)) none (both [] (digitLetters (digits 20 n)) absent (decimal-digits n) refl) refl
+sinteger-match (pos n) = both [] (digitLetters (shortest n)) none (both [] (digitLetters (shortest n)) absent (decimal-digits n) refl) refl
 sinteger-match (negsuc n) =
-    let ds = digitLetters (digits 20 (suc n)) in
+    let ds = digitLetters (shortest (suc n)) in
     both [] (letter 45 sign ∷ ds) none (both (letter 45 sign ∷ []) ds (present (char tt)) (decimal-digits (suc n)) refl) refl
 
 sp : Letter
