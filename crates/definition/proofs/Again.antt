@@ -1,16 +1,16 @@
 -- A flat file read again: its letters with their roles, and that the numbers that it says are read back.
 -- Assumes nothing.
-use mathlib.Core.Path.{_≡_, refl, sym, ap, ap₂, _∙_, subst}
-use mathlib.Core.Bool.{Bool, true, false, _||_}
+use mathlib.Core.Path.{_≡_, refl, ap, ap₂, _∙_}
+use mathlib.Core.Bool.{Bool, true, false}
 use mathlib.Core.List.{List, [], _∷_, _++_, append-assoc, map}
-use Prim.Native.Nat.{ℕ, zero, suc, _+_, _-_, _*_, _<_}
+use Prim.Native.Nat.{ℕ, suc, _+_, _-_, _*_, _<_}
 use native.Mathlib.Omega.{arith}
 use lib.IntN.{ℤ, pos, negsuc, negℤ, natAbs}
 use lib.ListN.{length}
-use Rattle.grammar.specs.Notation.{Role, Letter, dec, Role-discrete, skip, head, second, turn, axis, sign, name, stop, lead, later}
+use Rattle.grammar.specs.Notation.{Letter, dec, skip, sign, stop, lead, later}
 use Rattle.grammar.specs.Viable.{bytes}
 use Rattle.grammar.specs.Tables.{letter}
-use Rattle.definition.specs.Words.{if_then_else_, Placed, at, Point}
+use Rattle.definition.specs.Words.{if_then_else_, at}
 use Rattle.definition.specs.Commands.{Number, worth, numbers, _plays_}
 use Rattle.definition.specs.Flat.{shortest, decimal, spaced}
 use Rattle.definition.proofs.Decimals.{val, shortest-is}

@@ -8,9 +8,8 @@ use Prim.Native.Nat.{ℕ, zero, suc, _+_, _-_, _*_, _/_, _%_, _≤_, _<_}
 use native.Mathlib.Omega.{arith}
 use borrow.Author.Tests.{ltb-true, ltb-false, lt-ltb, le-ltb}
 use lib.Dec.{T, ltb, leb, le→leb, leb→le}
-use lib.ListN.{length, getD, length-append, List·getD-append}
+use lib.ListN.{length, getD, length-append}
 use Rattle.grammar.proofs.Tests.{and-left, and-right, and-both}
-use Rattle.definition.specs.Words.{if_then_else_}
 use Rattle.definition.specs.Flat.{digits, shortest}
 use Rattle.definition.proofs.Range.{All, all-++}
 use Rattle.definition.proofs.Sizes.{all-left, all-right}

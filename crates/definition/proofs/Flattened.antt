@@ -1,10 +1,10 @@
 -- Demand 3: the flat file of an accepted text is accepted, draws the same shapes, and flattened again gives the same bytes.
 -- Assumes nothing.
-use mathlib.Core.Path.{_≡_, refl, sym, ap, ap₂, _∙_, subst}
+use mathlib.Core.Path.{_≡_, refl, sym, ap, _∙_, subst}
 use mathlib.Core.Bool.{Bool, true, false, _&&_}
 use mathlib.Core.List.{List, [], _∷_, _++_, map}
 use mathlib.Core.Option.{Option, none, some}
-use Prim.Native.Nat.{ℕ, zero, suc, _+_, _≤_, _<_}
+use Prim.Native.Nat.{ℕ, suc, _+_, _≤_}
 use native.Mathlib.Omega.{arith}
 use borrow.Author.Tests.{ltb-true, le-leb, leb-true}
 use lib.Dec.{T, ltb, leb}
@@ -12,17 +12,17 @@ use lib.IntN.{ℤ}
 use lib.ListN.{length}
 use Rattle.grammar.specs.Notation.{Letter}
 use Rattle.grammar.specs.Viable.{Marked}
-use Rattle.definition.specs.Words.{if_then_else_, Placed, first}
-use Rattle.definition.specs.Commands.{Shape, Command, commands}
+use Rattle.definition.specs.Words.{if_then_else_, first}
+use Rattle.definition.specs.Commands.{Shape, commands}
 use Rattle.definition.specs.Standing.{outside}
-use Rattle.definition.specs.Faults.{Refusal, allFaults, firstFault}
-use Rattle.definition.specs.Drawing.{Chain, Drawn, Event, called, drew, entered, removed, refused, deeds, story}
+use Rattle.definition.specs.Faults.{Refusal, firstFault}
+use Rattle.definition.specs.Drawing.{Chain, Drawn, Event, called, drew, entered, removed, refused, deeds}
 use Rattle.definition.specs.Counts.{Counts, counts, End, finished, stopped, counted, goOn, ending, shapesOf}
-use Rattle.definition.specs.Flat.{lines, flat}
-use Rattle.definition.specs.Answer.{Outcome, accepted, rejected, flatFile, drawingOf, fitted, drawn, outcomeOf, Answers, read}
-use Rattle.definition.proofs.Range.{All, shapes-within}
+use Rattle.definition.specs.Flat.{flat}
+use Rattle.definition.specs.Answer.{Outcome, accepted, rejected, drawingOf, fitted, drawn, outcomeOf, Answers, too-long, not-cif, read}
+use Rattle.definition.proofs.Range.{All, all-to, Within, shapes-within}
 use Rattle.definition.proofs.Reread.{plain, Redrawn, Sayable, flatLetters, flat-redrawn, flat-plain, drawn-shapes, drawn-ending}
-use Rattle.definition.proofs.Spelling.{Spelt, flat-marked}
+use Rattle.definition.proofs.Spelling.{flat-marked}
 use Rattle.definition.proofs.Said.{Good, all-good, all-both, sayable, spelt, length-map}
 use Rattle.definition.proofs.Faultless.{flat-clear}
 
@@ -90,51 +90,78 @@ accepted-by m room c es e = by-fault (firstFault (commands 0 m)) refl e
     by-fault (some r) q h = absurd (unfold Yes drawn in (subst Yes (sym h) tt))
     by-fault none q h = by-end (ending (counts 0 0 0) story-of) refl q (unfold drawn in h)
 
+and-first : (x y : Bool) → (x && y) ≡ true → x ≡ true
+and-first true y e = refl
+and-first false y e = e
+
 and-second : (x y : Bool) → (x && y) ≡ true → y ≡ true
 and-second true y e = e
 and-second false y e = absurd (subst (λ (b : Bool). T b) (sym e) tt)
 
--- demand 3, of the shapes ds that an accepted text draws
-pub record Again (ds : List Drawn) (room : ℕ) : Type 0 where
+-- an accepted text: its letters, and that they are accepted
+pub record Reading (t : List ℕ) (room : ℕ) (c : Counts) (es : List Event) : Type 0 where
+  pub letters : List Letter
+  pub marked : Marked t letters
+  pub as-read : Accepted letters room c es
+
+pub reading : {t : List ℕ} {room : ℕ} {c : Counts} {es : List Event} → Answers t room (accepted c es) → Reading t room c es
+reading {t} {room} {c} {es} k = of k refl
+  where
+    of : {o : Outcome} → Answers t room o → o ≡ accepted c es → Reading t room c es
+    of (too-long h) e = absurd (unfold Yes in (subst Yes (sym e) tt))
+    of (not-cif h g l) e = absurd (unfold Yes in (subst Yes (sym e) tt))
+    of (read {m} h k) e = record { letters = m; marked = k; as-read = accepted-by m room c es e }
+
+pub within-room : {m : List Letter} {room : ℕ} {c : Counts} {es : List Event} → Accepted m room c es → length (flat (shapesOf es)) ≤ room
+within-room {m} {room} {c} {es} a = leb-true (length (flat (shapesOf es))) room (and-first (leb (length (flat (shapesOf es))) room) _ (a .fits))
+
+pub within-limit : {m : List Letter} {room : ℕ} {c : Counts} {es : List Event} → Accepted m room c es → length (flat (shapesOf es)) ≤ 16777216
+within-limit {m} {room} {c} {es} a = leb-true (length (flat (shapesOf es))) 16777216 (and-second (leb (length (flat (shapesOf es))) room) _ (a .fits))
+
+-- every shape of an accepted text can be said
+pub all-sayable : {t : List ℕ} {m : List Letter} {room : ℕ} {c : Counts} {es : List Event} → Marked t m → Accepted m room c es
+    → All (λ (d : Drawn). Good (d .layer-of) (d .itself) × Within d) (shapesOf es)
+all-sayable {t} {m} k a =
+    subst (λ (y : List Event). All (λ (d : Drawn). Good (d .layer-of) (d .itself) × Within d) (shapesOf y)) (sym (a .is-story))
+    (all-both _ _ _ (λ d g w. (g, w)) (shapesOf (drawingOf (commands 0 m))) (all-good m (k .rule) (a .no-fault)) (shapes-within [] (deeds (outside []) (commands 0 m))))
+
+-- the heart of demand 3, of the shapes ds that an accepted text draws: in every room that holds it their flat file is accepted, with the same shapes,
+-- and its own flat file is itself
+pub record Again (ds : List Drawn) : Type 0 where
+  pub grammatical : Marked (flat ds) (flatLetters ds)
   pub events : List Event
-  pub answers : Answers (flat ds) room (accepted (counts 0 (length ds) 0) events)
+  pub only-shapes : events ≡ map drew (shapesOf events)
+  pub answers : (room : ℕ) → length (flat ds) ≤ room → Answers (flat ds) room (accepted (counts 0 (length ds) 0) events)
   pub same-shapes : map plain (shapesOf events) ≡ map plain ds
   pub same-bytes : flat (shapesOf events) ≡ flat ds
 
-pub flattened : (t : List ℕ) (m : List Letter) (room : ℕ) (c : Counts) (es : List Event) → Marked t m → outcomeOf m room ≡ accepted c es → Again (shapesOf es) room
-flattened t m room c es k e = record { events = map drew xs; answers = subst (Answers (flat (shapesOf es)) room) is-outcome (read small (flat-marked (shapesOf es) spell)); same-shapes = shapes-same; same-bytes = bytes-same }
+pub flattened : (t : List ℕ) (m : List Letter) (room : ℕ) (c : Counts) (es : List Event) → Marked t m → Accepted m room c es → Again (shapesOf es)
+flattened t m room c es k a = record {
+  grammatical = marked;
+  events = map drew (r .shapes);
+  only-shapes = ap (λ (y : List Drawn). map drew y) (sym (drawn-shapes (r .shapes)));
+  answers = λ room′ h. subst (Answers (flat (shapesOf es)) room′) (is-outcome room′ h) (read (within-limit a) marked);
+  same-shapes = shapes-same;
+  same-bytes = bytes-same;
+}
   where
-    a : Accepted m room c es
-    a = accepted-by m room c es e
-
-    ds : List Drawn
-    ds = shapesOf es
-
     good : All (λ (d : Drawn). Good (d .layer-of) (d .itself)) (shapesOf es)
-    good = subst (λ (y : List Event). All (λ (d : Drawn). Good (d .layer-of) (d .itself)) (shapesOf y)) (sym (a .is-story)) (all-good m (k .rule) (a .no-fault))
+    good = all-to _ _ (λ d g. g .0) (shapesOf es) (all-sayable k a)
 
     say : All Sayable (shapesOf es)
-    say =
-        subst (λ (y : List Event). All Sayable (shapesOf y)) (sym (a .is-story))
-        (all-both _ _ Sayable sayable (shapesOf (drawingOf (commands 0 m))) (all-good m (k .rule) (a .no-fault)) (shapes-within [] (deeds (outside []) (commands 0 m))))
+    say = all-to _ _ (λ d g. sayable d (g .0) (g .1)) (shapesOf es) (all-sayable k a)
+
+    marked : Marked (flat (shapesOf es)) (flatLetters (shapesOf es))
+    marked = flat-marked (shapesOf es) (all-to _ _ spelt (shapesOf es) good)
 
     r : Redrawn (drawingOf (commands 0 (flatLetters (shapesOf es)))) (shapesOf es)
     r = flat-redrawn (shapesOf es) say
-
-    xs : List Drawn
-    xs = r .shapes
 
     shapes-same : map plain (shapesOf (map drew (r .shapes))) ≡ map plain (shapesOf es)
     shapes-same = ap (λ (y : List Drawn). map plain y) (drawn-shapes (r .shapes)) ∙ r .says
 
     bytes-same : flat (shapesOf (map drew (r .shapes))) ≡ flat (shapesOf es)
     bytes-same = unfold flat in ap (λ (w : List ℕ). w ++ (69 ∷ 10 ∷ [])) (flat-plain [] (shapesOf (map drew (r .shapes))) (shapesOf es) shapes-same)
-
-    spell : All Spelt (shapesOf es)
-    spell = all-both (λ (d : Drawn). Good (d .layer-of) (d .itself)) (λ (d : Drawn). Good (d .layer-of) (d .itself)) Spelt (λ d g g′. spelt d g) (shapesOf es) good good
-
-    small : length (flat (shapesOf es)) ≤ 16777216
-    small = leb-true (length (flat (shapesOf es))) 16777216 (and-second (leb (length (flat (shapesOf es))) room) _ (a .fits))
 
     as-many : length (r .shapes) ≡ length (shapesOf es)
     as-many = sym (length-map plain (r .shapes)) ∙ ap (λ (y : List (List ℕ × Shape ℤ)). length y) (r .says) ∙ length-map plain (shapesOf es)
@@ -145,16 +172,19 @@ flattened t m room c es k e = record { events = map drew xs; answers = subst (An
     clear : firstFault (commands 0 (flatLetters (shapesOf es))) ≡ none
     clear = unfold firstFault first in ap (λ (y : List Refusal). first y) (flat-clear (shapesOf es) say good)
 
-    fit-again : fitted (finished (counts 0 (0 + length (r .shapes)) 0)) (map drew (r .shapes)) room ≡ accepted (counts 0 (0 + length (r .shapes)) 0) (map drew (r .shapes))
-    fit-again = unfold fitted in rw (bytes-same, a .fits)
+    fit-again : (room′ : ℕ) → length (flat (shapesOf es)) ≤ room′
+        → fitted (finished (counts 0 (0 + length (r .shapes)) 0)) (map drew (r .shapes)) room′ ≡ accepted (counts 0 (0 + length (r .shapes)) 0) (map drew (r .shapes))
+    fit-again room′ h =
+        unfold fitted in rw (bytes-same, le-leb (length (flat (shapesOf es))) room′ h, le-leb (length (flat (shapesOf es))) 16777216 (within-limit a))
 
-    is-outcome : outcomeOf (flatLetters (shapesOf es)) room ≡ accepted (counts 0 (length (shapesOf es)) 0) (map drew (r .shapes))
-    is-outcome =
+    is-outcome : (room′ : ℕ) → length (flat (shapesOf es)) ≤ room′
+        → outcomeOf (flatLetters (shapesOf es)) room′ ≡ accepted (counts 0 (length (shapesOf es)) 0) (map drew (r .shapes))
+    is-outcome room′ h =
         let cs = commands 0 (flatLetters (shapesOf es)) in
-        let start : outcomeOf (flatLetters (shapesOf es)) room ≡ drawn none cs room = unfold outcomeOf in ap (λ (f : Option Refusal). drawn f cs room) clear in
-        let drew-it : drawn none cs room ≡ fitted (ending (counts 0 0 0) (map drew (r .shapes))) (map drew (r .shapes)) room =
-        unfold drawn in ap (λ (y : List Event). fitted (ending (counts 0 0 0) y) y room) (r .only) in
+        let start : outcomeOf (flatLetters (shapesOf es)) room′ ≡ drawn none cs room′ = unfold outcomeOf in ap (λ (f : Option Refusal). drawn f cs room′) clear in
+        let drew-it : drawn none cs room′ ≡ fitted (ending (counts 0 0 0) (map drew (r .shapes))) (map drew (r .shapes)) room′ =
+        unfold drawn in ap (λ (y : List Event). fitted (ending (counts 0 0 0) y) y room′) (r .only) in
         start ∙ drew-it
-        ∙ ap (λ (x : End). fitted x (map drew (r .shapes)) room) (drawn-ending 0 (r .shapes) bound)
-        ∙ fit-again
+        ∙ ap (λ (x : End). fitted x (map drew (r .shapes)) room′) (drawn-ending 0 (r .shapes) bound)
+        ∙ fit-again room′ h
         ∙ ap (λ (n : ℕ). accepted (counts 0 n 0) (map drew (r .shapes))) (omega (arith, as-many))

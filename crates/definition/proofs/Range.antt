@@ -27,6 +27,11 @@ unfolding All
 all-++ P [] b x y = y
 all-++ P (e ∷ a) b x y = (x .0, all-++ P a b (x .1) y)
 
+pub all-to : {A : Type 0} (P R : A → Type 0) → ((a : A) → P a → R a) → (l : List A) → All P l → All R l
+unfolding All
+all-to P R f [] x = tt
+all-to P R f (a ∷ l) x = (f a (x .0), all-to P R f l (x .1))
+
 abbrev pub Within : Drawn → Type 0
 Within d = any beyond (both (d .itself .points)) ≡ false
 

@@ -247,18 +247,3 @@ pub all-both : {A : Type 0} (P Q R : A → Type 0) → ((a : A) → P a → Q a 
 unfolding All
 all-both P Q R f [] x y = tt
 all-both P Q R f (a ∷ l) x y = (f a (x .0) (y .0), all-both P Q R f l (x .1) (y .1))
-
--- demand 3, the heart: the flat file of a text without a fault is in the grammar, by letters whose commands draw the same shapes
-pub record Flattens (m : List Letter) : Type 0 where
-  pub grammatical : Marked (flat (shapesOf (drawingOf (commands 0 m)))) (flatLetters (shapesOf (drawingOf (commands 0 m))))
-  pub same-shapes : Redrawn (drawingOf (commands 0 (flatLetters (shapesOf (drawingOf (commands 0 m)))))) (shapesOf (drawingOf (commands 0 m)))
-
-pub flattens : (t : List ℕ) (m : List Letter) → Marked t m → firstFault (commands 0 m) ≡ none → Flattens m
-flattens t m k e =
-    let ds = shapesOf (drawingOf (commands 0 m)) in
-    let good = all-good m (k .rule) e in
-    let inside = shapes-within [] (deeds (outside []) (commands 0 m)) in
-    record {
-      grammatical = flat-marked ds (all-both _ _ Spelt (λ d g w. spelt d g) ds good inside);
-      same-shapes = flat-redrawn ds (all-both _ _ Sayable sayable ds good inside);
-    }

@@ -1,25 +1,25 @@
 -- The flat file is in the grammar: a derivation of its letters, built from the productions.
 -- Assumes nothing.
 use mathlib.Core.Path.{_≡_, refl, sym, ap, _∙_, subst}
-use mathlib.Core.Bool.{Bool, true, false, _&&_}
+use mathlib.Core.Bool.{Bool, true, false}
 use mathlib.Core.List.{List, [], _∷_, _++_, append-assoc, append-nil}
 use mathlib.Core.Logic.{_⊎_, inl, inr}
-use Prim.Native.Nat.{ℕ, zero, suc, _+_, _/_, _%_, _≤_, _<_}
+use Prim.Native.Nat.{ℕ, suc, _≤_, _<_}
 use native.Mathlib.Omega.{arith}
-use lib.Dec.{T, ltb, leb, le→leb}
-use lib.IntN.{ℤ, pos, negsuc, natAbs}
+use lib.Dec.{T}
+use lib.IntN.{ℤ, pos, negsuc}
 use lib.ListN.{length}
 use Rattle.grammar.specs.Notation.{Expression, _▹_, many, option, Letter, Match, char, both, left, right, none, more, absent, present, is, dec, has, Digit, Upper}
 use Rattle.grammar.specs.Notation.{skip, head, sign, lead, later, name, stop, one, Blank}
-use Rattle.grammar.specs.Productions.{sep, semi, c, shortname, integerD, integer, sinteger, point, path, layerCommand, polygonCommand, boxCommand, roundFlashCommand, wireCommand, primCommand, command, cifFile}
+use Rattle.grammar.specs.Productions.{sep, semi, c, shortname, integerD, integer, sinteger, point, path, primCommand, command, cifFile}
 use Rattle.grammar.specs.Viable.{Marked}
 use Rattle.grammar.specs.Tables.{letter}
 use Rattle.definition.specs.Words.{if_then_else_, Point, same}
-use Rattle.definition.specs.Commands.{Kind, Shape}
+use Rattle.definition.specs.Commands.{Shape}
 use Rattle.definition.specs.Faults
 use Rattle.definition.specs.Flat.{shortest, letterOf, numbersOfShape, flat}
 use Rattle.definition.specs.Drawing.{Drawn}
-use Rattle.definition.proofs.Range.{All, all-++}
+use Rattle.definition.proofs.Range.{All}
 use Rattle.definition.proofs.Decimals.{DigitByte, shortest-is}
 use Rattle.definition.proofs.Again.{laters, digitLetters, decimalLetters, spacedLetters}
 use Rattle.definition.proofs.Shapes.{Formed, a-box, a-flash, a-wire, a-polygon}
