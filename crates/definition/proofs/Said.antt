@@ -185,7 +185,7 @@ all-good m k e =
     Kept.kept Good good-moved Stands Made stands good-step (outside []) (commands 0 m) (record { now-name = no-name; outer-name = no-name }) (all-made 0 m (all-named m k))
     (no-fault (allFaults (outside []) (commands 0 m)) e)
 
-near : (z : ℤ) → beyond z ≡ false → natAbs z ≤ 16777215
+pub near : (z : ℤ) → beyond z ≡ false → natAbs z ≤ 16777215
 unfolding beyond
 near z e = ltb-false 16777215 (natAbs z) e
 
