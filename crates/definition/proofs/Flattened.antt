@@ -4,7 +4,7 @@ use mathlib.Core.Path.{_≡_, refl, sym, ap, _∙_, subst}
 use mathlib.Core.Bool.{Bool, true, false, _&&_}
 use mathlib.Core.List.{List, [], _∷_, _++_, map}
 use mathlib.Core.Option.{Option, none, some}
-use Prim.Native.Nat.{ℕ, suc, _+_, _≤_}
+use Prim.Native.Nat.{ℕ, _+_, _≤_}
 use native.Mathlib.Omega.{arith}
 use borrow.Author.Tests.{ltb-true, le-leb, leb-true}
 use lib.Dec.{T, ltb, leb}
@@ -33,28 +33,36 @@ stopped≢finished e = subst ended? e tt
     ended? (stopped n p chain) = Unit {0}
     ended? (finished c) = ⊥
 
--- a drawing that finished has at most 1,048,576 shapes
-shapes-bound : (c : Counts) (es : List Event) (c′ : Counts) → c .shapes ≤ 1048576 → ending c es ≡ finished c′ → c .shapes + length (shapesOf es) ≤ 1048576
+-- a drawing that finished from counts c with counts c′ has counted its shapes, at most 1,048,576
+pub record Counted (c : Counts) (es : List Event) (c′ : Counts) : Type 0 where
+  pub is : c .shapes + length (shapesOf es) ≡ c′ .shapes
+  pub limit : c′ .shapes ≤ 1048576
+
+pub shapes-counted : (c : Counts) (es : List Event) (c′ : Counts) → c .shapes ≤ 1048576 → ending c es ≡ finished c′ → Counted c es c′
 unfolding ending counted goOn shapesOf
-shapes-bound c [] c′ h e = omega (arith, h)
-shapes-bound c (drew d ∷ es) c′ h e = go (ltb (c .shapes) 1048576) refl (shapes-bound (counts (c .calls) (c .shapes + 1) (c .redefinitions)) es c′) e
+shapes-counted c [] c′ h e = let q : c ≡ c′ = cc in let z : c .shapes ≡ c′ .shapes = ap (λ (x : Counts). x .shapes) q in record { is = omega arith; limit = omega arith }
+shapes-counted c (drew d ∷ es) c′ h e = go (ltb (c .shapes) 1048576) refl (shapes-counted (counts (c .calls) (c .shapes + 1) (c .redefinitions)) es c′) e
   where
     go : (b : Bool) → ltb (c .shapes) 1048576 ≡ b
-        → (c .shapes + 1 ≤ 1048576 → ending (counts (c .calls) (c .shapes + 1) (c .redefinitions)) es ≡ finished c′ → c .shapes + 1 + length (shapesOf es) ≤ 1048576)
+        → (c .shapes + 1 ≤ 1048576 → ending (counts (c .calls) (c .shapes + 1) (c .redefinitions)) es ≡ finished c′ → Counted (counts (c .calls) (c .shapes + 1) (c .redefinitions)) es c′)
         → goOn (if b then finished (counts (c .calls) (c .shapes + 1) (c .redefinitions)) else stopped 17 (d .place) (d .chain)) (λ x. ending x es) ≡ finished c′
-        → c .shapes + suc (length (shapesOf es)) ≤ 1048576
-    go true t f g = omega (arith, f (omega (arith, ltb-true (c .shapes) 1048576 t)) g)
+        → Counted c (drew d ∷ es) c′
+    go true t f g =
+        let r = f (omega (arith, ltb-true (c .shapes) 1048576 t)) g in
+        let q : c .shapes + 1 + length (shapesOf es) ≡ c′ .shapes = r .is in
+        record { is = unfold shapesOf in omega arith; limit = r .limit }
     go false t f g = absurd (stopped≢finished g)
-shapes-bound c (called p chain d ∷ es) c′ h e = go (ltb (c .calls) 1048576) (shapes-bound (counts (c .calls + 1) (c .shapes) (c .redefinitions)) es c′ h) e
+shapes-counted c (called p chain d ∷ es) c′ h e = go (ltb (c .calls) 1048576) (shapes-counted (counts (c .calls + 1) (c .shapes) (c .redefinitions)) es c′ h) e
   where
-    go : (b : Bool) → (ending (counts (c .calls + 1) (c .shapes) (c .redefinitions)) es ≡ finished c′ → c .shapes + length (shapesOf es) ≤ 1048576)
+    go : (b : Bool)
+        → (ending (counts (c .calls + 1) (c .shapes) (c .redefinitions)) es ≡ finished c′ → Counted (counts (c .calls + 1) (c .shapes) (c .redefinitions)) es c′)
         → goOn (if b then finished (counts (c .calls + 1) (c .shapes) (c .redefinitions)) else stopped 15 p chain) (λ x. ending x es) ≡ finished c′
-        → c .shapes + length (shapesOf es) ≤ 1048576
-    go true f g = f g
+        → Counted c (called p chain d ∷ es) c′
+    go true f g = let r = f g in record { is = unfold shapesOf in r .is; limit = r .limit }
     go false f g = absurd (stopped≢finished g)
-shapes-bound c (entered d before ∷ es) c′ h e = shapes-bound _ es c′ h e
-shapes-bound c (removed n before ∷ es) c′ h e = shapes-bound c es c′ h e
-shapes-bound c (refused n p chain ∷ es) c′ h e = absurd (stopped≢finished e)
+shapes-counted c (entered d before ∷ es) c′ h e = let r = shapes-counted _ es c′ h e in record { is = r .is; limit = r .limit }
+shapes-counted c (removed n before ∷ es) c′ h e = let r = shapes-counted c es c′ h e in record { is = r .is; limit = r .limit }
+shapes-counted c (refused n p chain ∷ es) c′ h e = absurd (stopped≢finished e)
 
 -- what it is to be accepted
 pub record Accepted (m : List Letter) (room : ℕ) (c : Counts) (es : List Event) : Type 0 where
@@ -167,7 +175,7 @@ flattened t m room c es k a = record {
     as-many = sym (length-map plain (r .shapes)) ∙ ap (λ (y : List (List ℕ × Shape ℤ)). length y) (r .says) ∙ length-map plain (shapesOf es)
 
     bound : 0 + length (r .shapes) ≤ 1048576
-    bound = omega (arith, as-many, shapes-bound (counts 0 0 0) es c (omega arith) (a .ended))
+    bound = let n = shapes-counted (counts 0 0 0) es c (omega arith) (a .ended) in omega (arith, as-many, n .is, n .limit)
 
     clear : firstFault (commands 0 (flatLetters (shapesOf es))) ≡ none
     clear = unfold firstFault first in ap (λ (y : List Refusal). first y) (flat-clear (shapesOf es) say good)

@@ -11,7 +11,7 @@ use lib.Dec.{T, ltb}
 use lib.IntN.{ℤ, pos, natAbs}
 use lib.ListN.{length}
 use Rattle.definition.specs.Words.{Point, any}
-use Rattle.definition.specs.Commands.{polygon, Shape}
+use Rattle.definition.specs.Commands.{Shape}
 use Rattle.definition.specs.Faults.{beyond, both, zero?, nowhere, least, emptyShape}
 use Rattle.definition.specs.Drawing.{Drawn, Event}
 use Rattle.definition.specs.Counts.{Counts, shapesOf}
