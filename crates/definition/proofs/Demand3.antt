@@ -7,7 +7,8 @@ use mathlib.Core.List.{List, [], _∷_, _++_, map}
 use Prim.Native.Nat.{ℕ, suc, _+_, _≤_}
 use native.Mathlib.Omega.{arith}
 use lib.Dec.{T}
-use lib.ListN.{length, drop, length-append}
+use lib.ListN.{length, take, drop, length-append}
+use lib.Seq.{take-at, drop-at}
 use Rattle.grammar.specs.Notation.{Letter, dec, has, head, skip, stop}
 use Rattle.grammar.specs.Viable.{bytes, Marked}
 use Rattle.grammar.specs.Tables.{letter}
@@ -19,7 +20,7 @@ use Rattle.definition.specs.Commands.{Kind, box, flash, wire, polygon, C
 use Rattle.definition.specs.Drawing.{Drawn, Event, drew}
 use Rattle.definition.specs.Counts.{Counts, counts, shapesOf}
 use Rattle.definition.specs.Flat.{letterOf, numbersOfShape, flat}
-use Rattle.definition.specs.Answer.{accepted, flatFile, answer, given-back, Answers, Promised}
+use Rattle.definition.specs.Answer.{Outcome, accepted, flatFile, answer, given-back, roomAfter, Answers, Promised}
 use Rattle.definition.proofs.Range.{All, all-++, all-to}
 use Rattle.definition.proofs.Again.{spacedLetters}
 use Rattle.definition.proofs.Reread.{plain, names, ended, lineLetters, lastLetters, saidLetters, linesLetters, flatLetters, Headless, names-headless, spaced-headless}
@@ -227,3 +228,21 @@ demand3 {t} {room} {c} {es} k = record {
       given = unfold given-back in ap (λ (w : List ℕ). answer 0 0 (length w) (counts 0 (c .shapes) 0)) (sym (again .same-bytes));
       kept = unfold flatFile in ap (λ (w : List ℕ). w ++ drop (length w) before) (sym (again .same-bytes));
     }
+
+-- two readings in a row: what the first leaves at the start of its room, if it accepts, the second leaves at the start of its own, and the rest of that
+-- room unchanged
+pub twice : {t room left room′ left′ : List ℕ} {r r′ : Answer} {c : Counts} {es : List Event} (p : Promised t room r left) → p .outcome ≡ accepted c es
+    → r .length ≤ length room′ → Promised (take (r .length) left) room′ r′ left′
+    → (take (r .length) left′ ≡ take (r .length) left) × (drop (r .length) left′ ≡ drop (r .length) room′)
+twice {t} {room} {left} {room′} {left′} {r} {r′} {c} {es} p e h q =
+    let F = flat (shapesOf es) in
+    let d : Demand3 (length room) c (shapesOf es) = demand3 (subst (Answers t (length room)) e (p .answers)) in
+    let back : r ≡ answer 0 0 (length F) c = unfold given-back in (p .given ∙ ap given-back e) in
+    let size : length F ≡ r .length = sym (ap (λ (x : Answer). x .length) back) in
+    let leaves : left ≡ F ++ drop (length F) room = unfold flatFile in (p .kept ∙ ap (λ (o : Outcome). roomAfter o room) e) in
+    let first : take (r .length) left ≡ F = ap (take (r .length)) leaves ∙ take-at F (drop (length F) room) (r .length) size in
+    let second : left′ ≡ F ++ drop (length F) room′ =
+    d .settled room′ left′ r′ (omega (arith, size, h)) (subst (λ (w : List ℕ). Promised w room′ r′ left′) first q) .1 in (
+      ap (take (r .length)) second ∙ take-at F (drop (length F) room′) (r .length) size ∙ sym first,
+      ap (drop (r .length)) second ∙ drop-at F (drop (length F) room′) (r .length) size ∙ ap (λ (n : ℕ). drop n room′) size,
+    )
