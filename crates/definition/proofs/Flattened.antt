@@ -126,12 +126,13 @@ within-room {m} {room} {c} {es} a = leb-true (length (flat (shapesOf es))) room 
 pub within-limit : {m : List Letter} {room : ℕ} {c : Counts} {es : List Event} → Accepted m room c es → length (flat (shapesOf es)) ≤ 16777216
 within-limit {m} {room} {c} {es} a = leb-true (length (flat (shapesOf es))) 16777216 (and-second (leb (length (flat (shapesOf es))) room) _ (a .fits))
 
--- every shape of an accepted text can be said
-pub all-sayable : {t : List ℕ} {m : List Letter} {room : ℕ} {c : Counts} {es : List Event} → Marked t m → Accepted m room c es
-    → All (λ (d : Drawn). Good (d .layer-of) (d .itself) × Within d) (shapesOf es)
-all-sayable {t} {m} k a =
-    subst (λ (y : List Event). All (λ (d : Drawn). Good (d .layer-of) (d .itself) × Within d) (shapesOf y)) (sym (a .is-story))
-    (all-both _ _ _ (λ d g w. (g, w)) (shapesOf (drawingOf (commands 0 m))) (all-good m (k .rule) (a .no-fault)) (shapes-within [] (deeds (outside []) (commands 0 m))))
+-- every shape that commands without a fault draw can be said
+abbrev Fine : Drawn → Type 0
+Fine d = Good (d .layer-of) (d .itself) × Within d
+
+pub all-sayable : {t : List ℕ} {m : List Letter} → Marked t m → firstFault (commands 0 m) ≡ none → All Fine (shapesOf (drawingOf (commands 0 m)))
+all-sayable {t} {m} k e =
+    all-both _ _ Fine (λ d g w. (g, w)) (shapesOf (drawingOf (commands 0 m))) (all-good m (k .rule) e) (shapes-within [] (deeds (outside []) (commands 0 m)))
 
 -- the heart of demand 3, of the shapes ds that an accepted text draws: in every room that holds it their flat file is accepted, with the same shapes,
 -- and its own flat file is itself
@@ -153,11 +154,14 @@ flattened t m room c es k a = record {
   same-bytes = bytes-same;
 }
   where
+    fine : All Fine (shapesOf es)
+    fine = subst (λ (y : List Event). All Fine (shapesOf y)) (sym (a .is-story)) (all-sayable k (a .no-fault))
+
     good : All (λ (d : Drawn). Good (d .layer-of) (d .itself)) (shapesOf es)
-    good = all-to _ _ (λ d g. g .0) (shapesOf es) (all-sayable k a)
+    good = all-to _ _ (λ d g. g .0) (shapesOf es) fine
 
     say : All Sayable (shapesOf es)
-    say = all-to _ _ (λ d g. sayable d (g .0) (g .1)) (shapesOf es) (all-sayable k a)
+    say = all-to _ _ (λ d g. sayable d (g .0) (g .1)) (shapesOf es) fine
 
     marked : Marked (flat (shapesOf es)) (flatLetters (shapesOf es))
     marked = flat-marked (shapesOf es) (all-to _ _ spelt (shapesOf es) good)

@@ -4,18 +4,21 @@
 use mathlib.Core.Path.{_≡_, refl, sym, ap, _∙_, subst}
 use mathlib.Core.Bool.{Bool, true, false, _||_}
 use mathlib.Core.List.{List, [], _∷_}
+use mathlib.Core.Option.{none}
 use Prim.Native.Nat.{ℕ, _≤_, _<_}
 use native.Mathlib.Omega.{arith}
 use borrow.Author.Tests.{ltb-false, eqb-false, eq-eqb}
 use lib.Dec.{T, ltb}
 use lib.IntN.{ℤ, pos, natAbs}
 use lib.ListN.{length}
+use Rattle.grammar.specs.Notation.{Letter}
+use Rattle.grammar.specs.Viable.{Marked}
 use Rattle.definition.specs.Words.{Point, any}
-use Rattle.definition.specs.Commands.{Shape}
-use Rattle.definition.specs.Faults.{beyond, both, zero?, nowhere, least, emptyShape}
+use Rattle.definition.specs.Commands.{Shape, commands}
+use Rattle.definition.specs.Faults.{beyond, both, zero?, nowhere, least, emptyShape, firstFault}
 use Rattle.definition.specs.Drawing.{Drawn, Event}
 use Rattle.definition.specs.Counts.{Counts, shapesOf}
-use Rattle.definition.specs.Answer.{accepted, Answers}
+use Rattle.definition.specs.Answer.{accepted, drawingOf, Answers}
 use Rattle.definition.proofs.Range.{All, all-to, Within}
 use Rattle.definition.proofs.Sizes.{Fits, Fits₂}
 use Rattle.definition.proofs.Shapes.{Formed, a-box, a-flash, a-wire, a-polygon}
@@ -112,6 +115,11 @@ sound-by d (g, w) =
       name-chars = s .name-chars;
     }
 
+-- commands of a grammatical text without a fault draw sound shapes, also where the drawing is refused in the end
+pub sound-drawing : {t : List ℕ} {m : List Letter} → Marked t m → firstFault (commands 0 m) ≡ none → All Sound (shapesOf (drawingOf (commands 0 m)))
+sound-drawing {t} {m} k e = all-to _ Sound sound-by (shapesOf (drawingOf (commands 0 m))) (all-sayable k e)
+
 -- every shape that an accepted text draws is sound
 pub all-sound : {t : List ℕ} {room : ℕ} {c : Counts} {es : List Event} → Answers t room (accepted c es) → All Sound (shapesOf es)
-all-sound {t} {room} {c} {es} k = let r = reading k in all-to _ Sound sound-by (shapesOf es) (all-sayable (r .marked) (r .as-read))
+all-sound k =
+    let r = reading k in subst (λ (y : List Event). All Sound (shapesOf y)) (sym (r .as-read .is-story)) (sound-drawing (r .marked) (r .as-read .no-fault))
