@@ -20,7 +20,8 @@ use Rattle.definition.specs.Drawing.{Chain, Drawn, Event, called, drew, 
 use Rattle.definition.specs.Counts.{Counts, counts, End, finished, stopped, counted, goOn, ending, shapesOf}
 use Rattle.definition.specs.Flat.{flat}
 use Rattle.definition.specs.Answer.{Outcome, accepted, rejected, drawingOf, fitted, drawn, outcomeOf, Answers, too-long, not-cif, read}
-use Rattle.definition.proofs.Range.{All, all-to, Within, shapes-within}
+use Rattle.definition.proofs.Range.{All, all-to, Within}
+use Rattle.definition.proofs.Kept.{shapes-within}
 use Rattle.definition.proofs.Reread.{plain, Redrawn, Sayable, flatLetters, flat-redrawn, flat-plain, drawn-shapes, drawn-ending}
 use Rattle.definition.proofs.Spelling.{flat-marked}
 use Rattle.definition.proofs.Said.{Good, all-good, all-both, sayable, spelt, length-map}

@@ -1,6 +1,6 @@
--- What holds of every shape that a step may draw, and is kept by moving, holds of every shape drawn.
+-- What moving makes of every shape that a step may draw holds of every shape drawn: the one walk through the drawing, for any property of shapes.
 -- Assumes nothing.
-use mathlib.Core.Path.{_≡_, refl, sym, ap, _∙_, subst}
+use mathlib.Core.Path.{_≡_, refl}
 use mathlib.Core.Bool.{Bool, true, false}
 use mathlib.Core.List.{List, [], _∷_, _++_, map}
 use mathlib.Core.Option.{Option, none, some}
@@ -8,31 +8,34 @@ use Prim.Native.Nat.{ℕ, zero, suc}
 use lib.Dec.{ltb, eqb}
 use lib.IntN.{ℤ}
 use lib.ListN.{length}
-use Rattle.definition.specs.Words.{if_then_else_, Placed, at, Point, any, those}
+use Rattle.definition.specs.Words.{if_then_else_, Placed, at, any, those}
 use Rattle.definition.specs.Commands.{Shape, Turn, Command, draw, layer, call, start, finish, delete, nothing}
 use Rattle.definition.specs.Standing.{Standing, after}
-use Rattle.definition.specs.Faults.{Refusal, beyond, both, faults, allFaults}
+use Rattle.definition.specs.Faults.{beyond, both, faults, allFaults}
 use Rattle.definition.specs.Turns.{moved}
 use Rattle.definition.specs.Table.{Step, shape, instance, Definition, Table, find, enter, forget}
 use Rattle.definition.specs.Drawing.{stepOf, retained, Deed, output, define, remove, deedOf, deeds, Chain, Drawn, Event, called, drew, entered, removed, refused}
 use Rattle.definition.specs.Drawing.{drawShape, drawStep, drawBody, callFault, unless, drawCall, happens, tableAfter, story}
 use Rattle.definition.specs.Counts.{shapesOf}
-use Rattle.definition.proofs.Range.{All, all-++}
+use Rattle.definition.proofs.Range.{All, all-++, Within}
 use Rattle.definition.proofs.Sizes.{nil-left, nil-right, all-map}
 
-module _ (P : List ℕ → Shape ℤ → Type 0) (moves : (ts : List (Turn ℤ)) (l : List ℕ) (k : Shape ℤ) → P l k → P l (moved ts k)) where
-  unfoldable pub StepP : Step → Type 0
-  StepP (shape l k) = P l k
-  StepP (instance n ts) = Unit {0}
+-- a step draws a shape of which P holds, or a call
+unfoldable pub StepP : (List ℕ → Shape ℤ → Type 0) → Step → Type 0
+StepP P (shape l k) = P l k
+StepP P (instance n ts) = Unit {0}
 
+-- P holds of shapes as they are written, and Q of shapes as they are drawn: moved, with their points within range
+module _ (P Q : List ℕ → Shape ℤ → Type 0)
+    (moves : (ts : List (Turn ℤ)) (l : List ℕ) (k : Shape ℤ) → P l k → any beyond (both (moved ts k .points)) ≡ false → Q l (moved ts k)) where
   abbrev FitSteps : List (Placed Step) → Type 0
-  FitSteps b = All (λ s. StepP (s .what)) b
+  FitSteps b = All (λ s. StepP P (s .what)) b
 
   abbrev FitTable : Table → Type 0
   FitTable t = All (λ d. FitSteps (d .body)) t
 
   unfoldable FitDeed : Deed → Type 0
-  FitDeed (output s) = StepP (s .what)
+  FitDeed (output s) = StepP P (s .what)
   FitDeed (define d) = FitSteps (d .body)
   FitDeed (remove n) = Unit {0}
 
@@ -77,7 +80,7 @@ module _ (P : List ℕ → Shape ℤ → Type 0) (moves : (ts : List (Turn ℤ))
   fit-after t (remove n) x y = fit-those _ t x
 
   unfoldable pub Fitting : Event → Type 0
-  Fitting (drew d) = P (d .layer-of) (d .itself)
+  Fitting (drew d) = Q (d .layer-of) (d .itself)
   Fitting (called p chain d) = Unit {0}
   Fitting (entered d before) = Unit {0}
   Fitting (removed n before) = Unit {0}
@@ -85,14 +88,15 @@ module _ (P : List ℕ → Shape ℤ → Type 0) (moves : (ts : List (Turn ℤ))
 
   fit-shape : (chain : Chain) (net : List (Turn ℤ)) (p : ℕ) (l : List ℕ) (k : Shape ℤ) → P l k → Fitting (drawShape chain net p l k)
   unfolding drawShape Fitting
-  fit-shape chain net p l k x = go (any beyond (both (moved net k .points)))
+  fit-shape chain net p l k x = go (any beyond (both (moved net k .points))) refl
     where
-      go : (b : Bool) → Fitting (if b then refused 16 p chain else drew (record { place = p; chain = chain; net = net; layer-of = l; itself = moved net k }))
-      go true = tt
-      go false = moves net l k x
+      go : (b : Bool) → any beyond (both (moved net k .points)) ≡ b
+          → Fitting (if b then refused 16 p chain else drew (record { place = p; chain = chain; net = net; layer-of = l; itself = moved net k }))
+      go true e = tt
+      go false e = moves net l k x e
 
   module _ (f : ℕ → ℕ → List (Turn ℤ) → List Event) (fits : (p n : ℕ) (ts : List (Turn ℤ)) → All Fitting (f p n ts)) where
-    fit-draw : (chain : Chain) (net : List (Turn ℤ)) (p : ℕ) (s : Step) → StepP s → All Fitting (drawStep f chain net p s)
+    fit-draw : (chain : Chain) (net : List (Turn ℤ)) (p : ℕ) (s : Step) → StepP P s → All Fitting (drawStep f chain net p s)
     unfolding drawStep All StepP
     fit-draw chain net p (shape l k) x = (fit-shape chain net p l k x, tt)
     fit-draw chain net p (instance n ts) x = fits p n ts
@@ -135,7 +139,7 @@ module _ (P : List ℕ → Shape ℤ → Type 0) (moves : (ts : List (Turn ℤ))
   fit-story t (d ∷ ds) x y =
       all-++ Fitting (happens t d) (story (tableAfter t d) ds) (fit-happens t d x (y .0)) (fit-story (tableAfter t d) ds (fit-after t d x (y .0)) (y .1))
 
-  fitting : (es : List Event) → All Fitting es → All (λ (d : Drawn). P (d .layer-of) (d .itself)) (shapesOf es)
+  fitting : (es : List Event) → All Fitting es → All (λ (d : Drawn). Q (d .layer-of) (d .itself)) (shapesOf es)
   unfolding All shapesOf Fitting
   fitting [] x = tt
   fitting (drew d ∷ es) x = (x .0, fitting es (x .1))
@@ -146,7 +150,7 @@ module _ (P : List ℕ → Shape ℤ → Type 0) (moves : (ts : List (Turn ℤ))
 
   -- what stands, and a command that is well made, give such steps and stand so afterwards
   module _ (N : Standing → Type 0) (W : Command → Type 0) (stands : (s : Standing) (c : Command) → N s → W c → N (after c s))
-      (steps : (s : Standing) (p : ℕ) (c : Command) → N s → W c → faults s (at p c) ≡ [] → All StepP (stepOf s c)) where
+      (steps : (s : Standing) (p : ℕ) (c : Command) → N s → W c → faults s (at p c) ≡ [] → All (StepP P) (stepOf s c)) where
     abbrev Ws : List (Placed Command) → Type 0
     Ws cs = All (λ c. W (c .what)) cs
 
@@ -159,10 +163,10 @@ module _ (P : List ℕ → Shape ℤ → Type 0) (moves : (ts : List (Turn ℤ))
             → FitSteps (if b then map (at (c .place)) (stepOf s (c .what)) ++ retained (after (c .what) s) cs else [])
         go true z =
             all-++ _ (map (at (c .place)) (stepOf s (c .what))) _
-            (all-map (λ (t : Placed Step). StepP (t .what)) (at (c .place)) (stepOf s (c .what)) (steps s (c .place) (c .what) x (y .0) (nil-left (faults s c) _ e))) z
+            (all-map (λ (t : Placed Step). StepP P (t .what)) (at (c .place)) (stepOf s (c .what)) (steps s (c .place) (c .what) x (y .0) (nil-left (faults s c) _ e))) z
         go false z = tt
 
-    keep-outputs : (p : ℕ) (b : Bool) (l : List Step) → All StepP l → All FitDeed (if b then [] else map (λ x. output (at p x)) l)
+    keep-outputs : (p : ℕ) (b : Bool) (l : List Step) → All (StepP P) l → All FitDeed (if b then [] else map (λ x. output (at p x)) l)
     unfolding All FitDeed
     keep-outputs p true l x = tt
     keep-outputs p false l x = all-map FitDeed (λ t. output (at p t)) l x
@@ -185,6 +189,38 @@ module _ (P : List ℕ → Shape ℤ → Type 0) (moves : (ts : List (Turn ℤ))
         (keep-deed s (c .place) (c .what) cs x (y .0) (y .1) (nil-left (faults s c) _ e) (nil-right (faults s c) _ e))
         (keep-deeds (after (c .what) s) cs (stands s (c .what) x (y .0)) (y .1) (nil-right (faults s c) _ e))
 
-    pub kept : (s : Standing) (cs : List (Placed Command)) → N s → Ws cs → allFaults s cs ≡ [] → All (λ (d : Drawn). P (d .layer-of) (d .itself)) (shapesOf (story [] (deeds s cs)))
+    pub kept : (s : Standing) (cs : List (Placed Command)) → N s → Ws cs → allFaults s cs ≡ [] → All (λ (d : Drawn). Q (d .layer-of) (d .itself)) (shapesOf (story [] (deeds s cs)))
     unfolding All
     kept s cs x y e = fitting (story [] (deeds s cs)) (fit-story [] (deeds s cs) tt (keep-deeds s cs x y e))
+
+-- ---- of any commands, every point of every shape that is drawn lies within 16,777,215 of zero
+
+all-of : {A : Type 0} (P : A → Type 0) → ((a : A) → P a) → (l : List A) → All P l
+unfolding All
+all-of P f [] = tt
+all-of P f (a ∷ l) = (f a, all-of P f l)
+
+pub shapes-within : (t : Table) (ds : List Deed) → All Within (shapesOf (story t ds))
+unfolding FitDeed
+shapes-within t ds = fitting Any Near moves (story t ds) (fit-story Any Near moves t ds (all-of _ (λ d. any-steps (d .body)) t) (all-of _ any-deed ds))
+  where
+    Any : List ℕ → Shape ℤ → Type 0
+    Any l k = Unit {0}
+
+    Near : List ℕ → Shape ℤ → Type 0
+    Near l k = any beyond (both (k .points)) ≡ false
+
+    moves : (ts : List (Turn ℤ)) (l : List ℕ) (k : Shape ℤ) → Any l k → any beyond (both (moved ts k .points)) ≡ false → Near l (moved ts k)
+    moves ts l k x e = e
+
+    any-step : (s : Step) → StepP Any s
+    any-step (shape l k) = unfold StepP in tt
+    any-step (instance n ts) = unfold StepP in tt
+
+    any-steps : (b : List (Placed Step)) → All (λ (s : Placed Step). StepP Any (s .what)) b
+    any-steps b = all-of _ (λ s. any-step (s .what)) b
+
+    any-deed : (d : Deed) → FitDeed Any Near moves d
+    any-deed (output s) = any-step (s .what)
+    any-deed (define d) = any-steps (d .body)
+    any-deed (remove n) = tt

@@ -29,7 +29,7 @@ abbrev pub tens : ℕ → ℕ
 tens zero = 1
 tens (suc k) = 10 * tens k
 
--- a number below 10 ^ k has at most k digits, or one
+-- a number below 10 ^ k has at most k digits
 pub shortest-length : (n k : ℕ) → 0 < k → n < tens k → length (shortest n) ≤ k
 shortest-length n = by-shortest (λ (n : ℕ) (cs : List ℕ). (k : ℕ) → 0 < k → n < tens k → length cs ≤ k) (λ n l k h b. h) high n
   where

@@ -24,7 +24,7 @@ use Rattle.definition.specs.Drawing.{stepOf, deeds, Drawn, story}
 use Rattle.definition.specs.Counts.{shapesOf}
 use Rattle.definition.specs.Flat.{flat, numbersOfShape}
 use Rattle.definition.specs.Answer.{drawingOf}
-use Rattle.definition.proofs.Range.{All, Within, shapes-within}
+use Rattle.definition.proofs.Range.{All, Within}
 use Rattle.definition.proofs.Sizes
 use Rattle.definition.proofs.Sizes.{Fits, Fits₂, Fit, FitStep, nil-left, nil-right, abs-neg, fit-moved, fit-step, no-fault}
 use Rattle.definition.proofs.Shapes
@@ -143,7 +143,7 @@ stands s finish x y = record { now-name = x .outer-name; outer-name = no-name }
 stands s (delete n) x y = x
 stands s nothing x y = x
 
-good-step : (s : Standing) (p : ℕ) (c : Command) → Stands s → Made c → faults s (at p c) ≡ [] → All (Kept.StepP Good good-moved) (stepOf s c)
+good-step : (s : Standing) (p : ℕ) (c : Command) → Stands s → Made c → faults s (at p c) ≡ [] → All (Kept.StepP Good) (stepOf s c)
 unfolding stepOf All Made Kept.StepP FitStep faults degenerate layerless tooMany partsOf any
 good-step s p (draw w) x y e =
     let e₁ = nil-right (atNumbers 3 beyond (numbersOf (draw w))) _ e in
@@ -182,7 +182,7 @@ good-step s p nothing x y e = tt
 pub all-good : (m : List Letter) → Match cifFile m → firstFault (commands 0 m) ≡ none → All (λ (d : Drawn). Good (d .layer-of) (d .itself)) (shapesOf (drawingOf (commands 0 m)))
 unfolding firstFault
 all-good m k e =
-    Kept.kept Good good-moved Stands Made stands good-step (outside []) (commands 0 m) (record { now-name = no-name; outer-name = no-name }) (all-made 0 m (all-named m k))
+    Kept.kept Good Good (λ ts l k g e. good-moved ts l k g) Stands Made stands good-step (outside []) (commands 0 m) (record { now-name = no-name; outer-name = no-name }) (all-made 0 m (all-named m k))
     (no-fault (allFaults (outside []) (commands 0 m)) e)
 
 pub near : (z : ℤ) → beyond z ≡ false → natAbs z ≤ 16777215
