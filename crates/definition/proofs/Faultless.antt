@@ -3,7 +3,7 @@
 use mathlib.Core.Path.{_≡_, refl, sym, ap, ap₂, _∙_, subst}
 use mathlib.Core.Bool.{Bool, true, false, not, _&&_, _||_}
 use mathlib.Core.List.{List, [], _∷_, _++_, map, flatMap, append-assoc, append-nil}
-use Prim.Native.Nat.{ℕ, zero, suc, _+_, _*_, _%_, _≤_, _<_}
+use Prim.Native.Nat.{ℕ, zero, suc, _+_, _*_, _%_, _<_}
 use native.Mathlib.Omega.{arith}
 use borrow.Author.Tests.{eq-eqb}
 use lib.Dec.{T, ltb, eqb}
@@ -94,10 +94,10 @@ faults-draw n l w g h =
 abbrev Clear : List ℕ → ℕ → List Letter → Type 0
 Clear before n m = allFaults (outside before) (commands n m) ≡ []
 
-layer-clear : (before l : List ℕ) (n : ℕ) (m : List Letter) → length l ≤ 4 → ((k : ℕ) → Clear l k m) → Clear before n (lineLetters 76 (names l) ++ m)
-layer-clear before l n m h f =
+layer-clear : (before l : List ℕ) (n : ℕ) (m : List Letter) → ((k : ℕ) → Clear l k m) → Clear before n (lineLetters 76 (names l) ++ m)
+layer-clear before l n m f =
     let r = line-commands n 76 (names l) m (names-headless l) in
-    ap (allFaults (outside before)) (r .1 ∙ ap (λ (c : Command). at n c ∷ commands (r .0) m) (layer-read n l m h)) ∙ set (commands (r .0) m) ∙ f (r .0)
+    ap (allFaults (outside before)) (r .1 ∙ ap (λ (c : Command). at n c ∷ commands (r .0) m) (layer-read n l m)) ∙ set (commands (r .0) m) ∙ f (r .0)
   where
     set : (cs : List (Placed Command)) → allFaults (outside before) (at n (layer l) ∷ cs) ≡ allFaults (outside l) cs
     set cs = unfold allFaults faults after atNumbers those numbersOf distances partsOf flatMap zeroScale degenerate layerless tooMany any in refl
@@ -131,7 +131,7 @@ said-clear before d n m s g f = go (same before (d .layer-of)) refl
         subst (λ (l : List ℕ). Clear l n (own ++ m)) (sym q) (shape-clear d n m s g f)
     go false e =
         subst (λ (x : List Letter). Clear before n x) (sym (append-assoc (lineLetters 76 (names (d .layer-of))) own m))
-        (layer-clear before (d .layer-of) n (own ++ m) (s .short) (λ k. shape-clear d k m s g f))
+        (layer-clear before (d .layer-of) n (own ++ m) (λ k. shape-clear d k m s g f))
 
 lines-clear : (before : List ℕ) (ds : List Drawn) → All Sayable ds → All (λ (d : Drawn). Good (d .layer-of) (d .itself)) ds → (n : ℕ) → Clear before n (linesLetters before ds ++ lastLetters)
 unfolding linesLetters All

@@ -4,21 +4,21 @@ use mathlib.Core.Path.{_≡_, refl, sym, ap, _∙_, subst}
 use mathlib.Core.Bool.{Bool, true, false, _&&_, _||_}
 use mathlib.Core.List.{List, [], _∷_, _++_}
 use mathlib.Core.Logic.{_⊎_, inl, inr}
-use Prim.Native.Nat.{ℕ, zero, suc, _+_, _≤_, _<_}
+use Prim.Native.Nat.{ℕ, _+_, _≤_, _<_}
 use native.Mathlib.Omega.{arith}
 use lib.Dec.{T}
-use lib.IntN.{ℤ, pos, natAbs}
-use lib.ListN.{length, take, drop}
+use lib.ListN.{length}
 use Rattle.grammar.specs.Notation.{Expression, one, _▹_, _∣_, many, option, commentText, Class, Role, Letter, Match, char, both, left, right, none, more, absent, present, text, dec, has}
 use Rattle.grammar.specs.Notation.{Role-discrete, Digit, Upper, Blank, User, Comment, '-', lpar, rpar, semicolon, 'B', 'C', 'D', 'E', 'F', 'L', 'M', 'P', 'R', 'S', 'T', 'W', 'X', 'Y'}
 use Rattle.grammar.specs.Notation.{skip, head, second, turn, axis, sign, lead, later, name, stop}
 use Rattle.grammar.specs.Productions.{cifFile}
 use Rattle.grammar.proofs.Tests.{and-left, and-right}
-use Rattle.definition.specs.Words.{if_then_else_, Placed, at, Point, point}
-use Rattle.definition.specs.Commands.{Kind, box, flash, wire, polygon, Shape, Number, Command, draw, layer, call, start, finish, delete, nothing}
-use Rattle.definition.specs.Commands.{numbers, nth, unsigned, paired, next, named, turns, commandAt, commands, _plays_, _is_}
+use Rattle.definition.specs.Words.{if_then_else_, Placed, at, Point}
+use Rattle.definition.specs.Commands.{box, flash, wire, polygon, Shape, Number, Command, draw, layer, call, start, finish, delete, nothing}
+use Rattle.definition.specs.Commands.{numbers, paired, next, named, commandAt, commands, _plays_, _is_}
 use Rattle.definition.proofs.Range.{All, all-++}
 use Rattle.definition.proofs.Spelling.{NameChar}
+use Rattle.definition.proofs.Course.{Natural, Begun, Heads, matched-heads, box-brings, flash-brings, wire-brings, call-brings, start-brings, delete-brings}
 
 -- ---- the characters of names
 
@@ -130,23 +130,12 @@ named-chars (l ∷ m) h = go (l plays stop) (l plays name) (h .0) (named-chars m
     go false true f x = (f refl, x)
     go false false f x = x
 
-take-chars : (n : ℕ) (l : List ℕ) → All NameChar l → All NameChar (take n l)
-unfolding All
-take-chars zero l x = tt
-take-chars (suc n) [] x = tt
-take-chars (suc n) (a ∷ l) x = (x .0, take-chars n l (x .1))
-
-take-short : (n : ℕ) (l : List ℕ) → length (take n l) ≤ n
-take-short zero l = omega arith
-take-short (suc n) [] = omega arith
-take-short (suc n) (a ∷ l) = omega (arith, take-short n l)
-
 -- ---- shapes
 
 pub data Drafted : Shape Number → Type 0 where
-  a-box : (a b : Number) (c d : Point Number) → Drafted (record { kind = box; sizes = unsigned a ∷ unsigned b ∷ []; points = c ∷ []; directions = d ∷ [] })
-  a-flash : (a : Number) (c : Point Number) → Drafted (record { kind = flash; sizes = unsigned a ∷ []; points = c ∷ []; directions = [] })
-  a-wire : (a : Number) (ps : List (Point Number)) → Drafted (record { kind = wire; sizes = unsigned a ∷ []; points = ps; directions = [] })
+  a-box : {a b : Number} (c d : Point Number) → Natural a → Natural b → Drafted (record { kind = box; sizes = a ∷ b ∷ []; points = c ∷ []; directions = d ∷ [] })
+  a-flash : {a : Number} (c : Point Number) → Natural a → Drafted (record { kind = flash; sizes = a ∷ []; points = c ∷ []; directions = [] })
+  a-wire : {a : Number} (ps : List (Point Number)) → Natural a → Drafted (record { kind = wire; sizes = a ∷ []; points = ps; directions = [] })
   a-polygon : (ps : List (Point Number)) → Drafted (record { kind = polygon; sizes = []; points = ps; directions = [] })
 
 pub record Name (l : List ℕ) : Type 0 where
@@ -155,35 +144,42 @@ pub record Name (l : List ℕ) : Type 0 where
 
 unfoldable pub Made : Command → Type 0
 Made (draw w) = Drafted w
-Made (layer l) = Name l
-Made (call n ts) = Unit {0}
-Made (start n a b) = Unit {0}
+Made (layer l) = (0 < length l) × Name l
+Made (call n ts) = Natural n
+Made (start n a b) = Natural n × (Natural a × Natural b)
 Made finish = Unit {0}
-Made (delete n) = Unit {0}
+Made (delete n) = Natural n
 Made nothing = Unit {0}
 
-either : (P : Command → Type 0) (b : Bool) (c d : Command) → P c → P d → P (if b then c else d)
-either P true c d x y = x
-either P false c d x y = y
+either : (b : Bool) (c d : Command) → (b ≡ true → Made c) → Made d → Made (if b then c else d)
+either true c d x y = x refl
+either false c d x y = y
 
-made : (n : ℕ) (l : Letter) (m : List Letter) → All Named m → Made (commandAt n l m)
+made : (n : ℕ) (l : Letter) (m : List Letter) → All Named m → Begun l m → Made (commandAt n l m)
 unfolding commandAt Made
-made n l m h =
+made n l m h g =
     let ns = numbers (n + 1) false m in
-    either Made (l is 'P') _ _ (a-polygon (paired ns))
-    (either Made (l is 'B') _ _ (a-box (nth n ns (pos 0) 0) (nth n ns (pos 0) 1) _ _)
-    (either Made (l is 'R') _ _ (a-flash (nth n ns (pos 0) 0) _)
-    (either Made (l is 'W') _ _ (a-wire (nth n ns (pos 0) 0) _)
-    (either Made (l is 'L') _ _ (record { short = take-short 4 (named m); chars = take-chars 4 (named m) (named-chars m h) })
-    (either Made (l is 'C') _ _ tt
-    (either Made (l is 'D') _ _ (either Made (next second m is 'S') _ _ tt (either Made (next second m is 'D') _ _ tt tt)) tt))))))
+    either (l is 'P') _ _ (λ e. a-polygon (paired ns))
+    (either (l is 'B') _ _ (λ e. let f = g .sized box-brings e (n + 1) in a-box _ _ (f .plain 0 n 0 (omega arith)) (f .plain 1 n 0 (omega arith)))
+    (either (l is 'R') _ _ (λ e. a-flash _ (g .sized flash-brings e (n + 1) .plain 0 n 0 (omega arith)))
+    (either (l is 'W') _ _ (λ e. a-wire _ (g .sized wire-brings e (n + 1) .plain 0 n 0 (omega arith)))
+    (either (l is 'L') _ _ (λ e. (g .some-name e, record { short = g .short-name e; chars = named-chars m h }))
+    (either (l is 'C') _ _ (λ e. g .sized call-brings e (n + 1) .plain 0 n 0 (omega arith))
+    (either (l is 'D') _ _
+    (λ e. either (next second m is 'S') _ _
+    (λ s. let f = g .defined start-brings e s (n + 1) in (f .plain 0 n 0 (omega arith), (f .plain 1 n 1 (omega arith), f .plain 2 n 1 (omega arith))))
+    (either (next second m is 'D') _ _ (λ s. g .defined delete-brings e s (n + 1) .plain 0 n 0 (omega arith)) tt))
+    tt))))))
 
-pub all-made : (n : ℕ) (m : List Letter) → All Named m → All (λ (c : Placed Command). Made (c .what)) (commands n m)
-unfolding commands All
-all-made n [] h = tt
-all-made n (l ∷ m) h = go (l plays head) (all-made (n + 1) m (h .1))
+made-from : (n : ℕ) (m : List Letter) → All Named m → Heads m → All (λ (c : Placed Command). Made (c .what)) (commands n m)
+unfolding commands All Heads
+made-from n [] h g = tt
+made-from n (l ∷ m) h g = go (l plays head) (g .0) (made-from (n + 1) m (h .1) (g .1))
   where
-    go : (b : Bool) → All (λ (c : Placed Command). Made (c .what)) (commands (n + 1) m)
+    go : (b : Bool) → (b ≡ true → Begun l m) → All (λ (c : Placed Command). Made (c .what)) (commands (n + 1) m)
         → All (λ (c : Placed Command). Made (c .what)) (if b then at n (commandAt n l m) ∷ commands (n + 1) m else commands (n + 1) m)
-    go true x = (made n l m (h .1), x)
-    go false x = x
+    go true f x = (made n l m (h .1) (f refl), x)
+    go false f x = x
+
+pub all-made : {m : List Letter} → Match cifFile m → All (λ (c : Placed Command). Made (c .what)) (commands 0 m)
+all-made {m} k = made-from 0 m (all-named m k) (matched-heads k)

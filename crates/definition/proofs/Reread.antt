@@ -7,8 +7,7 @@ use Prim.Native.Nat.{ℕ, zero, suc, _+_, _≤_, _<_}
 use native.Mathlib.Omega.{arith}
 use borrow.Author.Tests.{le-ltb, lt-ltb}
 use lib.IntN.{ℤ, pos, negsuc, natAbs}
-use lib.ListN.{length, take}
-use lib.Seq.{take-all}
+use lib.ListN.{length}
 use lib.Dec.{T, ltb}
 use Rattle.grammar.specs.Notation.{Letter, dec, Role-discrete, has, skip, head, sign, lead, later, name, stop}
 use Rattle.grammar.specs.Viable.{bytes}
@@ -137,10 +136,10 @@ unfolding named dec
 names-read [] m = refl
 names-read (a ∷ l) m = ap (λ (x : List ℕ). a ∷ x) (names-read l m)
 
-pub layer-read : (n : ℕ) (l : List ℕ) (m : List Letter) → length l ≤ 4 → commandAt n (letter 76 head) (names l ++ ended m) ≡ layer l
-layer-read n l m h = begun ∙ ap (λ (x : List ℕ). layer (take 4 x)) (names-read l m) ∙ ap (λ (x : List ℕ). layer x) (take-all 4 l h)
+pub layer-read : (n : ℕ) (l : List ℕ) (m : List Letter) → commandAt n (letter 76 head) (names l ++ ended m) ≡ layer l
+layer-read n l m = begun ∙ ap (λ (x : List ℕ). layer x) (names-read l m)
   where
-    begun : commandAt n (letter 76 head) (names l ++ ended m) ≡ layer (take 4 (named (names l ++ ended m)))
+    begun : commandAt n (letter 76 head) (names l ++ ended m) ≡ layer (named (names l ++ ended m))
     begun = unfold commandAt has in refl
 
 -- ---- what it draws
@@ -157,7 +156,6 @@ InRange (z ∷ zs) = (natAbs z ≤ 16777215) × InRange zs
 pub record Sayable (d : Drawn) : Type 0 where
   pub formed : Formed (d .itself)
   pub in-range : InRange (numbersOfShape (d .itself))
-  pub short : length (d .layer-of) ≤ 4
 
 pub range-right : (a b : List ℤ) → InRange (a ++ b) → InRange b
 unfolding InRange
@@ -199,10 +197,10 @@ again t before n m = story t (deeds (outside before) (commands n m))
 abbrev from : Table → List ℕ → List (Placed Command) → List Event
 from t before cs = story t (deeds (outside before) cs)
 
-layer-line : (t : Table) (before l : List ℕ) (n : ℕ) (m : List Letter) → length l ≤ 4 → (k : ℕ) × (again t before n (lineLetters 76 (names l) ++ m) ≡ again t l k m)
-layer-line t before l n m h =
+layer-line : (t : Table) (before l : List ℕ) (n : ℕ) (m : List Letter) → (k : ℕ) × (again t before n (lineLetters 76 (names l) ++ m) ≡ again t l k m)
+layer-line t before l n m =
     let r = line-commands n 76 (names l) m (names-headless l) in
-    (r .0, ap (from t before) (r .1 ∙ ap (λ (c : Command). at n c ∷ commands (r .0) m) (layer-read n l m h)) ∙ set (commands (r .0) m))
+    (r .0, ap (from t before) (r .1 ∙ ap (λ (c : Command). at n c ∷ commands (r .0) m) (layer-read n l m)) ∙ set (commands (r .0) m))
   where
     set : (cs : List (Placed Command)) → from t before (at n (layer l) ∷ cs) ≡ from t l cs
     set cs = unfold deeds deedOf after in refl
@@ -243,7 +241,7 @@ said-again t before d n m g = go (same before (d .layer-of)) refl
         let r = shape-line t d n m g in
         (n, r .0, ap (λ (l : List ℕ). again t l n (own ++ m)) q ∙ r .1)
     go false e =
-        let r = layer-line t before (d .layer-of) n (own ++ m) (g .short) in
+        let r = layer-line t before (d .layer-of) n (own ++ m) in
         let r′ = shape-line t d (r .0) m g in
         (r .0, r′ .0, ap (λ (x : List Letter). again t before n x) (append-assoc (lineLetters 76 (names (d .layer-of))) own m) ∙ r .1 ∙ r′ .1)
 

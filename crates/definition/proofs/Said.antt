@@ -31,8 +31,9 @@ use Rattle.definition.proofs.Shapes
 use Rattle.definition.proofs.Shapes.{Formed}
 use Rattle.definition.proofs.Reread.{InRange, Sayable, again, plain, Redrawn, flatLetters, flat-redrawn}
 use Rattle.definition.proofs.Spelling.{NameChar, Spelt, flat-marked}
+use Rattle.definition.proofs.Course.{natural}
 use Rattle.definition.proofs.Made
-use Rattle.definition.proofs.Made.{Drafted, Name, Made, all-named, all-made}
+use Rattle.definition.proofs.Made.{Drafted, Name, Made, all-made}
 use Rattle.definition.proofs.Kept
 
 pub record Good (l : List ℕ) (k : Shape ℤ) : Type 0 where
@@ -120,9 +121,9 @@ or-first false b e = refl
 
 formed-scaled : (s : Standing) (w : Shape Number) → Drafted w → Formed (scaledShape s w)
 unfolding scaledShape scaled
-formed-scaled s w (Made.a-box a b c d) = Shapes.a-box _ _ _ _
-formed-scaled s w (Made.a-flash a c) = Shapes.a-flash _ _
-formed-scaled s w (Made.a-wire a ps) = Shapes.a-wire _ _
+formed-scaled s w (Made.a-box c d (natural p a) (natural q b)) = Shapes.a-box _ _ _ _
+formed-scaled s w (Made.a-flash c (natural p a)) = Shapes.a-flash _ _
+formed-scaled s w (Made.a-wire ps (natural p a)) = Shapes.a-wire _ _
 formed-scaled s w (Made.a-polygon ps) = Shapes.a-polygon _
 
 -- the layers that stand are names, or none
@@ -137,7 +138,7 @@ stands : (s : Standing) (c : Command) → Stands s → Made c → Stands (after 
 unfolding after Made
 stands s (draw k) x y = x
 stands s (call n ts) x y = x
-stands s (layer l) x y = record { now-name = y; outer-name = x .outer-name }
+stands s (layer l) x y = record { now-name = y .1; outer-name = x .outer-name }
 stands s (start n a b) x y = record { now-name = no-name; outer-name = x .now-name }
 stands s finish x y = record { now-name = x .outer-name; outer-name = no-name }
 stands s (delete n) x y = x
@@ -182,7 +183,7 @@ good-step s p nothing x y e = tt
 pub all-good : (m : List Letter) → Match cifFile m → firstFault (commands 0 m) ≡ none → All (λ (d : Drawn). Good (d .layer-of) (d .itself)) (shapesOf (drawingOf (commands 0 m)))
 unfolding firstFault
 all-good m k e =
-    Kept.kept Good Good (λ ts l k g e. good-moved ts l k g) Stands Made stands good-step (outside []) (commands 0 m) (record { now-name = no-name; outer-name = no-name }) (all-made 0 m (all-named m k))
+    Kept.kept Good Good (λ ts l k g e. good-moved ts l k g) Stands Made stands good-step (outside []) (commands 0 m) (record { now-name = no-name; outer-name = no-name }) (all-made k)
     (no-fault (allFaults (outside []) (commands 0 m)) e)
 
 pub near : (z : ℤ) → beyond z ≡ false → natAbs z ≤ 16777215
@@ -228,7 +229,6 @@ sayable d g w = record {
   formed = g .formed;
   in-range = range-++ (d .itself .sizes) _ (sizes-near (d .itself .sizes) (g .fit .0))
       (range-++ (both (d .itself .points)) _ (points-near (both (d .itself .points)) w) (directions-near (d .itself .directions) (g .fit .1)));
-  short = g .a-name .short;
 }
 
 pub spelt : (d : Drawn) → Good (d .layer-of) (d .itself) → Spelt d

@@ -5,12 +5,12 @@ use mathlib.Core.Bool.{Bool, true, false}
 use mathlib.Core.List.{List, [], _∷_, _++_, map}
 use Prim.Native.Nat.{ℕ, zero, suc, _+_, _*_, _/_, _%_}
 use native.Mathlib.Omega.{arith}
-use lib.IntN.{ℤ, pos, negsuc, negℤ, natAbs}
+use lib.IntN.{ℤ, pos, negsuc, negℤ}
 use lib.ListN.{length, getD, drop, List·getD-map}
 use Rattle.grammar.specs.Notation.{Letter, has, head, stop}
 use Rattle.grammar.specs.Tables.{letter}
 use Rattle.definition.specs.Words.{if_then_else_, Placed, at, Point, point}
-use Rattle.definition.specs.Commands.{Kind, box, flash, wire, polygon, Shape, Number, Command, draw, numbers, nth, unsigned, paired, commandAt}
+use Rattle.definition.specs.Commands.{Kind, box, flash, wire, polygon, Shape, Number, Command, draw, numbers, nth, paired, commandAt}
 use Rattle.definition.specs.Standing.{outside, given, scaled, scaledPoint, scaledShape}
 use Rattle.definition.specs.Faults.{both}
 use Rattle.definition.specs.Flat.{letterOf, numbersOfShape}
@@ -62,11 +62,11 @@ shape-read n k (a-box a b c d) l m e =
     let v : values ns ≡ pos a ∷ pos b ∷ c .x ∷ c .y ∷ d .x ∷ d .y ∷ [] = spaced-read (n + 1) (numbersOfShape k) l m e in
     let nr : ℕ → Number = nth n ns (pos 0) in
     let at-i : (z : ℤ) (i : ℕ) → nth n ns z i .what ≡ getD (pos a ∷ pos b ∷ c .x ∷ c .y ∷ d .x ∷ d .y ∷ []) i z = λ z i. nth-value n ns z i ∙ ap (λ (zs : List ℤ). getD zs i z) v in (
-      record { kind = box; sizes = unsigned (nr 0) ∷ unsigned (nr 1) ∷ []; points = point (nr 2) (nr 3) ∷ []; directions = point (nth n ns (pos 1) 4) (nr 5) ∷ [] },
+      record { kind = box; sizes = nr 0 ∷ nr 1 ∷ []; points = point (nr 2) (nr 3) ∷ []; directions = point (nth n ns (pos 1) 4) (nr 5) ∷ [] },
       unfold commandAt has in refl,
       λ i. record {
         kind = box;
-        sizes = pos (natAbs (at-i (pos 0) 0 i)) ∷ pos (natAbs (at-i (pos 0) 1 i)) ∷ [];
+        sizes = at-i (pos 0) 0 i ∷ at-i (pos 0) 1 i ∷ [];
         points = point (at-i (pos 0) 2 i) (at-i (pos 0) 3 i) ∷ [];
         directions = point (at-i (pos 1) 4 i) (at-i (pos 0) 5 i) ∷ [];
       },
@@ -76,9 +76,9 @@ shape-read n k (a-flash a c) l m e =
     let v : values ns ≡ pos a ∷ c .x ∷ c .y ∷ [] = spaced-read (n + 1) (numbersOfShape k) l m e in
     let nr : ℕ → Number = nth n ns (pos 0) in
     let at-i : (i : ℕ) → nr i .what ≡ getD (pos a ∷ c .x ∷ c .y ∷ []) i (pos 0) = λ i. nth-value n ns (pos 0) i ∙ ap (λ (zs : List ℤ). getD zs i (pos 0)) v in (
-      record { kind = flash; sizes = unsigned (nr 0) ∷ []; points = point (nr 1) (nr 2) ∷ []; directions = [] },
+      record { kind = flash; sizes = nr 0 ∷ []; points = point (nr 1) (nr 2) ∷ []; directions = [] },
       unfold commandAt has in refl,
-      λ i. record { kind = flash; sizes = pos (natAbs (at-i 0 i)) ∷ []; points = point (at-i 1 i) (at-i 2 i) ∷ []; directions = [] },
+      λ i. record { kind = flash; sizes = at-i 0 i ∷ []; points = point (at-i 1 i) (at-i 2 i) ∷ []; directions = [] },
     )
 shape-read n k (a-wire a ps) l m e =
     let ns = numbers (n + 1) false (spacedLetters (numbersOfShape k) ++ l ∷ m) in
@@ -87,9 +87,9 @@ shape-read n k (a-wire a ps) l m e =
     let first : nr 0 .what ≡ pos a = nth-value n ns (pos 0) 0 ∙ ap (λ (zs : List ℤ). getD zs 0 (pos 0)) v in
     let path : map given (paired (drop 1 ns)) ≡ ps =
     paired-values (drop 1 ns) ∙ ap (λ (zs : List ℤ). pairs zs) (drop-values ns ∙ ap (λ (zs : List ℤ). drop 1 zs) v) ∙ pairs-both ps in (
-      record { kind = wire; sizes = unsigned (nr 0) ∷ []; points = paired (drop 1 ns); directions = [] },
+      record { kind = wire; sizes = nr 0 ∷ []; points = paired (drop 1 ns); directions = [] },
       unfold commandAt has in refl,
-      λ i. record { kind = wire; sizes = pos (natAbs (first i)) ∷ []; points = path i; directions = [] },
+      λ i. record { kind = wire; sizes = first i ∷ []; points = path i; directions = [] },
     )
 shape-read n k (a-polygon ps) l m e =
     let ns = numbers (n + 1) false (spacedLetters (numbersOfShape k) ++ l ∷ m) in

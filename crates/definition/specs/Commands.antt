@@ -3,8 +3,8 @@
 use mathlib.Core.Bool.{Bool, true, false, _||_}
 use mathlib.Core.List.{List, [], _∷_}
 use Prim.Native.Nat.{ℕ, _+_, _-_, _*_}
-use lib.IntN.{ℤ, pos, negℤ, natAbs}
-use lib.ListN.{getD, take, drop}
+use lib.IntN.{ℤ, pos, negℤ}
+use lib.ListN.{getD, drop}
 use Rattle.grammar.specs.Notation.{Class, has, 'B', 'C', 'D', 'F', 'L', 'P', 'R', 'S', 'T', 'W', 'X'}
 use Rattle.grammar.specs.Notation.{Role, Role-discrete, Letter, dec, head, second, turn, axis, sign, lead, later, name, stop}
 use Rattle.definition.specs.Words.{if_then_else_, Placed, at, Point, point}
@@ -70,10 +70,6 @@ numbers n minus (l ∷ m) =
 abbrev pub nth : ℕ → List Number → ℤ → ℕ → Number
 nth n ns z i = getD ns i (at n z)
 
--- 7.1.2, Numbers: lengths, widths, diameters and symbol numbers are unsigned
-abbrev pub unsigned : Number → Number
-unsigned d = at (d .place) (pos (natAbs (d .what)))
-
 -- two numbers make a point
 unfoldable pub paired : List Number → List (Point Number)
 paired [] = []
@@ -105,19 +101,17 @@ turns n (l ∷ m) =
     let rest = turns (n + 1) m in
     if l plays stop then [] else if l plays turn then turnAt n l m ∷ rest else rest
 
--- the command that the letter l at place n begins, before the letters m. A box's direction defaults to (1, 0), and a and b to 1 (7.1.1);
--- a layer name has at most 4 characters (01)
+-- the command that the letter l at place n begins, before the letters m. A box's direction defaults to (1, 0), and a and b to 1 (7.1.1)
 unfoldable pub commandAt : ℕ → Letter → List Letter → Command
 commandAt n l m =
     let ns = numbers (n + 1) false m in
     let nr : ℕ → Number = nth n ns (pos 0) in
     let nr₁ : ℕ → Number = nth n ns (pos 1) in
-    let size : ℕ → Number = λ i. unsigned (nr i) in
     if l is 'P' then draw (shapeOf polygon [] (paired ns) [])
-    else if l is 'B' then draw (shapeOf box (size 0 ∷ size 1 ∷ []) (point (nr 2) (nr 3) ∷ []) (point (nr₁ 4) (nr 5) ∷ []))
-    else if l is 'R' then draw (shapeOf flash (size 0 ∷ []) (point (nr 1) (nr 2) ∷ []) [])
-    else if l is 'W' then draw (shapeOf wire (size 0 ∷ []) (paired (drop 1 ns)) [])
-    else if l is 'L' then layer (take 4 (named m))
+    else if l is 'B' then draw (shapeOf box (nr 0 ∷ nr 1 ∷ []) (point (nr 2) (nr 3) ∷ []) (point (nr₁ 4) (nr 5) ∷ []))
+    else if l is 'R' then draw (shapeOf flash (nr 0 ∷ []) (point (nr 1) (nr 2) ∷ []) [])
+    else if l is 'W' then draw (shapeOf wire (nr 0 ∷ []) (paired (drop 1 ns)) [])
+    else if l is 'L' then layer (named m)
     else if l is 'C' then call (nr 0) (turns (n + 1) m)
     else if l is 'D' then (if next second m is 'S' then start (nr 0) (nr₁ 1) (nr₁ 2) else if next second m is 'D' then delete (nr 0) else finish)
     else nothing

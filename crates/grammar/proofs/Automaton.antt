@@ -56,7 +56,7 @@ alike-all a b t 'X' = alike-at classes a b t 21 Digit (omega arith)
 alike-all a b t 'Y' = alike-at classes a b t kindCount Digit (omega arith)
 
 -- the byte that stands for a byte's kind
-pub stand : ℕ → ℕ
+unfoldable pub stand : ℕ → ℕ
 stand k = getD samples k 0
 
 kind-test : (a : ℕ) → a < 256 → T (kindFits a (kindOf a))
@@ -67,7 +67,7 @@ pub kind-below : (a : ℕ) → a < 256 → kindOf a < kindCount
 unfolding kindFits
 kind-below a h = ltb→lt (kindOf a) kindCount (and-left (ltb (kindOf a) kindCount) (alike classes a (getD samples (kindOf a) 0)) (kind-test a h))
 
-agree : (a : ℕ) → a < 256 → (c : Class) → has c a ≡ has c (stand (kindOf a))
+pub agree : (a : ℕ) → a < 256 → (c : Class) → has c a ≡ has c (stand (kindOf a))
 unfolding kindFits stand
 agree a h = alike-all a (getD samples (kindOf a) 0) (and-right (ltb (kindOf a) kindCount) (alike classes a (getD samples (kindOf a) 0)) (kind-test a h))
 

@@ -59,26 +59,26 @@ crossing q k hq hk n =
         }
 
 -- outside comments the state is the entry's, and within them it stays
-entered-inside : (x : ℕ) (i s t : Bool) → (choose s (mode x 0) (choose t (mode stuck 0) (mode (x - deep) 1)) .state ≡ stuck → ⊥)
-    → inside (choose s x (x - deep)) ≡ i → inside (choose s (mode x 0) (choose t (mode stuck 0) (mode (x - deep) 1)) .state) ≡ i
-entered-inside x i true t n h = h
-entered-inside x i false true n h = absurd (n refl)
-entered-inside x i false false n h = h
+pub entered-at : (P : ℕ → Type 0) (x : ℕ) (s t : Bool) → (choose s (mode x 0) (choose t (mode stuck 0) (mode (x - deep) 1)) .state ≡ stuck → ⊥)
+    → P (choose s x (x - deep)) → P (choose s (mode x 0) (choose t (mode stuck 0) (mode (x - deep) 1)) .state)
+entered-at P x true t n h = h
+entered-at P x false true n h = absurd (n refl)
+entered-at P x false false n h = h
 
 entered-stuck : (x : ℕ) (s t : Bool) → eqb x stuck ≡ t → x ≡ stuck → choose s (mode x 0) (choose t (mode stuck 0) (mode (x - deep) 1)) .state ≡ stuck
 entered-stuck x true t f h = h
 entered-stuck x false true f h = refl
 entered-stuck x false false f h = absurd (let g = eq-eqb x stuck h in let z : _≡_ {A = ℕ} 0 1 = cc in omega arith)
 
-within-inside : (q d : ℕ) (s t u : Bool) → (choose s (mode q (d + 1)) (choose t (mode q (d - 1)) (choose u (mode stuck 0) (mode q d))) .state ≡ stuck → ⊥)
-    → inside (choose s (mode q (d + 1)) (choose t (mode q (d - 1)) (choose u (mode stuck 0) (mode q d))) .state) ≡ inside q
-within-inside q d true t u n = refl
-within-inside q d false true u n = refl
-within-inside q d false false true n = absurd (n refl)
-within-inside q d false false false n = refl
+pub within-at : (P : ℕ → Type 0) (q d : ℕ) (s t u : Bool) → (choose s (mode q (d + 1)) (choose t (mode q (d - 1)) (choose u (mode stuck 0) (mode q d))) .state ≡ stuck → ⊥)
+    → P q → P (choose s (mode q (d + 1)) (choose t (mode q (d - 1)) (choose u (mode stuck 0) (mode q d))) .state)
+within-at P q d true t u n h = h
+within-at P q d false true u n h = h
+within-at P q d false false true n h = absurd (n refl)
+within-at P q d false false false n h = h
 
 module _ (q b : ℕ) (hq : q < stateCount) (hb : b < 256) where
-  live-next : (modeAfter q 0 b .state ≡ stuck → ⊥) → nextOf q (kindOf b) ≡ stuck → ⊥
+  pub live-next : (modeAfter q 0 b .state ≡ stuck → ⊥) → nextOf q (kindOf b) ≡ stuck → ⊥
   unfolding modeAfter
   live-next n e = n (entered-stuck (nextOf q (kindOf b)) (ltb (nextOf q (kindOf b)) deep) (eqb (nextOf q (kindOf b)) stuck) refl e)
 
@@ -87,13 +87,13 @@ module _ (q b : ℕ) (hq : q < stateCount) (hb : b < 256) where
   unfolding modeAfter markOf number
   inside-step zero n =
       let k = kindOf b in
-      entered-inside (nextOf q k) _ (ltb (nextOf q k) deep) (eqb (nextOf q k) stuck) n (crossing q k hq (kind-below b hb) (live-next n) .next)
+      entered-at (λ (to : ℕ). inside to ≡ insideNext (entryOf q k / roleUnit) k (inside q)) (nextOf q k) (ltb (nextOf q k) deep) (eqb (nextOf q k) stuck) n (crossing q k hq (kind-below b hb) (live-next n) .next)
   inside-step (suc e) n =
       let k = kindOf b in
       let A = entered (nextOf q k) in
       let B = within q (suc e) k in
       subst (λ (t : Bool). (choose t A B .state ≡ stuck → ⊥) → inside (choose t A B .state) ≡ insideNext (choose t (entryOf q k / roleUnit) 0) k (inside q)) (sym (eqb·suc-zero e))
-      (λ m. within-inside q (suc e) (eqb k lparKind) (eqb k rparKind) (eqb k foreignKind) m) n
+      (λ m. within-at (λ (to : ℕ). inside to ≡ inside q) q (suc e) (eqb k lparKind) (eqb k rparKind) (eqb k foreignKind) m refl) n
 
   -- where a command's semicolon leads
   pub stop-step : (d : ℕ) → (modeAfter q d b .state ≡ stuck → ⊥) → markOf q d b ≡ number stop → modeAfter q d b ≡ mode (stateBehind (inside q)) 0

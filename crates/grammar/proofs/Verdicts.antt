@@ -88,7 +88,7 @@ abbrev pub Right : ℕ → ℕ → List ℕ → ℕ → Verdict → Type 0
 Right q d w n InGrammar = Plain q d w
 Right q d w n (StuckAt m) = Stuck q d w n m
 
-final-deep : (e : ℕ) (is : Choice) → T (final (deepen (suc e) is)) → ⊥
+pub final-deep : (e : ℕ) (is : Choice) → T (final (deepen (suc e) is)) → ⊥
 final-deep e [] t = t
 final-deep e (i ∷ is) t = final-deep e is t
 
