@@ -33,22 +33,32 @@ counted : List (ℕ × ℕ) → ℕ → ℕ
 counted [] q = 0
 counted (c ∷ cs) q = let rest = counted cs q in if eqb (c .0) q then c .1 else rest
 
--- how many numbers are without a sign, from here on
+-- how many numbers, from here on, the productions give no sign
 owed : ℕ → ℕ
 owed =
     counted ((4, 2) ∷ (5, 1) ∷ (10, 1) ∷ (11, 1) ∷ (14, 1) ∷ (16, 1) ∷ (17, 3) ∷ (23, 1) ∷ (28, 2) ∷ (37, 2) ∷ (39, 2) ∷ (47, 1) ∷ (50, 2)
     ∷ (51, 1) ∷ (55, 1) ∷ (56, 1) ∷ (62, 1) ∷ (64, 1) ∷ (74, 1) ∷ [])
 
--- how many characters of a name there may be before the semicolon: 4 where there is one at least, and 5 before a command
+-- how many characters of a name may come before the semicolon: 4 where one at least must come, and 5 before a command
 room : ℕ → ℕ
 room =
     counted ((0, 5) ∷ (2, 5) ∷ (3, 5) ∷ (8, 4) ∷ (13, 5) ∷ (18, 3) ∷ (29, 2) ∷ (38, 5) ∷ (40, 1) ∷ (49, 5) ∷ (53, 4) ∷ (66, 3) ∷ (78, 2) ∷ (88, 1) ∷ [])
 
--- behind the D of a command
+-- behind the D of a command, where the second letter is still to tell what the numbers are
 awaits : ℕ → Bool
 awaits q = eqb q 6 || eqb q 52
 
--- a letter of role ρ and of the classes h leads from state q to state to
+-- a letter of this role and class comes before so many numbers without a sign
+pub data Brings : Role → Class → ℕ → Type 0 where
+  box-brings : Brings head 'B' 2
+  flash-brings : Brings head 'R' 1
+  wire-brings : Brings head 'W' 1
+  call-brings : Brings head 'C' 1
+  start-brings : Brings second 'S' 3
+  delete-brings : Brings second 'D' 1
+
+-- the counts agree where a letter of role ρ and of the classes h leads from state q to state to. Bytes come in by their classes only, so that a
+-- byte of each kind stands for all
 unfoldable checks : ℕ → Role → (Class → Bool) → ℕ → List Bool
 checks q ρ h to =
     let for : Role → Bool = λ σ. dec (Role-discrete ρ σ) in
@@ -68,15 +78,6 @@ checks q ρ h to =
     ∷ brings second 'D' 1
     ∷ []
 
--- a letter of this role and class comes before so many numbers without a sign
-pub data Brings : Role → Class → ℕ → Type 0 where
-  box-brings : Brings head 'B' 2
-  flash-brings : Brings head 'R' 1
-  wire-brings : Brings head 'W' 1
-  call-brings : Brings head 'C' 1
-  start-brings : Brings second 'S' 3
-  delete-brings : Brings second 'D' 1
-
 abbrev allTrue : List Bool → Bool
 allTrue [] = true
 allTrue (b ∷ bs) = b && allTrue bs
@@ -86,10 +87,10 @@ all-at [] t i = tt
 all-at (b ∷ bs) t zero = and-left b (allTrue bs) t
 all-at (b ∷ bs) t (suc i) = all-at bs (and-right b (allTrue bs) t) i
 
-abbrev Passes : ℕ → Letter → ℕ → Type 0
-Passes q l to = T (allTrue (checks q (l .role) (λ c. has c (l .byte)) to))
+abbrev Passes : ℕ → Role → (Class → Bool) → ℕ → Type 0
+Passes q ρ h to = T (allTrue (checks q ρ h to))
 
--- what they say
+-- what the checks say
 record Checked (q : ℕ) (l : Letter) (to : ℕ) : Type 0 where
   signs : T (l plays sign) → owed q ≡ 0
   owes : T ((l plays turn || l plays stop) || leb (owed q) (if l plays lead then suc (owed to) else owed to))
@@ -103,7 +104,7 @@ record Checked (q : ℕ) (l : Letter) (to : ℕ) : Type 0 where
 T-of : {b : Bool} → b ≡ true → T b
 T-of e = subst T (sym e) tt
 
-checked : (q : ℕ) (l : Letter) (to : ℕ) → Passes q l to → Checked q l to
+checked : (q : ℕ) (l : Letter) (to : ℕ) → Passes q (l .role) (λ c. l is c) to → Checked q l to
 unfolding checks
 checked q l to t = record {
   signs = λ h. eqb→eq (owed q) 0 (follows (l plays sign) _ (pick 0) h);
@@ -116,8 +117,8 @@ checked q l to t = record {
   brings = brought;
 }
   where
-    pick : (i : ℕ) → T (getD (checks q (l .role) (λ c. has c (l .byte)) to) i true)
-    pick = all-at (checks q (l .role) (λ c. has c (l .byte)) to) t
+    pick : (i : ℕ) → T (getD (checks q (l .role) (λ c. l is c) to) i true)
+    pick = all-at (checks q (l .role) (λ c. l is c) to) t
 
     brought : {ρ : Role} {c : Class} {k : ℕ} → Brings ρ c k → T (l plays ρ && l is c) → k ≤ owed to
     brought box-brings h = leb→le 2 (owed to) (follows (l plays head && l is 'B') _ (pick 7) h)
@@ -138,7 +139,7 @@ table-passes : T (every passes 0 table)
 unfolding passes checks owed room awaits counted dec has stand samples table
 table-passes = tt
 
--- a letter within a comment
+-- a letter within a comment, which leaves the state as it is
 skipPasses : ℕ → Bool
 skipPasses q = allTrue (checks q skip (λ c. false) q)
 
@@ -146,55 +147,46 @@ skips-pass : T (upto skipPasses stateCount)
 unfolding upto skipPasses checks owed room awaits counted dec
 skips-pass = tt
 
-skip-passes : (q : ℕ) (h : Class → Bool) → q < stateCount → T (allTrue (checks q skip h q))
+skip-passes : (q : ℕ) (h : Class → Bool) → q < stateCount → Passes q skip h q
 unfolding skipPasses checks dec
 skip-passes q h k = upto-at skipPasses stateCount skips-pass q k
 
 -- ---- so each step of the recogniser passes
 
-module _ (q : ℕ) (l : Letter) (hq : q < stateCount) (hb : l .byte < 256) where
-  entry-checked : (nextOf q (kindOf (l .byte)) ≡ stuck → ⊥)
-      → T (allTrue (checks q (roleOf q 0 (l .byte)) (λ c. has c (l .byte)) (choose (ltb (nextOf q (kindOf (l .byte))) deep) (nextOf q (kindOf (l .byte))) (nextOf q (kindOf (l .byte)) - deep))))
+module _ (q b : ℕ) (hq : q < stateCount) (hb : b < 256) where
+  entry-passes : (nextOf q (kindOf b) ≡ stuck → ⊥)
+      → Passes q (roleOf q 0 b) (λ c. has c b) (choose (ltb (nextOf q (kindOf b)) deep) (nextOf q (kindOf b)) (nextOf q (kindOf b) - deep))
   unfolding passes nextOf entryOf roleOf markOf
-  entry-checked n =
-      let k = kindOf (l .byte) in
-      let hk = kind-below (l .byte) hb in
+  entry-passes n =
+      let k = kindOf b in
+      let hk = kind-below b hb in
       let i = q * kindCount + k in
       let x = getD table i 0 in
       let ek : i % kindCount ≡ k = omega arith in
       let eq : i / kindCount ≡ q = omega arith in
       let hi : i < entryCount = omega arith in
-      let to = choose (ltb (x % roleUnit) deep) (x % roleUnit) (x % roleUnit - deep) in
-      let P : ℕ → (Class → Bool) → Type 0 = λ s h. T (allTrue (checks s (getD roles (x / roleUnit) skip) h to)) in
+      let P : ℕ → (Class → Bool) → Type 0 = λ s h. Passes s (getD roles (x / roleUnit) skip) h (choose (ltb (x % roleUnit) deep) (x % roleUnit) (x % roleUnit - deep)) in
       let t : T (passes i x) = every-at passes table table-passes i (subst (λ (m : ℕ). i < m) (sym table-length) hi) in
       let u : P (i / kindCount) (λ c. has c (stand (i % kindCount))) = live (or-cases (eqb (x % roleUnit) stuck) _ t) in
       let v : P q (λ c. has c (stand k)) = subst (λ (j : ℕ). P q (λ c. has c (stand j))) ek (subst (λ (s : ℕ). P s (λ c. has c (stand (i % kindCount)))) eq u) in
-      subst (λ (h : Class → Bool). P q h) (λ j c. sym (agree (l .byte) hb c) j) v
+      subst (λ (h : Class → Bool). P q h) (λ j c. sym (agree b hb c) j) v
     where
-      live : {B : Type 0} → T (eqb (getD table (q * kindCount + kindOf (l .byte)) 0 % roleUnit) stuck) ⊎ B → B
+      live : {B : Type 0} → T (eqb (getD table (q * kindCount + kindOf b) 0 % roleUnit) stuck) ⊎ B → B
       live (inl h) = absurd (n (eqb→eq _ stuck h))
       live (inr h) = h
 
-  live-checked : (d : ℕ) → (modeAfter q d (l .byte) .state ≡ stuck → ⊥) → T (allTrue (checks q (roleOf q d (l .byte)) (λ c. has c (l .byte)) (modeAfter q d (l .byte) .state)))
+  step-passes : (d : ℕ) → (modeAfter q d b .state ≡ stuck → ⊥) → Passes q (roleOf q d b) (λ c. has c b) (modeAfter q d b .state)
   unfolding modeAfter roleOf markOf
-  live-checked zero n =
-      let x = nextOf q (kindOf (l .byte)) in
-      entered-at (λ (to : ℕ). T (allTrue (checks q (roleOf q 0 (l .byte)) (λ c. has c (l .byte)) to))) x (ltb x deep) (eqb x stuck) n
-      (entry-checked (live-next q (l .byte) hq hb n))
-  live-checked (suc e) n =
-      let k = kindOf (l .byte) in
-      let h : Class → Bool = λ c. has c (l .byte) in
-      subst (λ (t : Bool). (choose t (entered (nextOf q k)) (within q (suc e) k) .state ≡ stuck → ⊥) → T (allTrue (checks q (getD roles (choose t (entryOf q k / roleUnit) 0) skip) h (choose t (entered (nextOf q k)) (within q (suc e) k) .state))))
-      (sym (eqb·suc-zero e))
-      (λ m. within-at (λ (to : ℕ). T (allTrue (checks q skip h to))) q (suc e) (eqb k lparKind) (eqb k rparKind) (eqb k foreignKind) m (skip-passes q h hq)) n
-
-  step-checked : (d : ℕ) {v : List Letter} → Lang q d (l ∷ v) → Checked q l (modeAfter q d (l .byte) .state)
-  step-checked d k =
-      let b = l .byte in
-      let p = step-to q b hq hb d (l .role) k in
-      let alive : modeAfter q d b .state ≡ stuck → ⊥ = λ e. let z = p .state in omega arith in
-      checked q l (modeAfter q d b .state)
-      (subst (λ (ρ : Role). T (allTrue (checks q ρ (λ c. has c b) (modeAfter q d b .state)))) (sym (step-role q b hq hb d (l .role) k)) (live-checked d alive))
+  step-passes zero n =
+      let x = nextOf q (kindOf b) in
+      entered-at (Passes q (roleOf q 0 b) (λ c. has c b)) x (ltb x deep) (eqb x stuck) n (entry-passes (live-next q b hq hb n))
+  step-passes (suc e) n =
+      let k = kindOf b in
+      let h : Class → Bool = λ c. has c b in
+      let A = entered (nextOf q k) in
+      let B = within q (suc e) k in
+      subst (λ (t : Bool). (choose t A B .state ≡ stuck → ⊥) → Passes q (getD roles (choose t (entryOf q k / roleUnit) 0) skip) h (choose t A B .state)) (sym (eqb·suc-zero e))
+      (λ m. within-at (Passes q skip h) q (suc e) (eqb k lparKind) (eqb k rparKind) (eqb k foreignKind) m (skip-passes q h hq)) n
 
 -- the letters m lead from state q on, to an end that lacks no name
 data Course : ℕ → List Letter → Type 0 where
@@ -213,18 +205,23 @@ end-course q (suc d) h k e = final-deep d (label q) (final-complete k)
 course : (m : List Letter) (q d : ℕ) → q < stateCount → Below 256 m → Lang q d m → Course q m
 course [] q d h b k = done (end-course q d h k)
 course (l ∷ m) q d h b k =
+    let to = modeAfter q d (l .byte) in
     let p = step-to q (l .byte) h (b 0) d (l .role) k in
-    step (step-checked q l h (b 0) d k) (course m (modeAfter q d (l .byte) .state) (modeAfter q d (l .byte) .depth) (p .state) (λ i. b (suc i)) (p .texts))
+    let alive : to .state ≡ stuck → ⊥ = λ e. let z = p .state in omega arith in
+    let same-role = sym (step-role q (l .byte) h (b 0) d (l .role) k) in
+    step (checked q l (to .state) (subst (λ (ρ : Role). Passes q ρ (λ c. l is c) (to .state)) same-role (step-passes q (l .byte) h (b 0) d alive)))
+    (course m (to .state) (to .depth) (p .state) (λ i. b (suc i)) (p .texts))
 
 matched-course : {m : List Letter} → Match cifFile m → Course 0 m
 matched-course {m} k = course m 0 0 (omega arith) (λ i. let h = match-ascii k i in omega arith) (start-to k)
 
 -- ---- numbers without a sign
 
+-- a number without a sign
 pub data Natural : Number → Type 0 where
   natural : (p v : ℕ) → Natural (at p (pos v))
 
--- the first k of the numbers have none, and a number that is left out has none
+-- the first k of the numbers are such, and so is one that is left out
 pub record Firsts (k : ℕ) (ns : List Number) : Type 0 where
   pub plain : (i n v : ℕ) → i < k → Natural (nth n ns (pos v) i)
 
@@ -260,7 +257,7 @@ firsts k n minus (step {q} {to} {l} {m} t c) h z =
 false-only : {A : Type 0} → false ≡ true → A
 false-only e = absurd (subst T (sym e) tt)
 
--- behind the D of a command, the second letter tells how many
+-- of a D command the second letter tells how many
 seconds : {c : Class} {k : ℕ} → Brings second c k → has c 59 ≡ false → (n : ℕ) (minus : Bool) {q : ℕ} {m : List Letter} → Course q m → T (awaits q)
     → (next second m is c) ≡ true → Firsts k (numbers n minus m)
 unfolding next

@@ -1,4 +1,5 @@
--- Commands of a grammatical text are well made: shapes have the numbers of their kind, and layer names the characters that they may have.
+-- Commands of a grammatical text are well made: shapes have the numbers of their kind, sizes, symbol numbers, a and b have no sign, and layer names
+-- are of one to four of the characters that they may have.
 -- Assumes nothing.
 use mathlib.Core.Path.{_≡_, refl, sym, ap, _∙_, subst}
 use mathlib.Core.Bool.{Bool, true, false, _&&_, _||_}
@@ -137,6 +138,13 @@ pub data Drafted : Shape Number → Type 0 where
   a-flash : {a : Number} (c : Point Number) → Natural a → Drafted (record { kind = flash; sizes = a ∷ []; points = c ∷ []; directions = [] })
   a-wire : {a : Number} (ps : List (Point Number)) → Natural a → Drafted (record { kind = wire; sizes = a ∷ []; points = ps; directions = [] })
   a-polygon : (ps : List (Point Number)) → Drafted (record { kind = polygon; sizes = []; points = ps; directions = [] })
+
+pub sizes-natural : {w : Shape Number} → Drafted w → All Natural (w .sizes)
+unfolding All
+sizes-natural (a-box c d x y) = (x, (y, tt))
+sizes-natural (a-flash c x) = (x, tt)
+sizes-natural (a-wire ps x) = (x, tt)
+sizes-natural (a-polygon ps) = tt
 
 pub record Name (l : List ℕ) : Type 0 where
   pub short : length l ≤ 4
