@@ -90,7 +90,7 @@ moments t (d ∷ ds) = deedMoments t d ++ moments (tableAfter t d) ds
 abbrev pub events : List Moment → List Event
 events ms = map eventAt ms
 
-events-++ : (a b : List Moment) → events (a ++ b) ≡ events a ++ events b
+pub events-++ : (a b : List Moment) → events (a ++ b) ≡ events a ++ events b
 events-++ [] b = refl
 events-++ (m ∷ a) b = ap (λ (x : List Event). eventAt m ∷ x) (events-++ a b)
 
