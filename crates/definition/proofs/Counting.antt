@@ -76,7 +76,7 @@ first-counted c e es last h = go (counted c e) refl h
 same-counts : (a b : Counts) → finished a ≡ finished b → a ≡ b
 same-counts a b h = cc
 
-not-finished : {n p : ℕ} {chain : Chain} {c : Counts} → stopped n p chain ≡ finished c → ⊥
+pub not-finished : {n p : ℕ} {chain : Chain} {c : Counts} → stopped n p chain ≡ finished c → ⊥
 not-finished h = let z : _≡_ {A = ℕ} 0 1 = cc in zero-one z
 
 counted-from : (a next : Counts) (es : List Event) (last : Counts) → finished a ≡ finished next → Counted next es last → Counted a es last

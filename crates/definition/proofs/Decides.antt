@@ -55,16 +55,16 @@ pub record Among {A : Type 0} (P : A → Type 0) (l : List A) : Type 0 where
   pub so : P one
 
 module _ {A : Type 0} (P : A → Type 0) where
-  among-first : {a : A} {l : List A} → P a → Among P (a ∷ l)
+  pub among-first : {a : A} {l : List A} → P a → Among P (a ∷ l)
   among-first {a} h = record { one = a; listed = List·Memᴰ·head refl; so = h }
 
-  among-later : {a : A} {l : List A} → Among P l → Among P (a ∷ l)
+  pub among-later : {a : A} {l : List A} → Among P l → Among P (a ∷ l)
   among-later h = record { one = h .one; listed = List·Memᴰ·tail (h .listed); so = h .so }
 
-  among-none : Among P [] → ⊥
+  pub among-none : Among P [] → ⊥
   among-none h = List·Memᴰ·not-nil (h .listed)
 
-  among-cases : {a : A} {l : List A} → Among P (a ∷ l) → P a ⊎ Among P l
+  pub among-cases : {a : A} {l : List A} → Among P (a ∷ l) → P a ⊎ Among P l
   among-cases {a} {l} h = go (List·Memᴰ·cases-cons (h .listed))
     where
       go : (h .one ≡ a) ⊎ List·Memᴰ (h .one) l → P a ⊎ Among P l
@@ -75,12 +75,12 @@ module _ {A : Type 0} (P : A → Type 0) where
   among-joined (inl h) = among-first h
   among-joined (inr h) = among-later h
 
-  any-decides : (t : A → Bool) → ((a : A) → Decides (P a) (t a)) → (l : List A) → Decides (Among P l) (any t l)
+  pub any-decides : (t : A → Bool) → ((a : A) → Decides (P a) (t a)) → (l : List A) → Decides (Among P l) (any t l)
   unfolding any
   any-decides t each [] = fails among-none
   any-decides t each (a ∷ l) = decides among-joined among-cases (decides-or (each a) (any-decides t each l))
 
-eqb-decides : (m n : ℕ) → Decides (m ≡ n) (eqb m n)
+pub eqb-decides : (m n : ℕ) → Decides (m ≡ n) (eqb m n)
 eqb-decides m n = by-test (m ≡ n) (eqb m n) (eqb-true m n) (eqb-false m n)
 
 pub ltb-decides : (m n : ℕ) → Decides (m < n) (ltb m n)

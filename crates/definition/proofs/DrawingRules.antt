@@ -82,7 +82,7 @@ pub record FirstStop (c : Counts) (ms : List Moment) (number place : ℕ) (chain
 -- ---- one moment
 
 -- what a moment comes to, counted
-data Met (c : Counts) (m : Moment) : End → Type 0 where
+pub data Met (c : Counts) (m : Moment) : End → Type 0 where
   goes-on : ((k : ℕ) → Breaks c m k → ⊥) → Met c m (finished (tallied c m))
   stops : {number : ℕ} → Lowest c m number → Met c m (stopped number (m .place) (m .chain))
 
@@ -176,7 +176,7 @@ module _ (c : Counts) (t : Table) (chain : Chain) (net : List (Turn ℤ)) (p : �
   act-met (entering d) = enter-met d
   act-met (removing n) = remove-met n
 
-met : (c : Counts) (m : Moment) → Met c m (counted c (eventAt m))
+pub met : (c : Counts) (m : Moment) → Met c m (counted c (eventAt m))
 met c m = act-met c (m .table) (m .chain) (m .net) (m .place) (m .act)
 
 -- ---- a list of moments
@@ -191,11 +191,11 @@ unbroken-more c m ms h u [] m′ after e k x = h k (subst (λ (i : Moment). Brea
 unbroken-more c m ms h u (b ∷ before) m′ after e k x =
     u before m′ after (tail-eq-of-cons-eq e) k (subst (λ (i : Moment). Breaks (tally (tallied c i) before) m′ k) (sym (head-eq-of-cons-eq e)) x)
 
-unbroken-first : (c : Counts) (m : Moment) (ms : List Moment) → Unbroken c (m ∷ ms) → (k : ℕ) → Breaks c m k → ⊥
+pub unbroken-first : (c : Counts) (m : Moment) (ms : List Moment) → Unbroken c (m ∷ ms) → (k : ℕ) → Breaks c m k → ⊥
 unfolding tally
 unbroken-first c m ms u = u [] m ms refl
 
-unbroken-rest : (c : Counts) (m : Moment) (ms : List Moment) → Unbroken c (m ∷ ms) → Unbroken (tallied c m) ms
+pub unbroken-rest : (c : Counts) (m : Moment) (ms : List Moment) → Unbroken c (m ∷ ms) → Unbroken (tallied c m) ms
 unfolding tally
 unbroken-rest c m ms u before m′ after e = u (m ∷ before) m′ after (ap (λ (x : List Moment). m ∷ x) e)
 

@@ -1,0 +1,150 @@
+-- The calls that are open at a moment: at most 32, no two of one symbol, and each of a symbol that the table defines.
+-- Assumes nothing.
+use mathlib.Core.Path.{_≡_, refl, sym, ap, _∙_, subst}
+use mathlib.Core.Bool.{Bool, true, false}
+use mathlib.Core.List.{List, [], _∷_, _++_, List·Memᴰ, List·Memᴰ·append-cases, List·Memᴰ·eq-of-singleton}
+use mathlib.Core.Logic.{_⊎_, inl, inr}
+use Prim.Native.Nat.{ℕ, zero, suc, _+_, _≤_, _<_}
+use native.Mathlib.Omega.{arith}
+use lib.Dec.{eqb}
+use lib.IntN.{ℤ}
+use lib.ListN.{length, length-append}
+use Rattle.definition.specs.Words.{Placed, at, any}
+use Rattle.definition.specs.Commands.{Turn}
+use Rattle.definition.specs.Table.{Step, shape, instance, Definition, Table}
+use Rattle.definition.specs.Drawing.{Deed, output, define, remove, Chain, Event, called, drew, entered, removed, refused, tableAfter}
+use Rattle.definition.specs.Counts.{Counts, counts, End, finished, stopped, counted}
+use Rattle.definition.proofs.Range.{All, all-++}
+use Rattle.definition.proofs.Moments.{calling, Moment, moment, eventOf, eventAt, followed, stepMoments, bodyMoments, callMoments, deedMoments, moments}
+use Rattle.definition.proofs.Decides.{Decides, holds, fails, Among, any-decides, eqb-decides, among-first, among-later, among-none, among-cases}
+use Rattle.definition.proofs.DrawingRules.{Breaks, undefined, being-drawn, Met, goes-on, stops, met}
+use Rattle.definition.proofs.Counting.{not-finished}
+
+-- a live definition has the number
+abbrev pub Defined : Table → Placed ℕ → Type 0
+Defined t o = Among (λ (d : Definition). d .symbol ≡ o .what) t
+
+-- no symbol stands twice
+unfoldable pub Distinct : Chain → Type 0
+Distinct [] = Unit {0}
+Distinct (o ∷ chain) = (Among (λ (u : Placed ℕ). u .what ≡ o .what) chain → ⊥) × Distinct chain
+
+pub record Opened (t : Table) (chain : Chain) : Type 0 where
+  pub few : length chain ≤ 32
+  pub distinct : Distinct chain
+  pub defined : All (Defined t) chain
+
+-- at a moment of the table t
+pub record OpenedAt (t : Table) (m : Moment) : Type 0 where
+  pub table-is : m .table ≡ t
+  pub opened : Opened t (m .chain)
+
+-- a call that is made breaks no rule that does not count
+made-unbroken : (m : Moment) (q : ℕ) (chain : Chain) (d : Definition) → eventAt m ≡ called q chain d → (k : ℕ) → Breaks (counts 0 0 0) m k → ⊥
+unfolding counted
+made-unbroken m q chain d e = go (met (counts 0 0 0) m) (ap (counted (counts 0 0 0)) e)
+  where
+    go : {x : End} → Met (counts 0 0 0) m x → x ≡ finished (counts 1 0 0) → (k : ℕ) → Breaks (counts 0 0 0) m k → ⊥
+    go (goes-on h) f = h
+    go (stops l) f = absurd (not-finished f)
+
+-- so its symbol is defined, since that is decided
+defined-when : (t : Table) (o : Placed ℕ) → ((Defined t o → ⊥) → ⊥) → Defined t o
+defined-when t o h = go (any-decides (λ (d : Definition). d .symbol ≡ o .what) (λ d. eqb (d .symbol) (o .what)) (λ d. eqb-decides (d .symbol) (o .what)) t)
+  where
+    go : {b : Bool} → Decides (Defined t o) b → Defined t o
+    go (holds x) = x
+    go (fails x) = absurd (h x)
+
+among-last : {A : Type 0} (P : A → Type 0) (l : List A) (a : A) → Among P (l ++ (a ∷ [])) → Among P l ⊎ P a
+among-last P l a h = go (List·Memᴰ·append-cases l (h .listed))
+  where
+    go : List·Memᴰ (h .one) l ⊎ List·Memᴰ (h .one) (a ∷ []) → Among P l ⊎ P a
+    go (inl m) = inl (record { one = h .one; listed = m; so = h .so })
+    go (inr m) = inr (subst P (List·Memᴰ·eq-of-singleton m) (h .so))
+
+distinct-more : (chain : Chain) (o : Placed ℕ) → Distinct chain → (Among (λ (u : Placed ℕ). u .what ≡ o .what) chain → ⊥) → Distinct (chain ++ (o ∷ []))
+unfolding Distinct
+distinct-more [] o x new = (among-none (λ (u : Placed ℕ). u .what ≡ o .what), tt)
+distinct-more (a ∷ chain) o x new = (λ h. go (among-last Same chain o h), distinct-more chain o (x .1) (λ h. new (among-later Other h)))
+  where
+    Same : Placed ℕ → Type 0
+    Same u = u .what ≡ a .what
+
+    Other : Placed ℕ → Type 0
+    Other u = u .what ≡ o .what
+
+    go : Among Same chain ⊎ Same o → ⊥
+    go (inl h) = x .0 h
+    go (inr e) = new (among-first Other (sym e))
+
+opened-more : (t : Table) (chain : Chain) (o : Placed ℕ) → Opened t chain → length chain < 32 → (Among (λ (u : Placed ℕ). u .what ≡ o .what) chain → ⊥) → Defined t o
+    → Opened t (chain ++ (o ∷ []))
+unfolding All
+opened-more t chain o x room new known = record {
+  few = rw length-append (omega arith);
+  distinct = distinct-more chain o (x .distinct) new;
+  defined = all-++ (Defined t) chain (o ∷ []) (x .defined) (known, tt);
+}
+
+all-followed : (P : Moment → Type 0) (e : Event) (go : Definition → List Moment)
+    → ((q : ℕ) (chain : Chain) (d : Definition) → e ≡ called q chain d → All P (go d)) → All P (followed e go)
+unfolding followed All
+all-followed P (called p chain d) go h = h p chain d refl
+all-followed P (drew d) go h = tt
+all-followed P (entered d before) go h = tt
+all-followed P (removed n before) go h = tt
+all-followed P (refused n p chain) go h = tt
+
+module _ (t : Table) (chain : Chain) (net : List (Turn ℤ)) (x : Opened t chain) (g : ℕ → ℕ → List (Turn ℤ) → List Moment)
+    (each : (p n : ℕ) (ts : List (Turn ℤ)) → All (OpenedAt t) (g p n ts)) where
+  open-step : (p : ℕ) (s : Step) → All (OpenedAt t) (stepMoments g t chain net p s)
+  unfolding stepMoments All
+  open-step p (shape l k) = (record { table-is = refl; opened = x }, tt)
+  open-step p (instance n ts) = each p n ts
+
+  open-body : (b : List (Placed Step)) → All (OpenedAt t) (bodyMoments g t chain net b)
+  unfolding bodyMoments All
+  open-body [] = tt
+  open-body (s ∷ b) =
+      all-++ (OpenedAt t) (stepMoments g t chain net (s .place) (s .what)) (bodyMoments g t chain net b) (open-step (s .place) (s .what)) (open-body b)
+
+open-call : (left : ℕ) (t : Table) (chain : Chain) (net : List (Turn ℤ)) (p n : ℕ) (ts : List (Turn ℤ)) → left + length chain ≡ 32 → Opened t chain
+    → All (OpenedAt t) (callMoments left t chain net p n ts)
+unfolding callMoments All
+open-call zero t chain net p n ts h x = (record { table-is = refl; opened = x }, tt)
+open-call (suc left) t chain net p n ts h x =
+    let deeper : Chain = chain ++ (at p n ∷ []) in
+    let one-more : left + length deeper ≡ 32 = rw length-append (omega arith) in (
+      record { table-is = refl; opened = x },
+      all-followed (OpenedAt t) (eventOf t chain net p (calling n ts)) (λ d. bodyMoments (callMoments left t deeper (ts ++ net)) t deeper (ts ++ net) (d .body))
+          (λ q ch d e. let u = made-unbroken (moment t chain net p (calling n ts)) q ch d e in
+          let wider : Opened t deeper = opened-more t chain (at p n) x (omega arith) (λ y. u 13 (being-drawn y)) (defined-when t (at p n) (λ y. u 12 (undefined y))) in
+          open-body t deeper (ts ++ net) wider (callMoments left t deeper (ts ++ net)) (λ q m us. open-call left t deeper (ts ++ net) q m us one-more wider) (d .body)),
+    )
+
+opened-none : (t : Table) → Opened t []
+unfolding All Distinct
+opened-none t = record { few = omega arith; distinct = tt; defined = tt }
+
+-- the moments of a deed have the table that it found
+pub open-deed : (t : Table) (d : Deed) → All (OpenedAt t) (deedMoments t d)
+unfolding deedMoments All
+open-deed t (output s) =
+    open-step t [] [] (opened-none t) (callMoments 32 t [] []) (λ p n ts. open-call 32 t [] [] p n ts refl (opened-none t)) (s .place) (s .what)
+open-deed t (define d) = (record { table-is = refl; opened = opened-none t }, tt)
+open-deed t (remove n) = (record { table-is = refl; opened = opened-none t }, tt)
+
+all-map : {A : Type 0} (P Q : A → Type 0) → ((a : A) → P a → Q a) → (l : List A) → All P l → All Q l
+unfolding All
+all-map P Q f [] x = tt
+all-map P Q f (a ∷ l) x = (f a (x .0), all-map P Q f l (x .1))
+
+-- the open calls at every moment of a drawing
+pub moments-opened : (t : Table) (ds : List Deed) → All (λ (m : Moment). Opened (m .table) (m .chain)) (moments t ds)
+unfolding moments All
+moments-opened t [] = tt
+moments-opened t (d ∷ ds) =
+    all-++ (λ (m : Moment). Opened (m .table) (m .chain)) (deedMoments t d) (moments (tableAfter t d) ds)
+    (all-map (OpenedAt t) (λ (m : Moment). Opened (m .table) (m .chain)) (λ m x. subst (λ (u : Table). Opened u (m .chain)) (sym (x .table-is)) (x .opened)) (deedMoments t d) (open-deed t d))
+    (moments-opened (tableAfter t d) ds)
