@@ -135,7 +135,7 @@ open-deed t (output s) =
 open-deed t (define d) = (record { table-is = refl; opened = opened-none t }, tt)
 open-deed t (remove n) = (record { table-is = refl; opened = opened-none t }, tt)
 
-all-map : {A : Type 0} (P Q : A → Type 0) → ((a : A) → P a → Q a) → (l : List A) → All P l → All Q l
+pub all-map : {A : Type 0} (P Q : A → Type 0) → ((a : A) → P a → Q a) → (l : List A) → All P l → All Q l
 unfolding All
 all-map P Q f [] x = tt
 all-map P Q f (a ∷ l) x = (f a (x .0), all-map P Q f l (x .1))
