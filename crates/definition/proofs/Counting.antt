@@ -1,12 +1,10 @@
--- The counts are those of the drawing: a drawing that finishes has counted its calls, its shapes and its redefinitions, each once; and the limits of
--- refusals 15 and 17 from both sides, for texts that are too long to compute.
+-- The counts are those of the drawing: a drawing that finishes has counted its calls, its shapes and its redefinitions, each once.
 -- Assumes nothing.
 use mathlib.Core.Path.{_≡_, refl, sym, ap, _∙_, subst}
 use mathlib.Core.Bool.{Bool, true, false}
 use mathlib.Core.List.{List, [], _∷_}
 use Prim.Native.Nat.{ℕ, zero, suc, _+_, _≤_, _<_}
 use native.Mathlib.Omega.{arith}
-use borrow.Author.Tests.{lt-ltb, le-ltb}
 use lib.Dec.{ltb}
 use lib.ListN.{length}
 use Rattle.definition.specs.Words.{if_then_else_, none?}
@@ -39,25 +37,6 @@ pub record Counted (b : Counts) (es : List Event) (c : Counts) : Type 0 where
   pub redefinitions-are : c .redefinitions ≡ b .redefinitions + length (redefinitionsOf es)
   pub calls-few : b .calls ≤ 1048576 → c .calls ≤ 1048576
   pub shapes-few : b .shapes ≤ 1048576 → c .shapes ≤ 1048576
-
-pub few-calls : (c : Counts) (p : ℕ) (chain : Chain) (d : Definition) → c .calls < 1048576
-    → counted c (called p chain d) ≡ finished (counts (c .calls + 1) (c .shapes) (c .redefinitions))
-unfolding counted
-few-calls c p chain d h = rw (lt-ltb (c .calls) 1048576 h)
-
--- one call more than 1,048,576
-pub call-too-many : (c : Counts) (p : ℕ) (chain : Chain) (d : Definition) → 1048576 ≤ c .calls → counted c (called p chain d) ≡ stopped 15 p chain
-unfolding counted
-call-too-many c p chain d h = rw (le-ltb (c .calls) 1048576 h)
-
-pub few-shapes : (c : Counts) (d : Drawn) → c .shapes < 1048576 → counted c (drew d) ≡ finished (counts (c .calls) (c .shapes + 1) (c .redefinitions))
-unfolding counted
-few-shapes c d h = rw (lt-ltb (c .shapes) 1048576 h)
-
--- one shape more than 1,048,576
-pub shape-too-many : (c : Counts) (d : Drawn) → 1048576 ≤ c .shapes → counted c (drew d) ≡ stopped 17 (d .place) (d .chain)
-unfolding counted
-shape-too-many c d h = rw (le-ltb (c .shapes) 1048576 h)
 
 zero-one : _≡_ {A = ℕ} 0 1 → ⊥
 zero-one y = omega arith
