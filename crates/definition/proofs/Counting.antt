@@ -1,15 +1,14 @@
 -- The counts are those of the drawing: a drawing that finishes has counted its calls, its shapes and its redefinitions, each once.
 -- Assumes nothing.
-use mathlib.Core.Path.{_≡_, refl, sym, ap, _∙_, subst}
+use mathlib.Core.Path.{_≡_, refl, sym, subst}
 use mathlib.Core.Bool.{Bool, true, false}
 use mathlib.Core.List.{List, [], _∷_}
-use Prim.Native.Nat.{ℕ, zero, suc, _+_, _≤_, _<_}
+use Prim.Native.Nat.{ℕ, _+_, _≤_, _<_}
 use native.Mathlib.Omega.{arith}
-use lib.Dec.{ltb}
 use lib.ListN.{length}
 use Rattle.definition.specs.Words.{if_then_else_, none?}
-use Rattle.definition.specs.Table.{Definition, Table, find}
-use Rattle.definition.specs.Drawing.{Chain, Drawn, Event, called, drew, entered, removed, refused}
+use Rattle.definition.specs.Table.{Definition, find}
+use Rattle.definition.specs.Drawing.{Chain, Event, called, drew, entered, removed, refused}
 use Rattle.definition.specs.Counts.{Counts, counts, End, finished, stopped, counted, goOn, ending, shapesOf}
 use Rattle.definition.proofs.Decides.{Decides, holds, fails, ltb-decides}
 

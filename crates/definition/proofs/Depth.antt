@@ -1,7 +1,7 @@
 -- The calls that are open at a moment: at most 32, no two of one symbol, and each of a symbol that the table defines.
 -- Assumes nothing.
-use mathlib.Core.Path.{_≡_, refl, sym, ap, _∙_, subst}
-use mathlib.Core.Bool.{Bool, true, false}
+use mathlib.Core.Path.{_≡_, refl, sym, ap, subst}
+use mathlib.Core.Bool.{Bool}
 use mathlib.Core.List.{List, [], _∷_, _++_, List·Memᴰ, List·Memᴰ·append-cases, List·Memᴰ·eq-of-singleton}
 use mathlib.Core.Logic.{_⊎_, inl, inr}
 use Prim.Native.Nat.{ℕ, zero, suc, _+_, _≤_, _<_}
@@ -9,14 +9,14 @@ use native.Mathlib.Omega.{arith}
 use lib.Dec.{eqb}
 use lib.IntN.{ℤ}
 use lib.ListN.{length, length-append}
-use Rattle.definition.specs.Words.{Placed, at, any}
+use Rattle.definition.specs.Words.{Placed, at}
 use Rattle.definition.specs.Commands.{Turn}
 use Rattle.definition.specs.Table.{Step, shape, instance, Definition, Table}
 use Rattle.definition.specs.Drawing.{Deed, output, define, remove, Chain, Event, called, drew, entered, removed, refused, tableAfter}
-use Rattle.definition.specs.Counts.{Counts, counts, End, finished, stopped, counted}
+use Rattle.definition.specs.Counts.{counts, End, finished, counted}
 use Rattle.definition.proofs.Range.{All, all-++}
 use Rattle.definition.proofs.Moments.{calling, Moment, moment, eventOf, eventAt, followed, stepMoments, bodyMoments, callMoments, deedMoments, moments}
-use Rattle.definition.proofs.Decides.{Decides, holds, fails, Among, any-decides, eqb-decides, among-first, among-later, among-none, among-cases}
+use Rattle.definition.proofs.Decides.{Decides, holds, fails, Among, any-decides, eqb-decides, among-first, among-later, among-none}
 use Rattle.definition.proofs.DrawingRules.{Breaks, undefined, being-drawn, Met, goes-on, stops, met}
 use Rattle.definition.proofs.Counting.{not-finished}
 
@@ -40,7 +40,7 @@ pub record OpenedAt (t : Table) (m : Moment) : Type 0 where
   pub opened : Opened t (m .chain)
 
 -- a call that is made breaks no rule that does not count
-made-unbroken : (m : Moment) (q : ℕ) (chain : Chain) (d : Definition) → eventAt m ≡ called q chain d → (k : ℕ) → Breaks (counts 0 0 0) m k → ⊥
+pub made-unbroken : (m : Moment) (q : ℕ) (chain : Chain) (d : Definition) → eventAt m ≡ called q chain d → (k : ℕ) → Breaks (counts 0 0 0) m k → ⊥
 unfolding counted
 made-unbroken m q chain d e = go (met (counts 0 0 0) m) (ap (counted (counts 0 0 0)) e)
   where

@@ -2,20 +2,19 @@
 -- exactly where the first moment stands that breaks a rule, by the lowest rule that it breaks; and it finishes exactly when no moment breaks any.
 -- Assumes nothing.
 use mathlib.Core.Path.{_≡_, refl, sym, ap, ap₂, _∙_, subst}
-use mathlib.Core.Bool.{Bool, true, false}
+use mathlib.Core.Bool.{Bool}
 use mathlib.Core.List.{List, [], _∷_, _++_, nil≢cons, head-eq-of-cons-eq, tail-eq-of-cons-eq}
 use mathlib.Core.Logic.{_↔_}
 use mathlib.Core.Option.{Option, none, some}
-use Prim.Native.Nat.{ℕ, zero, suc, _+_, _-_, _≤_, _<_}
+use Prim.Native.Nat.{ℕ, suc, _+_, _≤_, _<_}
 use native.Mathlib.Omega.{arith}
-use lib.Dec.{ltb}
 use lib.IntN.{ℤ}
 use lib.ListN.{length}
 use Rattle.definition.specs.Words.{if_then_else_, Placed, Point, none?}
 use Rattle.definition.specs.Commands.{Shape, Turn}
 use Rattle.definition.specs.Turns.{act, inOrder, moved}
 use Rattle.definition.specs.Table.{Definition, Table, find, enter}
-use Rattle.definition.specs.Drawing.{Deed, Chain, Event, called, drew, entered, removed, refused, drawShape, callFault, story}
+use Rattle.definition.specs.Drawing.{Deed, Chain, drew, entered, refused, drawShape, callFault, story}
 use Rattle.definition.specs.Counts.{Counts, counts, End, finished, stopped, counted, goOn, ending}
 use Rattle.definition.proofs.Joined.{ending-++}
 use Rattle.definition.proofs.Moments.{Act, calling, drawing, entering, removing, Moment, moment, callEvent, eventOf, eventAt, events, events-++, moments, story-events}
@@ -272,6 +271,11 @@ stops-there c ms number place chain f =
     ∙ ap (λ (e : End). goOn e (λ c′. ending c′ (events rest))) (passed c (f .before) (f .unbroken))
     ∙ stops-here (tally c (f .before)) (f .it) (f .after) number (f .lowest)
     ∙ ap₂ {C = End} (λ (p : ℕ) (l : Chain). stopped number p l) (sym (f .place-is)) (sym (f .chain-is))
+
+-- so a list of moments has one first stop
+pub one-stop : (c : Counts) (ms : List Moment) (n p : ℕ) (chain : Chain) (n′ p′ : ℕ) (chain′ : Chain)
+    → FirstStop c ms n p chain → FirstStop c ms n′ p′ chain′ → stopped n p chain ≡ stopped n′ p′ chain′
+one-stop c ms n p chain n′ p′ chain′ x y = sym (stops-there c ms n p chain x) ∙ stops-there c ms n′ p′ chain′ y
 
 pub ending-is : (c : Counts) (ms : List Moment) (e : End) → (ending c (events ms) ≡ e) ↔ Ends c ms e
 unfolding Ends

@@ -1,20 +1,20 @@
 -- The moments of a drawing: what it comes to, one after the other, each with the table, the open calls and their transformations as they are there.
 -- The rules 10 to 17 of document 01 speak of moments (DrawingRules); here each event of the story is what one moment leads to, and no moment is left out.
 -- Assumes nothing.
-use mathlib.Core.Path.{_≡_, refl, sym, ap, ap₂, _∙_, subst}
+use mathlib.Core.Path.{_≡_, refl, sym, ap, ap₂, _∙_}
 use mathlib.Core.Bool.{Bool, true, false}
-use mathlib.Core.List.{List, [], _∷_, _++_, map, map-append}
+use mathlib.Core.List.{List, [], _∷_, _++_, map}
 use mathlib.Core.Option.{Option, none, some}
 use Prim.Native.Nat.{ℕ, zero, suc, _+_, _-_}
 use native.Mathlib.Omega.{arith}
-use lib.Dec.{ltb, eqb}
+use lib.Dec.{ltb}
 use lib.IntN.{ℤ}
 use lib.ListN.{length, length-append}
-use Rattle.definition.specs.Words.{if_then_else_, Placed, at, any}
+use Rattle.definition.specs.Words.{if_then_else_, Placed, at}
 use Rattle.definition.specs.Commands.{Shape, Turn}
 use Rattle.definition.specs.Turns.{offAxes}
 use Rattle.definition.specs.Table.{Step, shape, instance, Definition, Table, find, enter}
-use Rattle.definition.specs.Drawing.{Deed, output, define, remove, Chain, Drawn, Event, called, drew, entered, removed, refused}
+use Rattle.definition.specs.Drawing.{Deed, output, define, remove, Chain, Event, called, drew, entered, removed, refused}
 use Rattle.definition.specs.Drawing.{drawShape, drawStep, drawBody, callFault, unless, drawCall, happens, tableAfter, story}
 
 -- a call of a symbol with its own transformations; a shape on its layer; a definition to enter; a symbol number from which on entries are removed

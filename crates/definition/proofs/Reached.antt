@@ -1,23 +1,23 @@
 -- Wherever the drawing gets, its limits have been kept; so the rule that stops it is broken by just one: 513 live definitions, depth 33, call 1,048,577, shape 1,048,577.
 -- Assumes nothing.
-use mathlib.Core.Path.{_≡_, refl, sym, ap, _∙_, subst}
+use mathlib.Core.Path.{_≡_, refl, sym, subst}
 use mathlib.Core.Bool.{Bool, true, false}
-use mathlib.Core.List.{List, [], _∷_, _++_, nil≢cons, head-eq-of-cons-eq, tail-eq-of-cons-eq}
-use Prim.Native.Nat.{ℕ, zero, suc, _+_, _≤_, _<_}
+use mathlib.Core.List.{List, [], _∷_, _++_}
+use Prim.Native.Nat.{ℕ, suc, _+_, _≤_}
 use native.Mathlib.Omega.{arith}
 use lib.Dec.{ltb, eqb}
 use lib.IntN.{ℤ}
 use lib.ListN.{length}
-use Rattle.definition.specs.Words.{if_then_else_, Placed, at, those}
+use Rattle.definition.specs.Words.{if_then_else_, those}
 use Rattle.definition.specs.Commands.{Turn}
 use Rattle.definition.specs.Table.{Definition, Table, enter, forget}
 use Rattle.definition.specs.Drawing.{Deed, output, define, remove, Chain, tableAfter}
-use Rattle.definition.specs.Counts.{Counts, counts, End, finished, ending}
-use Rattle.definition.proofs.Range.{All, all-++}
-use Rattle.definition.proofs.Moments.{Act, calling, drawing, entering, removing, Moment, moment, events, deedMoments, moments}
-use Rattle.definition.proofs.DrawingRules.{Broken, live, off-axes, undefined, being-drawn, deep, many-calls, far, many-shapes, Breaks, tallied, tally, Unbroken, Lowest, FirstStop, unbroken-first, unbroken-rest, passed}
-use Rattle.definition.proofs.Counting.{drawing-few}
-use Rattle.definition.proofs.Depth.{Opened, OpenedAt, open-deed, moments-opened, all-map}
+use Rattle.definition.specs.Counts.{Counts, counts, shapesOf}
+use Rattle.definition.proofs.Range.{All}
+use Rattle.definition.proofs.Moments.{Act, entering, Moment, events, deedMoments, moments}
+use Rattle.definition.proofs.DrawingRules.{Broken, live, off-axes, undefined, being-drawn, deep, many-calls, far, many-shapes, tallied, tally, Unbroken, FirstStop, unbroken-first, unbroken-rest, passed}
+use Rattle.definition.proofs.Counting.{callsOf, redefinitionsOf, drawing-counts, drawing-few}
+use Rattle.definition.proofs.Depth.{Opened, OpenedAt, open-deed, moments-opened}
 
 -- a definition that is entered makes the table longer by one at most, and DD does not make it longer
 enter-longer : (d : Definition) (t : Table) → length (enter d t) ≤ length t + 1
@@ -80,6 +80,12 @@ all-at : {A : Type 0} (P : A → Type 0) (before : List A) (a : A) (after : List
 unfolding All
 all-at P [] a after x = x .0
 all-at P (b ∷ before) a after x = all-at P before a after (x .1)
+
+-- the counts where a moment is reached are the numbers of the calls, shapes and redefinitions that happened before
+pub reached-counts : (before : List Moment) → Unbroken (counts 0 0 0) before
+    → tally (counts 0 0 0) before
+    ≡ counts (length (callsOf (events before))) (length (shapesOf (events before))) (length (redefinitionsOf (events before)))
+reached-counts before u = drawing-counts (events before) (tally (counts 0 0 0) before) (passed (counts 0 0 0) before u)
 
 pub record Bounded (c : Counts) (m : Moment) : Type 0 where
   pub calls-few : c .calls ≤ 1048576

@@ -1,12 +1,12 @@
 -- Refusals 10 to 17 of a text: a text is refused with such a number exactly when it is a CIF text without a fault from 3 to 9 whose drawing the rule of that
 -- number stops first.
 -- Assumes nothing.
-use mathlib.Core.Path.{_≡_, refl, sym, ap, _∙_, subst}
+use mathlib.Core.Path.{_≡_, refl, ap, _∙_, subst}
 use mathlib.Core.Bool.{Bool, true, false, not, _&&_}
-use mathlib.Core.List.{List, [], _∷_, _++_, map}
+use mathlib.Core.List.{List, [], _∷_, map}
 use mathlib.Core.Logic.{_↔_}
 use mathlib.Core.Option.{Option, none, some}
-use Prim.Native.Nat.{ℕ, zero, suc, _≤_, _<_}
+use Prim.Native.Nat.{ℕ, _≤_}
 use native.Mathlib.Omega.{arith}
 use lib.Dec.{leb}
 use lib.IntN.{ℤ}
@@ -18,7 +18,7 @@ use Rattle.definition.specs.Commands.{Number, Turn, Command, commands}
 use Rattle.definition.specs.Standing.{Standing, outside, after, scaled, whole}
 use Rattle.definition.specs.Faults.{Refusal, beyond, distances, numbersOf, zeroScale, degenerate, layerless, tooMany, atNumbers, atCommand, faults, allFaults, firstFault}
 use Rattle.definition.specs.Table.{Table}
-use Rattle.definition.specs.Drawing.{Chain, Event, deeds, story}
+use Rattle.definition.specs.Drawing.{Chain, deeds}
 use Rattle.definition.specs.Counts.{Counts, counts, End, finished, stopped, ending, shapesOf}
 use Rattle.definition.specs.Flat.{flat}
 use Rattle.definition.specs.Answer.{Outcome, accepted, rejected, drawingOf, fitted, drawn, outcomeOf, Answers, too-long, not-cif, read}
