@@ -120,8 +120,11 @@ pub off-axes-decides : (ts : List (Turn ℤ)) → Decides (Among Askew ts) (offA
 unfolding offAxes
 off-axes-decides ts = any-decides Askew (λ t. any (λ d. not (zero? (d .x)) && not (zero? (d .y))) (bearings t)) askew-decides ts
 
--- 01, refusal 12: no live definition has the number
-pub undefined-decides : (n : ℕ) (t : Table) → Decides (Among (λ (d : Definition). d .symbol ≡ n) t → ⊥) (none? (find n t))
+-- 01, refusal 12: a live definition has the number, or none has it
+abbrev pub Defined : Table → ℕ → Type 0
+Defined t n = Among (λ (d : Definition). d .symbol ≡ n) t
+
+pub undefined-decides : (n : ℕ) (t : Table) → Decides (Defined t n → ⊥) (none? (find n t))
 unfolding find
 undefined-decides n [] = holds (among-none (λ (d : Definition). d .symbol ≡ n))
 undefined-decides n (d ∷ t) = go (eqb-decides (d .symbol) n) (undefined-decides n t)
@@ -139,7 +142,10 @@ undefined-decides n (d ∷ t) = go (eqb-decides (d .symbol) n) (undefined-decide
     go (fails m) r = decides (λ h x. neither m h (among-cases Numbered x)) (λ h x. h (among-later Numbered x)) r
 
 -- 01, refusal 13: an open call is of that symbol
-pub being-drawn-decides : (n : ℕ) (chain : Chain) → Decides (Among (λ (c : Placed ℕ). c .what ≡ n) chain) (any (λ c. eqb (c .what) n) chain)
+abbrev pub BeingDrawn : Chain → ℕ → Type 0
+BeingDrawn chain n = Among (λ (o : Placed ℕ). o .what ≡ n) chain
+
+pub being-drawn-decides : (n : ℕ) (chain : Chain) → Decides (BeingDrawn chain n) (any (λ c. eqb (c .what) n) chain)
 being-drawn-decides n chain = any-decides (λ (c : Placed ℕ). c .what ≡ n) (λ c. eqb (c .what) n) (λ c. eqb-decides (c .what) n) chain
 
 -- 01, refusal 14
@@ -176,6 +182,10 @@ final-decides f (p ∷ ps) =
     right (inl (inr h)) = inr (inl h)
     right (inr h) = inr (inr h)
 
-pub final-point-decides : (net : List (Turn ℤ)) (k : Shape ℤ) → Decides (Among (λ (p : Point ℤ). Beyond (inOrder act net p)) (k .points)) (any beyond (both (moved net k .points)))
+-- a point of the shape, in its final place
+abbrev pub FinallyBeyond : List (Turn ℤ) → Shape ℤ → Type 0
+FinallyBeyond net k = Among (λ (p : Point ℤ). Beyond (inOrder act net p)) (k .points)
+
+pub final-point-decides : (net : List (Turn ℤ)) (k : Shape ℤ) → Decides (FinallyBeyond net k) (any beyond (both (moved net k .points)))
 unfolding moved
 final-point-decides net k = final-decides (inOrder act net) (k .points)

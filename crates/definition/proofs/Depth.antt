@@ -16,23 +16,19 @@ use Rattle.definition.specs.Drawing.{Deed, output, define, remove, Chain
 use Rattle.definition.specs.Counts.{counts, End, finished, counted}
 use Rattle.definition.proofs.Range.{All, all-++}
 use Rattle.definition.proofs.Moments.{calling, Moment, moment, eventOf, eventAt, followed, stepMoments, bodyMoments, callMoments, deedMoments, moments}
-use Rattle.definition.proofs.Decides.{Decides, holds, fails, Among, any-decides, eqb-decides, among-first, among-later, among-none}
+use Rattle.definition.proofs.Decides.{Decides, holds, fails, Among, Defined, BeingDrawn, any-decides, eqb-decides, among-first, among-later, among-none}
 use Rattle.definition.proofs.DrawingRules.{Breaks, undefined, being-drawn, Met, goes-on, stops, met}
 use Rattle.definition.proofs.Counting.{not-finished}
-
--- a live definition has the number
-abbrev pub Defined : Table → Placed ℕ → Type 0
-Defined t o = Among (λ (d : Definition). d .symbol ≡ o .what) t
 
 -- no symbol stands twice
 unfoldable pub Distinct : Chain → Type 0
 Distinct [] = Unit {0}
-Distinct (o ∷ chain) = (Among (λ (u : Placed ℕ). u .what ≡ o .what) chain → ⊥) × Distinct chain
+Distinct (o ∷ chain) = (BeingDrawn chain (o .what) → ⊥) × Distinct chain
 
 pub record Opened (t : Table) (chain : Chain) : Type 0 where
   pub few : length chain ≤ 32
   pub distinct : Distinct chain
-  pub defined : All (Defined t) chain
+  pub defined : All (λ (o : Placed ℕ). Defined t (o .what)) chain
 
 -- at a moment of the table t
 pub record OpenedAt (t : Table) (m : Moment) : Type 0 where
@@ -49,10 +45,10 @@ made-unbroken m q chain d e = go (met (counts 0 0 0) m) (ap (counted (counts 0 0
     go (stops l) f = absurd (not-finished f)
 
 -- so its symbol is defined, since that is decided
-defined-when : (t : Table) (o : Placed ℕ) → ((Defined t o → ⊥) → ⊥) → Defined t o
-defined-when t o h = go (any-decides (λ (d : Definition). d .symbol ≡ o .what) (λ d. eqb (d .symbol) (o .what)) (λ d. eqb-decides (d .symbol) (o .what)) t)
+defined-when : (t : Table) (n : ℕ) → ((Defined t n → ⊥) → ⊥) → Defined t n
+defined-when t n h = go (any-decides (λ (d : Definition). d .symbol ≡ n) (λ d. eqb (d .symbol) n) (λ d. eqb-decides (d .symbol) n) t)
   where
-    go : {b : Bool} → Decides (Defined t o) b → Defined t o
+    go : {b : Bool} → Decides (Defined t n) b → Defined t n
     go (holds x) = x
     go (fails x) = absurd (h x)
 
@@ -63,7 +59,7 @@ among-last P l a h = go (List·Memᴰ·append-cases l (h .listed))
     go (inl m) = inl (record { one = h .one; listed = m; so = h .so })
     go (inr m) = inr (subst P (List·Memᴰ·eq-of-singleton m) (h .so))
 
-distinct-more : (chain : Chain) (o : Placed ℕ) → Distinct chain → (Among (λ (u : Placed ℕ). u .what ≡ o .what) chain → ⊥) → Distinct (chain ++ (o ∷ []))
+distinct-more : (chain : Chain) (o : Placed ℕ) → Distinct chain → (BeingDrawn chain (o .what) → ⊥) → Distinct (chain ++ (o ∷ []))
 unfolding Distinct
 distinct-more [] o x new = (among-none (λ (u : Placed ℕ). u .what ≡ o .what), tt)
 distinct-more (a ∷ chain) o x new = (λ h. go (among-last Same chain o h), distinct-more chain o (x .1) (λ h. new (among-later Other h)))
@@ -78,13 +74,13 @@ distinct-more (a ∷ chain) o x new = (λ h. go (among-last Same chain o h), dis
     go (inl h) = x .0 h
     go (inr e) = new (among-first Other (sym e))
 
-opened-more : (t : Table) (chain : Chain) (o : Placed ℕ) → Opened t chain → length chain < 32 → (Among (λ (u : Placed ℕ). u .what ≡ o .what) chain → ⊥) → Defined t o
+opened-more : (t : Table) (chain : Chain) (o : Placed ℕ) → Opened t chain → length chain < 32 → (BeingDrawn chain (o .what) → ⊥) → Defined t (o .what)
     → Opened t (chain ++ (o ∷ []))
 unfolding All
 opened-more t chain o x room new known = record {
   few = rw length-append (omega arith);
   distinct = distinct-more chain o (x .distinct) new;
-  defined = all-++ (Defined t) chain (o ∷ []) (x .defined) (known, tt);
+  defined = all-++ (λ (u : Placed ℕ). Defined t (u .what)) chain (o ∷ []) (x .defined) (known, tt);
 }
 
 all-followed : (P : Moment → Type 0) (e : Event) (go : Definition → List Moment)
@@ -119,7 +115,7 @@ open-call (suc left) t chain net p n ts h x =
       record { table-is = refl; opened = x },
       all-followed (OpenedAt t) (eventOf t chain net p (calling n ts)) (λ d. bodyMoments (callMoments left t deeper (ts ++ net)) t deeper (ts ++ net) (d .body))
           (λ q ch d e. let u = made-unbroken (moment t chain net p (calling n ts)) q ch d e in
-          let wider : Opened t deeper = opened-more t chain (at p n) x (omega arith) (λ y. u 13 (being-drawn y)) (defined-when t (at p n) (λ y. u 12 (undefined y))) in
+          let wider : Opened t deeper = opened-more t chain (at p n) x (omega arith) (λ y. u 13 (being-drawn y)) (defined-when t n (λ y. u 12 (undefined y))) in
           open-body t deeper (ts ++ net) wider (callMoments left t deeper (ts ++ net)) (λ q m us. open-call left t deeper (ts ++ net) q m us one-more wider) (d .body)),
     )
 

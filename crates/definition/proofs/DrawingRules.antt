@@ -10,15 +10,15 @@ use Prim.Native.Nat.{ℕ, suc, _+_, _≤_, _<_}
 use native.Mathlib.Omega.{arith}
 use lib.IntN.{ℤ}
 use lib.ListN.{length}
-use Rattle.definition.specs.Words.{if_then_else_, Placed, Point, none?}
+use Rattle.definition.specs.Words.{if_then_else_, none?}
 use Rattle.definition.specs.Commands.{Shape, Turn}
-use Rattle.definition.specs.Turns.{act, inOrder, moved}
+use Rattle.definition.specs.Turns.{moved}
 use Rattle.definition.specs.Table.{Definition, Table, find, enter}
 use Rattle.definition.specs.Drawing.{Deed, Chain, drew, entered, refused, drawShape, callFault, story}
 use Rattle.definition.specs.Counts.{Counts, counts, End, finished, stopped, counted, goOn, ending}
 use Rattle.definition.proofs.Joined.{ending-++}
 use Rattle.definition.proofs.Moments.{Act, calling, drawing, entering, removing, Moment, moment, callEvent, eventOf, eventAt, events, events-++, moments, story-events}
-use Rattle.definition.proofs.Decides.{Decides, holds, fails, Among, Askew, Beyond}
+use Rattle.definition.proofs.Decides.{Decides, holds, fails, Among, Askew, Defined, BeingDrawn, FinallyBeyond}
 use Rattle.definition.proofs.Decides.{off-axes-decides, undefined-decides, being-drawn-decides, depth-decides, ltb-decides, final-point-decides}
 
 -- 01, "Numbers a refusal carries", the rows 10 to 17: what an act breaks where the counts are c, the table t, the open calls `chain` and their transformations `net`
@@ -28,15 +28,15 @@ pub data Broken (c : Counts) (t : Table) (chain : Chain) (net : List (Turn ℤ))
   -- drawn call with an R off the axes
   off-axes : {n : ℕ} {ts : List (Turn ℤ)} → Among Askew ts → Broken c t chain net (calling n ts) 11
   -- drawn call of an undefined symbol
-  undefined : {n : ℕ} {ts : List (Turn ℤ)} → (Among (λ (d : Definition). d .symbol ≡ n) t → ⊥) → Broken c t chain net (calling n ts) 12
+  undefined : {n : ℕ} {ts : List (Turn ℤ)} → (Defined t n → ⊥) → Broken c t chain net (calling n ts) 12
   -- drawn call of a symbol already being drawn
-  being-drawn : {n : ℕ} {ts : List (Turn ℤ)} → Among (λ (o : Placed ℕ). o .what ≡ n) chain → Broken c t chain net (calling n ts) 13
-  -- depth 33
+  being-drawn : {n : ℕ} {ts : List (Turn ℤ)} → BeingDrawn chain n → Broken c t chain net (calling n ts) 13
+  -- depth 33: an executable call has depth 1
   deep : {n : ℕ} {ts : List (Turn ℤ)} → 33 ≤ length chain + 1 → Broken c t chain net (calling n ts) 14
   -- call 1,048,577
   many-calls : {n : ℕ} {ts : List (Turn ℤ)} → 1048577 ≤ c .calls + 1 → Broken c t chain net (calling n ts) 15
   -- a final point beyond 16,777,215
-  far : {l : List ℕ} {k : Shape ℤ} → Among (λ (p : Point ℤ). Beyond (inOrder act net p)) (k .points) → Broken c t chain net (drawing l k) 16
+  far : {l : List ℕ} {k : Shape ℤ} → FinallyBeyond net k → Broken c t chain net (drawing l k) 16
   -- shape 1,048,577
   many-shapes : {l : List ℕ} {k : Shape ℤ} → 1048577 ≤ c .shapes + 1 → Broken c t chain net (drawing l k) 17
 
@@ -88,7 +88,7 @@ pub data Met (c : Counts) (m : Moment) : End → Type 0 where
 module _ (c : Counts) (t : Table) (chain : Chain) (net : List (Turn ℤ)) (p : ℕ) where
   -- a call breaks no rule below a number where the facts of those rules fail; so a shape, and a definition
   call-rule : (n : ℕ) (ts : List (Turn ℤ)) (number : ℕ) → (11 < number → Among Askew ts → ⊥)
-      → (12 < number → (Among (λ (d : Definition). d .symbol ≡ n) t → ⊥) → ⊥) → (13 < number → Among (λ (o : Placed ℕ). o .what ≡ n) chain → ⊥)
+      → (12 < number → (Defined t n → ⊥) → ⊥) → (13 < number → BeingDrawn chain n → ⊥)
       → (14 < number → 33 ≤ length chain + 1 → ⊥) → (15 < number → 1048577 ≤ c .calls + 1 → ⊥)
       → (k : ℕ) → k < number → Broken c t chain net (calling n ts) k → ⊥
   call-rule n ts number a b d e f k h (off-axes x) = a h x
@@ -102,7 +102,7 @@ module _ (c : Counts) (t : Table) (chain : Chain) (net : List (Turn ℤ)) (p : �
     itself = moment t chain net p (calling n ts)
 
     -- a call that breaks no rule from 11 to 14
-    made : {b : Bool} → (Among Askew ts → ⊥) → ((Among (λ (d : Definition). d .symbol ≡ n) t → ⊥) → ⊥) → (Among (λ (o : Placed ℕ). o .what ≡ n) chain → ⊥)
+    made : {b : Bool} → (Among Askew ts → ⊥) → ((Defined t n → ⊥) → ⊥) → (BeingDrawn chain n → ⊥)
         → (33 ≤ length chain + 1 → ⊥) → Decides (c .calls < 1048576) b
         → Met c itself (if b then finished (counts (c .calls + 1) (c .shapes) (c .redefinitions)) else stopped 15 p chain)
     unfolding tallyOf
@@ -116,7 +116,7 @@ module _ (c : Counts) (t : Table) (chain : Chain) (net : List (Turn ℤ)) (p : �
     call-met = go (off-axes-decides ts) (find n t) (undefined-decides n t) (being-drawn-decides n chain) (depth-decides (length chain))
       where
         go : {a b d : Bool} → Decides (Among Askew ts) a → (found : Option Definition)
-            → Decides (Among (λ (e : Definition). e .symbol ≡ n) t → ⊥) (none? found) → Decides (Among (λ (o : Placed ℕ). o .what ≡ n) chain) b
+            → Decides (Defined t n → ⊥) (none? found) → Decides (BeingDrawn chain n) b
             → Decides (33 ≤ length chain + 1) d
             → Met c itself (counted c (callEvent (if a then some 11 else if none? found then some 12 else if b then some 13 else if d then some 14 else none) found p chain))
         go (holds x) found y z u =
@@ -130,12 +130,12 @@ module _ (c : Counts) (t : Table) (chain : Chain) (net : List (Turn ℤ)) (p : �
         go (fails x) (some d) (fails y) (fails z) (fails u) = made x y z u (ltb-decides (c .calls) 1048576)
 
   module _ (l : List ℕ) (k : Shape ℤ) where
-    shape-rule : (number : ℕ) → (16 < number → Among (λ (q : Point ℤ). Beyond (inOrder act net q)) (k .points) → ⊥)
+    shape-rule : (number : ℕ) → (16 < number → FinallyBeyond net k → ⊥)
         → (17 < number → 1048577 ≤ c .shapes + 1 → ⊥) → (i : ℕ) → i < number → Broken c t chain net (drawing l k) i → ⊥
     shape-rule number a b i h (far x) = a h x
     shape-rule number a b i h (many-shapes x) = b h x
 
-    inside : {b : Bool} → (Among (λ (q : Point ℤ). Beyond (inOrder act net q)) (k .points) → ⊥) → Decides (c .shapes < 1048576) b
+    inside : {b : Bool} → (FinallyBeyond net k → ⊥) → Decides (c .shapes < 1048576) b
         → Met c (moment t chain net p (drawing l k)) (if b then finished (counts (c .calls) (c .shapes + 1) (c .redefinitions)) else stopped 17 p chain)
     unfolding tallyOf
     inside x (holds y) = goes-on (λ i. shape-rule (suc i) (λ h. x) (omega arith) i (omega arith))
@@ -147,7 +147,7 @@ module _ (c : Counts) (t : Table) (chain : Chain) (net : List (Turn ℤ)) (p : �
     unfolding eventOf drawShape counted
     shape-met = go (final-point-decides net k)
       where
-        go : {a : Bool} → Decides (Among (λ (q : Point ℤ). Beyond (inOrder act net q)) (k .points)) a
+        go : {a : Bool} → Decides (FinallyBeyond net k) a
             → Met c (moment t chain net p (drawing l k))
             (counted c (if a then refused 16 p chain else drew (record { place = p; chain = chain; net = net; layer-of = l; itself = moved net k })))
         go (holds x) = stops (record { breaks = far x; none-lower = shape-rule 16 (omega arith) (omega arith) })
