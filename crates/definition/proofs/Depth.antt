@@ -30,6 +30,9 @@ pub record Opened (t : Table) (chain : Chain) : Type 0 where
   pub distinct : Distinct chain
   pub defined : All (λ (o : Placed ℕ). Defined t (o .what)) chain
 
+abbrev pub OpenCalls : Moment → Type 0
+OpenCalls m = Opened (m .table) (m .chain)
+
 -- at a moment of the table t
 pub record OpenedAt (t : Table) (m : Moment) : Type 0 where
   pub table-is : m .table ≡ t
@@ -137,10 +140,10 @@ all-map P Q f [] x = tt
 all-map P Q f (a ∷ l) x = (f a (x .0), all-map P Q f l (x .1))
 
 -- the open calls at every moment of a drawing
-pub moments-opened : (t : Table) (ds : List Deed) → All (λ (m : Moment). Opened (m .table) (m .chain)) (moments t ds)
+pub moments-opened : (t : Table) (ds : List Deed) → All OpenCalls (moments t ds)
 unfolding moments All
 moments-opened t [] = tt
 moments-opened t (d ∷ ds) =
-    all-++ (λ (m : Moment). Opened (m .table) (m .chain)) (deedMoments t d) (moments (tableAfter t d) ds)
-    (all-map (OpenedAt t) (λ (m : Moment). Opened (m .table) (m .chain)) (λ m x. subst (λ (u : Table). Opened u (m .chain)) (sym (x .table-is)) (x .opened)) (deedMoments t d) (open-deed t d))
+    all-++ OpenCalls (deedMoments t d) (moments (tableAfter t d) ds)
+    (all-map (OpenedAt t) OpenCalls (λ m x. subst (λ (u : Table). Opened u (m .chain)) (sym (x .table-is)) (x .opened)) (deedMoments t d) (open-deed t d))
     (moments-opened (tableAfter t d) ds)

@@ -17,7 +17,7 @@ use Rattle.definition.proofs.Range.{All}
 use Rattle.definition.proofs.Moments.{Act, entering, Moment, events, deedMoments, moments}
 use Rattle.definition.proofs.DrawingRules.{Broken, live, off-axes, undefined, being-drawn, deep, many-calls, far, many-shapes, tallied, tally, Unbroken, FirstStop, unbroken-first, unbroken-rest, passed}
 use Rattle.definition.proofs.Counting.{callsOf, redefinitionsOf, drawing-counts, drawing-few}
-use Rattle.definition.proofs.Depth.{Opened, OpenedAt, open-deed, moments-opened}
+use Rattle.definition.proofs.Depth.{OpenedAt, OpenCalls, open-deed, moments-opened}
 
 -- a definition that is entered makes the table longer by one at most, and DD does not make it longer
 enter-longer : (d : Definition) (t : Table) → length (enter d t) ≤ length t + 1
@@ -91,7 +91,7 @@ pub record Bounded (c : Counts) (m : Moment) : Type 0 where
   pub calls-few : c .calls ≤ 1048576
   pub shapes-few : c .shapes ≤ 1048576
   pub table-few : length (m .table) ≤ 512
-  pub opened : Opened (m .table) (m .chain)
+  pub opened : OpenCalls m
 
 pub reached-bounded : (t : Table) (ds : List Deed) → length t ≤ 512 → (before : List Moment) (m : Moment) (after : List Moment)
     → moments t ds ≡ before ++ (m ∷ after) → Unbroken (counts 0 0 0) before → Bounded (tally (counts 0 0 0) before) m
@@ -101,7 +101,7 @@ reached-bounded t ds h before m after e u =
       calls-few = few .0;
       shapes-few = few .1;
       table-few = small-at (counts 0 0 0) before m after (subst Small e (small t ds h)) u;
-      opened = all-at (λ (i : Moment). Opened (i .table) (i .chain)) before m after (subst (All (λ (i : Moment). Opened (i .table) (i .chain))) e (moments-opened t ds));
+      opened = all-at OpenCalls before m after (subst (All OpenCalls) e (moments-opened t ds));
     }
 
 -- a limit is broken by just one

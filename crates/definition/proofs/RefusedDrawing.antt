@@ -39,6 +39,9 @@ rule-numbers (many-calls x) = (omega arith, omega arith)
 rule-numbers (far x) = (omega arith, omega arith)
 rule-numbers (many-shapes x) = (omega arith, omega arith)
 
+lower : (j k : ℕ) → j ≤ 9 → 10 ≤ k → j ≡ k → ⊥
+lower j k h l e = omega arith
+
 -- the faults of commands have the numbers up to 9
 abbrev Low : Refusal → Type 0
 Low r = r .what ≤ 9
@@ -82,7 +85,8 @@ low-first cs r h = go (allFaults (outside []) cs) (low-all (outside []) cs) h
 
 -- ---- a list of commands
 
-abbrev StopsFirst : List (Placed Command) → (number place : ℕ) → Chain → Type 0
+-- the rule of this number stops the drawing of the commands first
+abbrev pub StopsFirst : List (Placed Command) → (number place : ℕ) → Chain → Type 0
 StopsFirst cs number place chain = FirstStop (counts 0 0 0) (moments [] (deeds (outside []) cs)) number place chain
 
 module _ (cs : List (Placed Command)) (room number place : ℕ) (chain : Chain) where
@@ -99,10 +103,7 @@ module _ (cs : List (Placed Command)) (room number place : ℕ) (chain : Chain) 
   drawn-refused : 10 ≤ number → number ≤ 17 → (o : Option Refusal) → firstFault cs ≡ o → drawn o cs room ≡ rejected number place chain
       → (firstFault cs ≡ none) × StopsFirst cs number place chain
   unfolding drawn
-  drawn-refused g h (some r) q x = let z : r .what ≡ number = cc in absurd (go z (low-first cs r q))
-    where
-      go : r .what ≡ number → r .what ≤ 9 → ⊥
-      go e l = omega arith
+  drawn-refused g h (some r) q x = absurd (lower (r .what) number (low-first cs r q) g (cc))
   drawn-refused g h none q x = (q, fitted-refused h (ending (counts 0 0 0) (drawingOf cs)) refl x)
 
   refused-drawn : firstFault cs ≡ none → StopsFirst cs number place chain → drawn (firstFault cs) cs room ≡ rejected number place chain
@@ -116,19 +117,13 @@ pub record DrawingRefused (t : List ℕ) (number place : ℕ) (chain : Chain) : 
   pub letters : List Letter
   pub marked : Marked t letters
   pub faultless : firstFault (commands 0 letters) ≡ none
-  pub stop : FirstStop (counts 0 0 0) (moments [] (deeds (outside []) (commands 0 letters))) number place chain
+  pub stop : StopsFirst (commands 0 letters) number place chain
 
 answer-refused : (t : List ℕ) (room number place : ℕ) (chain : Chain) → 10 ≤ number → number ≤ 17 → {o : Outcome} → Answers t room o → o ≡ rejected number place chain
     → DrawingRefused t number place chain
 unfolding outcomeOf
-answer-refused t room number place chain g h (too-long x) e = let z : _≡_ {A = ℕ} 1 number = cc in absurd (go z)
-  where
-    go : _≡_ {A = ℕ} 1 number → ⊥
-    go y = omega arith
-answer-refused t room number place chain g h (not-cif x y z) e = let w : _≡_ {A = ℕ} 2 number = cc in absurd (go w)
-  where
-    go : _≡_ {A = ℕ} 2 number → ⊥
-    go y = omega arith
+answer-refused t room number place chain g h (too-long x) e = absurd (lower 1 number (omega arith) g (cc))
+answer-refused t room number place chain g h (not-cif x y z) e = absurd (lower 2 number (omega arith) g (cc))
 answer-refused t room number place chain g h (read {m} x y) e =
     let d = drawn-refused (commands 0 m) room number place chain g h (firstFault (commands 0 m)) refl e in
     record { short = x; letters = m; marked = y; faultless = d .0; stop = d .1 }
