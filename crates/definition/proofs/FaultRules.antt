@@ -1,14 +1,14 @@
 -- Demand 2 for the refusals 3 to 9: a rule for each row of 01's table, and that the first fault of a text is the first rule broken: the commands in
 -- text order, within a command by number, within a number by place.
 -- Assumes nothing.
-use mathlib.Core.Path.{_≡_, refl, sym, ap, _∙_, subst}
+use mathlib.Core.Path.{_≡_, refl, sym, ap, _∙_, subst, ap₂}
 use mathlib.Core.Bool.{Bool, true, false, not, _&&_, _||_}
-use mathlib.Core.List.{List, [], _∷_, _++_, map, List·Memᴰ, List·Memᴰ·head, List·Memᴰ·tail, List·Memᴰ·cases-cons, List·Memᴰ·append-cases, Memᴰ·append-left, Memᴰ·append-right, List·Memᴰ·not-nil, List·Memᴰ·eq-of-singleton, Memᴰ·cast}
+use mathlib.Core.List.{List, [], _∷_, _++_, map, List·Memᴰ, List·Memᴰ·head, List·Memᴰ·tail, List·Memᴰ·cases-cons, List·Memᴰ·append-cases, Memᴰ·append-left, Memᴰ·append-right, List·Memᴰ·not-nil, List·Memᴰ·eq-of-singleton, Memᴰ·cast, nil≢cons, append-assoc}
 use mathlib.Core.Logic.{_⊎_, inl, inr, _↔_}
 use mathlib.Core.Option.{Option, none, some}
 use Prim.Native.Nat.{ℕ, zero, suc, _+_, _*_, _/_, _%_, _≤_, _<_}
 use native.Mathlib.Omega.{arith}
-use native.Mathlib.Nat.{zero-mod, zero-div}
+use native.Mathlib.Nat.{zero-mod, zero-div, mul-zero}
 use borrow.Author.Tests.{ltb-true, eqb-true, eqb-false, lt-ltb, eq-eqb, ne-eqb, le-ltb, not-true}
 use lib.Dec.{T, ltb, eqb}
 use lib.IntN.{ℤ, pos, negsuc, negℤ, natAbs}
@@ -22,7 +22,7 @@ use Rattle.definition.specs.Standing.{Standing, outside, after, scaled, 
 use Rattle.definition.specs.Faults.{beyond, zero?, partsOf, bearings, distances, numbersOf, zeroScale, nowhere, least, emptyShape, degenerate, layerless, tooMany}
 use Rattle.definition.specs.Faults.{Refusal, atNumbers, atCommand, faults, allFaults, firstFault}
 use Rattle.definition.proofs.Range.{All, all-++}
-use Rattle.definition.proofs.Sizes.{abs-neg}
+use Rattle.definition.proofs.Sizes.{abs-neg, nil-left, nil-right, all-right, no-fault, all-left}
 use Rattle.definition.proofs.Said.{length-map, all-both}
 use Rattle.definition.proofs.NumberPlaces.{Rising, done, idle, stands, Small, Null, Stands, commands-stand}
 use Rattle.definition.proofs.Wires.{Pathed, commands-pathed}
@@ -68,21 +68,28 @@ standing s [] = s
 standing s (c ∷ cs) = standing (after (c .what) s) cs
 
 -- no command breaks any rule where it stands, if s stands before the first
-abbrev pub Unbroken : Standing → List (Placed Command) → Type 0
-Unbroken s cs =
+abbrev pub UnbrokenFrom : Standing → List (Placed Command) → Type 0
+UnbrokenFrom s cs =
     (before : List (Placed Command)) (c : Placed Command) (behind : List (Placed Command)) → cs ≡ before ++ (c ∷ behind)
     → (number place : ℕ) → Breaks (standing s before) c number place → ⊥
 
 -- 01, order: for all commands in text order, within a command by number, within a number by place
-pub record FirstBreak (s : Standing) (cs : List (Placed Command)) (number place : ℕ) : Type 0 where
+pub record FirstBreakFrom (s : Standing) (cs : List (Placed Command)) (number place : ℕ) : Type 0 where
   pub before : List (Placed Command)
   pub command : Placed Command
   pub behind : List (Placed Command)
   pub split : cs ≡ before ++ (command ∷ behind)
   pub breaks : Breaks (standing s before) command number place
-  pub none-before : Unbroken s before
+  pub none-before : UnbrokenFrom s before
   pub none-lower : (n p : ℕ) → n < number → Breaks (standing s before) command n p → ⊥
   pub none-nearer : (p : ℕ) → p < place → Breaks (standing s before) command number p → ⊥
+
+-- a text's commands begin outside definitions, with no layer set
+abbrev pub FirstBreak : List (Placed Command) → (number place : ℕ) → Type 0
+FirstBreak cs number place = FirstBreakFrom (outside []) cs number place
+
+abbrev pub Unbroken : List (Placed Command) → Type 0
+Unbroken cs = UnbrokenFrom (outside []) cs
 
 -- ---- tests and members
 
@@ -435,3 +442,326 @@ module _ (s : Standing) (c : Placed Command) where
   listed (many-points k e h) =
       among-nines (subst (λ (w : Command). tooMany w ≡ true) (sym e) (or-one _ _ (inl (or-one _ _ (inl (lt-ltb 1024 (length (k .points)) h))))))
   listed (many-turns n ts e h) = among-nines (subst (λ (w : Command). tooMany w ≡ true) (sym e) (lt-ltb 32 (length ts) h))
+
+-- ---- the first refusal of a command is the least, by number and then by place
+
+abbrev Earlier : Refusal → Refusal → Type 0
+Earlier r q = (r .what < q .what) ⊎ ((r .what ≡ q .what) × (r .place ≤ q .place))
+
+unfoldable Least : List Refusal → Type 0
+Least [] = Unit {0}
+Least (r ∷ l) = All (Earlier r) l
+
+-- refusals of number n; and refusals above it
+record Numbered (n : ℕ) (l : List Refusal) : Type 0 where
+  number : All (λ (r : Refusal). r .what ≡ n) l
+  in-order : Least l
+
+record Above (n : ℕ) (l : List Refusal) : Type 0 where
+  above : All (λ (r : Refusal). n < r .what) l
+  in-order : Least l
+
+all-so : {A : Type 0} (P Q : A → Type 0) → ((a : A) → P a → Q a) → (l : List A) → All P l → All Q l
+all-so P Q f l x = all-both P P Q (λ a p q. f a p) l x x
+
+beneath : {k n : ℕ} (a : List Refusal) → k < n → Numbered n a → Above k a
+beneath {k} {n} a h x = record { above = all-so (λ (r : Refusal). r .what ≡ n) (λ (r : Refusal). k < r .what) (λ r e. omega arith) a (x .number); in-order = x .in-order }
+
+joined-order : {n : ℕ} (a b : List Refusal) → All (λ (r : Refusal). r .what ≡ n) a → Least a → Above n b → Least (a ++ b)
+unfolding Least All
+joined-order [] b x o y = y .in-order
+joined-order {n} (r ∷ a) b x o y = all-++ (Earlier r) a b o (all-so (λ (q : Refusal). n < q .what) (Earlier r) (λ q e. inl (omega (arith, x .0))) b (y .above))
+
+joined : {k n : ℕ} (a b : List Refusal) → k < n → Numbered n a → Above n b → Above k (a ++ b)
+joined {k} {n} a b h x y =
+    record {
+      above =
+          all-++ (λ (r : Refusal). k < r .what) a b (beneath a h x .above)
+          (all-so (λ (r : Refusal). n < r .what) (λ (r : Refusal). k < r .what) (λ r e. omega arith) b (y .above));
+      in-order = joined-order a b (x .number) (x .in-order) y;
+    }
+
+one-refusal : (n p : ℕ) (b : Bool) → Numbered n (atCommand n b p)
+unfolding Least All
+one-refusal n p true = record { number = (refl, tt); in-order = tt }
+one-refusal n p false = record { number = tt; in-order = tt }
+
+-- of numbers that rise, where idle ones never fail
+module _ (Idle : ℤ → Type 0) (n : ℕ) (t : ℤ → Bool) (passes : (z : ℤ) → Idle z → t z ≡ false) where
+  abbrev From : ℕ → Refusal → Type 0
+  From low r = (r .what ≡ n) × (low ≤ r .place)
+
+  abbrev refusals : List Number → List Refusal
+  refusals ds = map (λ d. at (d .place) n) (those (λ d. t (d .what)) ds)
+
+  all-from : {low high : ℕ} {ds : List Number} → Rising Idle low high ds → All (From low) (refusals ds)
+  unfolding those All
+  all-from done = tt
+  all-from (idle {d} {ds} z r) = rw (passes (d .what) z) (all-from r)
+  all-from {low} (stands {d} {ds} a b r) = go (t (d .what)) (all-so (From (suc (d .place))) (From low) (λ q e. (e .0, omega (arith, e .1))) (refusals ds) (all-from r))
+    where
+      go : (b : Bool) → All (From low) (refusals ds) → All (From low) (map (λ x. at (x .place) n) (if b then d ∷ those (λ x. t (x .what)) ds else those (λ x. t (x .what)) ds))
+      go true x = ((refl, a), x)
+      go false x = x
+
+  least-first : {low high : ℕ} {ds : List Number} → Rising Idle low high ds → Least (refusals ds)
+  unfolding those Least All
+  least-first done = tt
+  least-first (idle {d} {ds} z r) = rw (passes (d .what) z) (least-first r)
+  least-first (stands {d} {ds} a b r) = go (t (d .what)) (all-from r) (least-first r)
+    where
+      go : (b : Bool) → All (From (suc (d .place))) (refusals ds) → Least (refusals ds) → Least (map (λ x. at (x .place) n) (if b then d ∷ those (λ x. t (x .what)) ds else those (λ x. t (x .what)) ds))
+      go true x y = all-so (From (suc (d .place))) (Earlier (at (d .place) n)) (λ q e. inr (sym (e .0), omega (arith, e .1))) (refusals ds) x
+      go false x y = y
+
+  rising-refusals : {low high : ℕ} {ds : List Number} → Rising Idle low high ds → Numbered n (atNumbers n t ds)
+  unfolding atNumbers
+  rising-refusals {low} {high} {ds} r = record { number = all-so (From low) (λ (q : Refusal). q .what ≡ n) (λ q e. e .0) (refusals ds) (all-from r); in-order = least-first r }
+
+module _ (s : Standing) where
+  small-within : (z : ℤ) → Small z → beyond z ≡ false
+  unfolding beyond
+  small-within z h = le-ltb 16777215 (natAbs z) (omega arith)
+
+  null-rest : (z : ℤ) → Null z → s .a * natAbs z % s .b ≡ 0
+  null-rest z h = ap (λ (n : ℕ). s .a * n % s .b) h ∙ ap (λ (n : ℕ). n % s .b) (mul-zero (s .a)) ∙ zero-mod (s .b)
+
+  null-scaled : (z : ℤ) → Null z → s .a * natAbs z / s .b ≡ 0
+  null-scaled z h = ap (λ (n : ℕ). s .a * n / s .b) h ∙ ap (λ (n : ℕ). n / s .b) (mul-zero (s .a)) ∙ zero-div (s .b)
+
+  null-whole : (z : ℤ) → Null z → not (whole s z) ≡ false
+  unfolding whole
+  null-whole z h = ap (λ (b : Bool). not b) (eq-eqb (s .a * natAbs z % s .b) 0 (null-rest z h))
+
+  null-within : (z : ℤ) → Null z → beyond (scaled s z) ≡ false
+  unfolding beyond
+  null-within z h = le-ltb 16777215 (natAbs (scaled s z)) (omega (arith, abs-scaled s z, null-scaled z h))
+
+  faults-least : (c : Placed Command) (high : ℕ) → Stands high c → Least (faults s c)
+  unfolding faults
+  faults-least c high h =
+      joined {k = 0} (threes s c) _ (omega arith) (rising-refusals Small 3 beyond small-within (h .numbers-rise))
+      (joined (fours s c) _ (omega arith) (one-refusal 4 (c .place) (zeroScale (c .what)))
+      (joined (fives s c) _ (omega arith) (rising-refusals Null 5 (λ d. not (whole s d)) null-whole (h .distances-rise))
+      (joined (sixes s c) _ (omega arith) (rising-refusals Null 6 (λ d. beyond (scaled s d)) null-within (h .distances-rise))
+      (joined (sevens s c) _ (omega arith) (one-refusal 7 (c .place) (degenerate s (c .what)))
+      (joined (eights s c) _ (omega arith) (one-refusal 8 (c .place) (layerless s (c .what))) (beneath (nines s c) (omega arith) (one-refusal 9 (c .place) (tooMany (c .what)))))))))
+      .in-order
+
+-- ---- the first rule broken
+
+cons-head : {A : Type 0} {a b : A} {k l : List A} → _≡_ {A = List A} (a ∷ k) (b ∷ l) → a ≡ b
+cons-head e = cc
+
+cons-tail : {A : Type 0} {a b : A} {k l : List A} → _≡_ {A = List A} (a ∷ k) (b ∷ l) → k ≡ l
+cons-tail e = cc
+
+no-split : {A : Type 0} (k : List A) (a : A) (l : List A) → _≡_ {A = List A} [] (k ++ (a ∷ l)) → ⊥
+no-split [] a l e = nil≢cons e
+no-split (b ∷ k) a l e = nil≢cons e
+
+-- what is known of a command of a text whose length is `high`
+pub record Written (high : ℕ) (c : Placed Command) : Type 0 where
+  pub stand : Stands high c
+  pub path : Pathed (c .what)
+
+pub commands-written : {t : List ℕ} {m : List Letter} → Marked t m → All (Written (length t)) (commands 0 m)
+commands-written {t} {m} k =
+    all-both (Stands (length t)) (λ (c : Placed Command). Pathed (c .what)) (Written (length t)) (λ c x y. record { stand = x; path = y }) (commands 0 m)
+    (commands-stand 0 (length t) m (omega (arith, as-long m, ap length (k .reads)))) (commands-pathed (k .rule))
+  where
+    as-long : (m : List Letter) → length (bytes m) ≡ length m
+    as-long [] = refl
+    as-long (l ∷ m) = ap suc (as-long m)
+
+nothing-listed : {A : Type 0} {r : Refusal} {l : List Refusal} → r ∈ l → l ≡ [] → A
+nothing-listed {r = r} m e = absurd (List·Memᴰ·not-nil (subst (List·Memᴰ r) e m))
+
+module _ (s : Standing) (c : Placed Command) (high : ℕ) (w : Written high c) where
+  -- the first refusal goes before every rule broken
+  first-earlier : (r : Refusal) (l : List Refusal) → faults s c ≡ r ∷ l → {n p : ℕ} → Breaks s c n p → Earlier r (at p n)
+  first-earlier r l e {n} {p} b = go (List·Memᴰ·cases-cons (subst (List·Memᴰ (at p n)) e (listed s c b)))
+    where
+      others : All (Earlier r) l
+      others = unfold Least in (subst Least e (faults-least s c high (w .stand)))
+
+      go : (at p n ≡ r) ⊎ (at p n ∈ l) → Earlier r (at p n)
+      go (inl h) = inr (sym (ap (λ (q : Refusal). q .what) h), omega (arith, ap (λ (q : Refusal). q .place) h))
+      go (inr m) = all-member (Earlier r) m others
+
+  first-broken : (r : Refusal) (l : List Refusal) → faults s c ≡ r ∷ l → Breaks s c (r .what) (r .place)
+  first-broken r l e = broken s c (w .path) (subst (List·Memᴰ r) (sym e) (List·Memᴰ·head refl))
+
+unbroken-on : (s : Standing) (c : Placed Command) (cs : List (Placed Command)) → faults s c ≡ [] → UnbrokenFrom (after (c .what) s) cs → UnbrokenFrom s (c ∷ cs)
+unbroken-on s c cs e u [] d behind h n p b = nothing-listed (listed s c (subst (λ (x : Placed Command). Breaks s x n p) (sym (cons-head h)) b)) e
+unbroken-on s c cs e u (x ∷ before) d behind h n p b =
+    u before d behind (cons-tail h) n p (subst (λ (y : Placed Command). Breaks (standing (after (y .what) s) before) d n p) (sym (cons-head h)) b)
+
+-- no fault is found exactly where no rule is broken
+faultless-unbroken : (s : Standing) (cs : List (Placed Command)) → allFaults s cs ≡ [] → UnbrokenFrom s cs
+unfolding allFaults
+faultless-unbroken s [] e = λ before d behind h n p b. no-split before d behind h
+faultless-unbroken s (c ∷ cs) e = unbroken-on s c cs (nil-left (faults s c) _ e) (faultless-unbroken (after (c .what) s) cs (nil-right (faults s c) _ e))
+
+unbroken-faultless : (high : ℕ) (s : Standing) (cs : List (Placed Command)) → All (Written high) cs → UnbrokenFrom s cs → allFaults s cs ≡ []
+unfolding allFaults All
+unbroken-faultless high s [] x u = refl
+unbroken-faultless high s (c ∷ cs) x u =
+    rw (own (faults s c) refl) (unbroken-faultless high (after (c .what) s) cs (x .1) (λ before d behind h. u (c ∷ before) d behind (ap (λ (l : List (Placed Command)). c ∷ l) h)))
+  where
+    own : (l : List Refusal) → faults s c ≡ l → faults s c ≡ []
+    own [] e = e
+    own (r ∷ l) e = absurd (u [] c cs refl (r .what) (r .place) (first-broken s c high (x .0) r l e))
+
+-- the faults of commands, and then of others
+faults-on : (s : Standing) (cs ds : List (Placed Command)) → allFaults s (cs ++ ds) ≡ allFaults s cs ++ allFaults (standing s cs) ds
+unfolding allFaults
+faults-on s [] ds = refl
+faults-on s (c ∷ cs) ds = ap (λ (l : List Refusal). faults s c ++ l) (faults-on (after (c .what) s) cs ds) ∙ sym (append-assoc (faults s c) _ _)
+
+some-same : {A : Type 0} {a b : A} → _≡_ {A = Option A} (some a) (some b) → a ≡ b
+some-same e = cc
+
+no-first : {A B : Type 0} {a : A} → _≡_ {A = Option A} none (some a) → B
+no-first e = let z : _≡_ {A = ℕ} 0 1 = cc in absurd (omega arith)
+
+fault-broken : (high : ℕ) (s : Standing) (cs : List (Placed Command)) → All (Written high) cs → (r : Refusal) → first (allFaults s cs) ≡ some r → FirstBreakFrom s cs (r .what) (r .place)
+unfolding allFaults first All
+fault-broken high s [] x r e = no-first e
+fault-broken high s (c ∷ cs) x r e = go (faults s c) refl (fault-broken high (after (c .what) s) cs (x .1) r) e
+  where
+    further : faults s c ≡ [] → FirstBreakFrom (after (c .what) s) cs (r .what) (r .place) → FirstBreakFrom s (c ∷ cs) (r .what) (r .place)
+    further h f =
+        record {
+          before = c ∷ f .before;
+          command = f .command;
+          behind = f .behind;
+          split = ap (λ (l : List (Placed Command)). c ∷ l) (f .split);
+          breaks = f .breaks;
+          none-before = unbroken-on s c (f .before) h (f .none-before);
+          none-lower = f .none-lower;
+          none-nearer = f .none-nearer;
+        }
+
+    here : (l : List Refusal) → faults s c ≡ r ∷ l → FirstBreakFrom s (c ∷ cs) (r .what) (r .place)
+    here l h =
+        record {
+          before = [];
+          command = c;
+          behind = cs;
+          split = refl;
+          breaks = first-broken s c high (x .0) r l h;
+          none-before = λ before d behind g n p b. no-split before d behind g;
+          none-lower = λ n p g b. not-lower (first-earlier s c high (x .0) r l h b) g;
+          none-nearer = λ p g b. not-nearer (first-earlier s c high (x .0) r l h b) g;
+        }
+      where
+        not-lower : {n p : ℕ} → Earlier r (at p n) → n < r .what → ⊥
+        not-lower (inl i) g = omega arith
+        not-lower (inr i) g = omega (arith, i .0)
+
+        not-nearer : {p : ℕ} → Earlier r (at p (r .what)) → p < r .place → ⊥
+        not-nearer (inl i) g = omega arith
+        not-nearer (inr i) g = omega (arith, i .1)
+
+    go : (l : List Refusal) → faults s c ≡ l → (first (allFaults (after (c .what) s) cs) ≡ some r → FirstBreakFrom (after (c .what) s) cs (r .what) (r .place))
+        → first (l ++ allFaults (after (c .what) s) cs) ≡ some r → FirstBreakFrom s (c ∷ cs) (r .what) (r .place)
+    go [] h f g = further h (f g)
+    go (q ∷ l) h f g = here l (h ∙ ap (λ (y : Refusal). y ∷ l) (some-same g))
+
+broken-fault : (high : ℕ) (s : Standing) (cs : List (Placed Command)) → All (Written high) cs → {number place : ℕ} → FirstBreakFrom s cs number place → first (allFaults s cs) ≡ some (at place number)
+unfolding allFaults first All
+broken-fault high s cs x {number} {place} f =
+    ap (λ (l : List (Placed Command)). first (allFaults s l)) (f .split)
+    ∙ ap (λ (l : List Refusal). first l) (faults-on s (f .before) (f .command ∷ f .behind))
+    ∙ ap (λ (l : List Refusal). first (l ++ allFaults (standing s (f .before)) (f .command ∷ f .behind))) (unbroken-faultless high s (f .before) (all-left _ (f .before) _ all) (f .none-before))
+    ∙ go (faults (standing s (f .before)) (f .command)) refl
+  where
+    all : All (Written high) (f .before ++ (f .command ∷ f .behind))
+    all = subst (All (Written high)) (f .split) x
+
+    own : Written high (f .command)
+    own = all-right (Written high) (f .before) (f .command ∷ f .behind) all .0
+
+    same : (r : Refusal) → Breaks (standing s (f .before)) (f .command) (r .what) (r .place) → Earlier r (at place number) → r ≡ at place number
+    same r b (inl h) = absurd (f .none-lower (r .what) (r .place) h b)
+    same r b (inr h) =
+        let nearer : r .place < place → ⊥ = λ i. f .none-nearer (r .place) i (subst (λ (n : ℕ). Breaks (standing s (f .before)) (f .command) n (r .place)) (h .0) b) in
+        ap₂ (λ (p n : ℕ). at p n) (omega (arith, h .1, nearer)) (h .0)
+
+    go : (l : List Refusal) → faults (standing s (f .before)) (f .command) ≡ l
+        → first (l ++ allFaults (after (f .command .what) (standing s (f .before))) (f .behind)) ≡ some (at place number)
+    go [] h = nothing-listed (listed (standing s (f .before)) (f .command) (f .breaks)) h
+    go (r ∷ l) h =
+        ap (λ (q : Refusal). some q)
+        (same r (first-broken (standing s (f .before)) (f .command) high own r l h) (first-earlier (standing s (f .before)) (f .command) high own r l h (f .breaks)))
+
+-- 01, refusals 3 to 9: the first fault of a text is the first rule that its commands break
+pub first-fault : {t : List ℕ} {m : List Letter} → Marked t m → {number place : ℕ}
+    → (firstFault (commands 0 m) ≡ some (at place number)) ↔ FirstBreak (commands 0 m) number place
+unfolding firstFault
+first-fault {t} {m} k {number} {place} = (
+  fault-broken (length t) (outside []) (commands 0 m) (commands-written k) (at place number),
+  broken-fault (length t) (outside []) (commands 0 m) (commands-written k),
+)
+
+-- and it has none exactly where no command breaks a rule
+pub no-first-fault : {t : List ℕ} {m : List Letter} → Marked t m → (firstFault (commands 0 m) ≡ none) ↔ Unbroken (commands 0 m)
+unfolding firstFault first
+no-first-fault {t} {m} k = (
+  λ e. faultless-unbroken (outside []) (commands 0 m) (no-fault (allFaults (outside []) (commands 0 m)) e),
+  λ u. ap (λ (l : List Refusal). first l) (unbroken-faultless (length t) (outside []) (commands 0 m) (commands-written k) u),
+)
+
+-- ---- the numbers and the places of the rules
+
+pub rule-number : {s : Standing} {c : Placed Command} {n p : ℕ} → Breaks s c n p → (3 ≤ n) × (n ≤ 9)
+rule-number (number-beyond d m h) = (omega arith, omega arith)
+rule-number (zero-factor n a b e h) = (omega arith, omega arith)
+rule-number (not-whole d m h) = (omega arith, omega arith)
+rule-number (scaled-beyond d m h) = (omega arith, omega arith)
+rule-number (zero-size k d e m h) = (omega arith, omega arith)
+rule-number (zero-direction k q e m h) = (omega arith, omega arith)
+rule-number (zero-turn n ts q e m h) = (omega arith, omega arith)
+rule-number (few-points k e h i) = (omega arith, omega arith)
+rule-number (no-layer k e h) = (omega arith, omega arith)
+rule-number (many-points k e h) = (omega arith, omega arith)
+rule-number (many-turns n ts e h) = (omega arith, omega arith)
+
+-- a number that is not idle stands where the numbers rise
+not-idle : {Idle : ℤ → Type 0} {low high : ℕ} {d : Number} {ds : List Number} → Rising Idle low high ds → d ∈ ds → (Idle (d .what) → ⊥) → d .place < high
+not-idle done m f = absurd (List·Memᴰ·not-nil m)
+not-idle {Idle} {low} {high} {d} (idle {d = x} {ds} z r) m f = go (List·Memᴰ·cases-cons m) (λ i. not-idle r i f)
+  where
+    go : (d ≡ x) ⊎ (d ∈ ds) → (d ∈ ds → d .place < high) → d .place < high
+    go (inl e) g = absurd (f (subst (λ (y : Number). Idle (y .what)) (sym e) z))
+    go (inr i) g = g i
+not-idle {Idle} {low} {high} {d} (stands {d = x} {ds} a b r) m f = go (List·Memᴰ·cases-cons m) (λ i. not-idle r i f)
+  where
+    go : (d ≡ x) ⊎ (d ∈ ds) → (d ∈ ds → d .place < high) → d .place < high
+    go (inl e) g = subst (λ (y : Number). y .place < high) (sym e) b
+    go (inr i) g = g i
+
+pub rule-place : {s : Standing} {c : Placed Command} {high n p : ℕ} → Stands high c → Breaks s c n p → p < high
+rule-place {s} {c} x (number-beyond d m h) = not-idle (x .numbers-rise) m (λ z. omega arith)
+rule-place {s} {c} x (zero-factor n a b e h) = x .within
+rule-place {s} {c} x (not-whole d m h) = not-idle (x .distances-rise) m (λ z. h (null-rest s (d .what) z))
+rule-place {s} {c} x (scaled-beyond d m h) = not-idle (x .distances-rise) m (λ z. omega (arith, null-scaled s (d .what) z))
+rule-place {s} {c} x (zero-size k d e m h) = x .within
+rule-place {s} {c} x (zero-direction k q e m h) = x .within
+rule-place {s} {c} x (zero-turn n ts q e m h) = x .within
+rule-place {s} {c} x (few-points k e h i) = x .within
+rule-place {s} {c} x (no-layer k e h) = x .within
+rule-place {s} {c} x (many-points k e h) = x .within
+rule-place {s} {c} x (many-turns n ts e h) = x .within
+
+-- a fault's number is one of 3 to 9, and its place lies in the text
+pub fault-number : {t : List ℕ} {m : List Letter} → Marked t m → {number place : ℕ} → firstFault (commands 0 m) ≡ some (at place number) → (3 ≤ number) × (number ≤ 9)
+fault-number k e = rule-number (first-fault k .0 e .breaks)
+
+pub fault-place : {t : List ℕ} {m : List Letter} → Marked t m → {number place : ℕ} → firstFault (commands 0 m) ≡ some (at place number) → place < length t
+unfolding All
+fault-place {t} {m} k e =
+    let f = first-fault k .0 e in
+    let all : All (Written (length t)) (f .before ++ (f .command ∷ f .behind)) = subst (All (Written (length t))) (f .split) (commands-written k) in
+    rule-place (all-right (Written (length t)) (f .before) (f .command ∷ f .behind) all .0 .stand) (f .breaks)
