@@ -461,7 +461,7 @@ record Above (n : ℕ) (l : List Refusal) : Type 0 where
   above : All (λ (r : Refusal). n < r .what) l
   in-order : Least l
 
-all-so : {A : Type 0} (P Q : A → Type 0) → ((a : A) → P a → Q a) → (l : List A) → All P l → All Q l
+pub all-so : {A : Type 0} (P Q : A → Type 0) → ((a : A) → P a → Q a) → (l : List A) → All P l → All Q l
 all-so P Q f l x = all-both P P Q (λ a p q. f a p) l x x
 
 beneath : {k n : ℕ} (a : List Refusal) → k < n → Numbered n a → Above k a
@@ -742,7 +742,7 @@ not-idle {Idle} {low} {high} {d} (stands {d = x} {ds} a b r) m f = go (List·Mem
     go (inl e) g = subst (λ (y : Number). y .place < high) (sym e) b
     go (inr i) g = g i
 
-pub rule-place : {s : Standing} {c : Placed Command} {high n p : ℕ} → Stands high c → Breaks s c n p → p < high
+rule-place : {s : Standing} {c : Placed Command} {high n p : ℕ} → Stands high c → Breaks s c n p → p < high
 rule-place {s} {c} x (number-beyond d m h) = not-idle (x .numbers-rise) m (λ z. omega arith)
 rule-place {s} {c} x (zero-factor n a b e h) = x .within
 rule-place {s} {c} x (not-whole d m h) = not-idle (x .distances-rise) m (λ z. h (null-rest s (d .what) z))
@@ -755,13 +755,8 @@ rule-place {s} {c} x (no-layer k e h) = x .within
 rule-place {s} {c} x (many-points k e h) = x .within
 rule-place {s} {c} x (many-turns n ts e h) = x .within
 
--- a fault's number is one of 3 to 9, and its place lies in the text
-pub fault-number : {t : List ℕ} {m : List Letter} → Marked t m → {number place : ℕ} → firstFault (commands 0 m) ≡ some (at place number) → (3 ≤ number) × (number ≤ 9)
-fault-number k e = rule-number (first-fault k .0 e .breaks)
-
-pub fault-place : {t : List ℕ} {m : List Letter} → Marked t m → {number place : ℕ} → firstFault (commands 0 m) ≡ some (at place number) → place < length t
+pub break-place : {t : List ℕ} {m : List Letter} → Marked t m → {number place : ℕ} → FirstBreak (commands 0 m) number place → place < length t
 unfolding All
-fault-place {t} {m} k e =
-    let f = first-fault k .0 e in
+break-place {t} {m} k f =
     let all : All (Written (length t)) (f .before ++ (f .command ∷ f .behind)) = subst (All (Written (length t))) (f .split) (commands-written k) in
     rule-place (all-right (Written (length t)) (f .before) (f .command ∷ f .behind) all .0 .stand) (f .breaks)
