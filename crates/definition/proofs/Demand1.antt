@@ -2,12 +2,12 @@
 -- place lies within the text.
 -- Assumes nothing.
 use mathlib.Core.Path.{_≡_, refl, sym, ap, _∙_, subst}
-use mathlib.Core.List.{List, [], _∷_, _++_}
-use Prim.Native.Nat.{ℕ, zero, suc, _≤_, _<_}
+use mathlib.Core.List.{List, _++_}
+use Prim.Native.Nat.{ℕ, _≤_, _<_}
 use native.Mathlib.Omega.{arith}
 use lib.ListN.{length, drop}
 use Rattle.grammar.specs.Notation.{Letter}
-use Rattle.grammar.specs.Viable.{Marked, LongestViable}
+use Rattle.grammar.specs.Viable.{Marked}
 use Rattle.grammar.proofs.Verdicts.{Bytes}
 use Rattle.definition.specs.Words.{Placed}
 use Rattle.definition.specs.Commands.{Command, commands}

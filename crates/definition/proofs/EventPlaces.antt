@@ -1,11 +1,11 @@
 -- What holds of the place of every command holds of every place that the drawing names: of what is drawn, of a refusal, and of the calls open
 -- there. And a drawing is stopped by a number from 10 to 17.
 -- Assumes nothing.
-use mathlib.Core.Path.{_≡_, refl, sym, ap, _∙_, subst}
+use mathlib.Core.Path.{_≡_, subst}
 use mathlib.Core.Bool.{Bool, true, false}
 use mathlib.Core.List.{List, [], _∷_, _++_, map}
 use mathlib.Core.Option.{Option, none, some}
-use Prim.Native.Nat.{ℕ, zero, suc, _+_, _≤_, _<_}
+use Prim.Native.Nat.{ℕ, zero, suc, _+_, _≤_}
 use native.Mathlib.Omega.{arith}
 use lib.Dec.{ltb, eqb}
 use lib.IntN.{ℤ}
@@ -16,12 +16,11 @@ use Rattle.definition.specs.Standing.{Standing, outside, after}
 use Rattle.definition.specs.Faults.{beyond, both}
 use Rattle.definition.specs.Turns.{moved, offAxes}
 use Rattle.definition.specs.Table.{Step, shape, instance, Definition, Table, find, enter, forget}
-use Rattle.definition.specs.Drawing.{stepOf, retained, Deed, output, define, remove, deedOf, deeds, Chain, Drawn, Event, called, drew, entered, removed, refused}
+use Rattle.definition.specs.Drawing.{stepOf, retained, Deed, output, define, remove, deedOf, deeds, Chain, Event, called, drew, entered, removed, refused}
 use Rattle.definition.specs.Drawing.{drawShape, drawStep, drawBody, callFault, unless, drawCall, happens, tableAfter, story}
 use Rattle.definition.specs.Counts.{Counts, counts, End, finished, stopped, counted, goOn, ending}
 use Rattle.definition.specs.Answer.{drawingOf}
 use Rattle.definition.proofs.Range.{All, all-++}
-use Rattle.definition.proofs.Sizes.{all-map}
 
 -- what holds of every entry of a table is kept as the table changes, and holds of what is found
 module _ (P : Definition → Type 0) where

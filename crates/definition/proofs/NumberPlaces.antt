@@ -1,20 +1,20 @@
 -- Where the commands of a text and their numbers stand: within the text, and the numbers of one command in ascending places. Refusals 3 to 9 go
 -- by place within a number, and every refusal's place has to lie in the text.
 -- Assumes nothing.
-use mathlib.Core.Path.{_≡_, refl, sym, ap, _∙_, subst}
+use mathlib.Core.Path.{_≡_, refl, sym, ap, subst}
 use mathlib.Core.Bool.{Bool, true, false, _||_}
 use mathlib.Core.List.{List, [], _∷_, _++_, flatMap}
 use Prim.Native.Nat.{ℕ, zero, suc, _+_, _-_, _≤_, _<_}
 use native.Mathlib.Omega.{arith}
 use lib.Dec.{T}
 use lib.IntN.{ℤ, pos, negℤ, natAbs}
-use lib.ListN.{length, getD, take, drop}
+use lib.ListN.{length, getD, drop}
 use Rattle.grammar.specs.Notation.{Role, Role-discrete, Letter, dec, second, turn, axis, sign, lead, stop, head, 'B', 'C', 'D', 'L', 'P', 'R', 'S', 'T', 'W', 'X'}
 use Rattle.grammar.proofs.Items.{dec-sound}
-use Rattle.definition.specs.Words.{if_then_else_, Placed, at, Point, point}
-use Rattle.definition.specs.Commands.{Number, Kind, Shape, Turn, translate, mirrorX, mirrorY, rotate}
-use Rattle.definition.specs.Commands.{Command, draw, layer, call, start, finish, delete, nothing}
-use Rattle.definition.specs.Commands.{_plays_, _is_, worth, numbers, nth, unsigned, paired, next, named, turnAt, turns, commandAt, commands}
+use Rattle.definition.specs.Words.{if_then_else_, Placed, at}
+use Rattle.definition.specs.Commands.{Number, Turn}
+use Rattle.definition.specs.Commands.{Command, nothing}
+use Rattle.definition.specs.Commands.{_plays_, _is_, worth, numbers, nth, unsigned, paired, next, turnAt, turns, commandAt, commands}
 use Rattle.definition.specs.Faults.{partsOf, shifts, bearings, both, distances, numbersOf}
 use Rattle.definition.proofs.Range.{All}
 
@@ -122,9 +122,13 @@ module _ (Idle : ℤ → Type 0) {high : ℕ} where
   pairs-rise (x ∷ []) r = done
   pairs-rise (x ∷ y ∷ ns) (stands a b (stands c d r)) = stands a b (stands c d (pairs-rise ns r))
 
+-- what holds of both of two things, or of the first where the test passes, holds of the one that the test picks
+pub either-by : {A : Type 0} (P : A → Type 0) (b : Bool) (x y : A) → (b ≡ true → P x) → P y → P (if b then x else y)
+either-by P true x y p q = p refl
+either-by P false x y p q = q
+
 either : {A : Type 0} (P : A → Type 0) (b : Bool) (x y : A) → P x → P y → P (if b then x else y)
-either P true x y p q = p
-either P false x y p q = q
+either P b x y p q = either-by P b x y (λ e. p) q
 
 -- the numbers that stand behind place n of a command or a transformation
 abbrev behind : ℕ → List Letter → List Number

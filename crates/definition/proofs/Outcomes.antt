@@ -7,14 +7,13 @@ use mathlib.Core.List.{List, []}
 use mathlib.Core.Logic.{_⊎_, inl, inr, _↔_}
 use mathlib.Core.Option.{Option, none, some}
 use Prim.Native.Nat.{ℕ, _≤_, _<_}
-use native.Mathlib.Omega.{arith}
 use borrow.Author.Tests.{leb-true, leb-false, le-leb, lt-leb}
-use lib.Dec.{T, leb}
+use lib.Dec.{leb}
 use lib.ListN.{length}
 use Rattle.grammar.specs.Notation.{Letter}
 use Rattle.grammar.specs.Viable.{Marked, Grammatical, LongestViable}
-use Rattle.definition.specs.Words.{if_then_else_, Placed, at}
-use Rattle.definition.specs.Commands.{Command, commands}
+use Rattle.definition.specs.Words.{if_then_else_}
+use Rattle.definition.specs.Commands.{commands}
 use Rattle.definition.specs.Faults.{Refusal, firstFault}
 use Rattle.definition.specs.Drawing.{Chain, Event}
 use Rattle.definition.specs.Counts.{Counts, counts, End, finished, stopped, ending, shapesOf}

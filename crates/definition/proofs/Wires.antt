@@ -5,22 +5,23 @@ use mathlib.Core.Path.{_≡_, refl, sym, ap, _∙_, subst}
 use mathlib.Core.Bool.{Bool, true, false, not, _&&_, _||_}
 use mathlib.Core.List.{List, [], _∷_, _++_, append-assoc, append-nil}
 use mathlib.Core.Logic.{_⊎_, inl, inr}
-use Prim.Native.Nat.{ℕ, zero, suc, _+_, _-_, _≤_, _<_}
+use Prim.Native.Nat.{ℕ, suc, _+_, _-_, _≤_, _<_}
 use native.Mathlib.Omega.{arith}
 use borrow.Author.Tests.{leb-false}
-use lib.Dec.{T, leb, eqb, leb→le, eqb→eq}
-use lib.IntN.{ℤ, pos, negℤ}
+use lib.Dec.{T, leb, leb→le, eqb→eq}
+use lib.IntN.{pos, negℤ}
 use lib.ListN.{length, drop}
 use Rattle.grammar.specs.Notation.{Expression, one, _▹_, _∣_, many, option, commentText, commentRule, Class, Role, Letter, Match, char, both, left, right, none, more, absent, present, text, dec, has}
-use Rattle.grammar.specs.Notation.{Role-discrete, Class-discrete, Expression-discrete, Digit, Upper, Blank, User, Comment, '-', lpar, rpar, semicolon, 'B', 'C', 'D', 'E', 'F', 'L', 'M', 'P', 'R', 'S', 'T', 'W', 'X', 'Y'}
-use Rattle.grammar.specs.Notation.{skip, head, second, turn, axis, sign, lead, later, name, stop}
+use Rattle.grammar.specs.Notation.{Role-discrete, Class-discrete, Expression-discrete, semicolon, 'B', 'C', 'D', 'L', 'P', 'R', 'S', 'W'}
+use Rattle.grammar.specs.Notation.{head, second, turn, sign, lead, stop}
 use Rattle.grammar.specs.Productions.{cifFile}
 use Rattle.grammar.proofs.Tests.{and-left, and-right, or-cases}
 use Rattle.grammar.proofs.Items.{dec-sound}
 use Rattle.definition.specs.Words.{if_then_else_, Placed, at}
-use Rattle.definition.specs.Commands.{Number, Kind, box, flash, wire, polygon, Shape, Command, draw, layer, call, start, finish, delete, nothing}
+use Rattle.definition.specs.Commands.{Number, wire, polygon, Command, draw, layer, call, start, finish, delete, nothing}
 use Rattle.definition.specs.Commands.{_plays_, _is_, worth, numbers, paired, next, commandAt, commands}
 use Rattle.definition.proofs.Range.{All}
+use Rattle.definition.proofs.NumberPlaces.{either-by}
 
 -- ---- numbers that an expression has at least
 
@@ -204,20 +205,16 @@ a-point (a ∷ []) h = absurd (omega arith)
 a-point (a ∷ b ∷ []) h = absurd (omega arith)
 a-point (a ∷ b ∷ c ∷ ns) h = omega arith
 
-either : (b : Bool) (c d : Command) → (b ≡ true → Pathed c) → Pathed d → Pathed (if b then c else d)
-either true c d x y = x refl
-either false c d x y = y
-
 pathed : (n : ℕ) (l : Letter) (m : List Letter) → ((l is 'W') ≡ true → AtLeast 3 m) → Pathed (commandAt n l m)
 unfolding commandAt Pathed
 pathed n l m f =
-    either (l is 'P') _ _ (λ e. inl refl)
-    (either (l is 'B') _ _ (λ e. inr (omega arith))
-    (either (l is 'R') _ _ (λ e. inr (omega arith))
-    (either (l is 'W') _ _ (λ e. inr (a-point (numbers (n + 1) false m) (f e (n + 1) false)))
-    (either (l is 'L') _ _ (λ e. tt)
-    (either (l is 'C') _ _ (λ e. tt)
-    (either (l is 'D') _ _ (λ e. either (next second m is 'S') _ _ (λ e. tt) (either (next second m is 'D') _ _ (λ e. tt) tt)) tt))))))
+    either-by Pathed (l is 'P') _ _ (λ e. inl refl)
+    (either-by Pathed (l is 'B') _ _ (λ e. inr (omega arith))
+    (either-by Pathed (l is 'R') _ _ (λ e. inr (omega arith))
+    (either-by Pathed (l is 'W') _ _ (λ e. inr (a-point (numbers (n + 1) false m) (f e (n + 1) false)))
+    (either-by Pathed (l is 'L') _ _ (λ e. tt)
+    (either-by Pathed (l is 'C') _ _ (λ e. tt)
+    (either-by Pathed (l is 'D') _ _ (λ e. either-by Pathed (next second m is 'S') _ _ (λ e. tt) (either-by Pathed (next second m is 'D') _ _ (λ e. tt) tt)) tt))))))
 
 all-pathed : (n : ℕ) (m : List Letter) → Wired m → All (λ (c : Placed Command). Pathed (c .what)) (commands n m)
 unfolding commands All Wired
