@@ -22,6 +22,7 @@ use Rattle.definition.proofs.Demand1.{stopped-within}
 abbrev pub Refused : List ℕ → (room number place : ℕ) → Type 0
 Refused t room n p = (chain : Chain) × Answers t room (rejected n p chain)
 
+-- In the records below the roles are the text's own: it has only one marking (`one-marking` of the grammar's proofs).
 -- 3 to 9: the text is in the grammar, and this is the first rule that its commands break
 pub record RuleBroken (t : List ℕ) (n p : ℕ) : Type 0 where
   pub roles : List Letter
@@ -45,7 +46,7 @@ pub record FlatFileTooLong (t : List ℕ) (room : ℕ) : Type 0 where
 
 -- ---- each way, by its number
 
--- the number of each way but the last
+-- the numbers that stop a drawing
 drawing-number : {t : List ℕ} {m : List Letter} → Passed t m → {n p : ℕ} {chain : Chain} → endOf m ≡ stopped n p chain → ByDrawing n
 drawing-number q e = stopped-within (q .marked) e .number
 

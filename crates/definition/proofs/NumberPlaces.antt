@@ -138,7 +138,7 @@ behind-rise : (n : ℕ) (m : List Letter) → Rising Never n (until (n + 1) m) (
 behind-rise n m = wider (omega arith) (omega arith) (numbers-rise n false m)
 
 module _ (Idle : ℤ → Type 0) (zero-idle : Idle (pos 0)) where
-  -- the numbers i and i + 1 behind place n, before others
+  -- number i behind place n, or z if it is left out, before others; and likewise a size, which is unsigned
   pick : (n z i : ℕ) (m : List Letter) → Idle (pos z) → {low : ℕ} {rest : List Number} → Rising Never low (until (n + 1) m) (drop i (behind n m))
       → ((low′ : ℕ) → Rising Never low′ (until (n + 1) m) (drop (suc i) (behind n m)) → Rising Idle low′ (until (n + 1) m) rest)
       → Rising Idle low (until (n + 1) m) (nth n (behind n m) (pos z) i ∷ rest)
