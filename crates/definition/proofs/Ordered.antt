@@ -1,0 +1,310 @@
+-- The order of commands in a text: a DS and a DD stand outside definitions, a DF ends one, and E comes last. It is read off the productions letter by
+-- letter, so that what holds at a semicolon holds wherever a text is cut.
+-- Assumes nothing.
+use mathlib.Core.Path.{_≡_, refl, sym, ap, ap₂, _∙_, subst}
+use mathlib.Core.Bool.{Bool, true, false, not, _&&_, _||_}
+use mathlib.Core.List.{List, [], _∷_, _++_, append-assoc}
+use mathlib.Core.Logic.{_⊎_, inl, inr}
+use Prim.Native.Nat.{ℕ, zero, suc, _+_}
+use native.Mathlib.Omega.{arith}
+use borrow.Author.Tests.{ne-eqb, eqb-true}
+use lib.Dec.{T, leb, eqb, leb→le, eqb→eq}
+use lib.IntN.{pos}
+use lib.ListN.{length}
+use Rattle.grammar.specs.Notation.{Class, Role, Role-discrete, Letter, Expression, Match, dec, has, digit}
+use Rattle.grammar.specs.Notation.{is as matches}
+use Rattle.grammar.specs.Notation.{Digit, Upper, Blank, User, Comment, '-', lpar, rpar, semicolon}
+use Rattle.grammar.specs.Notation.{'B', 'C', 'D', 'E', 'F', 'L', 'M', 'P', 'R', 'S', 'T', 'W', 'X', 'Y'}
+use Rattle.grammar.specs.Notation.{skip, head, second, turn, axis, sign, lead, later, name, stop}
+use Rattle.grammar.specs.Notation.{one, _▹_, _∣_, many, option, commentText, commentRule, char, both, left, right, none, more, absent, present, text}
+use Rattle.grammar.specs.Productions.{blank, semi, integer, sep, primCommand, defDeleteCommand, defFinishCommand, defStartCommand, command, cifFile}
+use Rattle.grammar.specs.Viable.{Marked}
+use Rattle.grammar.specs.Steps.{choose, number}
+use Rattle.grammar.proofs.Items.{dec-sound}
+use Rattle.grammar.proofs.Tests.{and-left, and-right, and-both}
+use Rattle.grammar.proofs.Boundaries.{insideBy, insideAfter}
+use Rattle.definition.specs.Words.{if_then_else_, Placed, at}
+use Rattle.definition.specs.Commands.{Number, nth, numbers, Command, draw, layer, call, start, finish, delete, nothing, _plays_, _is_, next, commandAt, commands}
+use Rattle.definition.specs.Standing.{Standing, after}
+use Rattle.definition.proofs.Range.{All, all-++}
+use Rattle.definition.proofs.Joined.{standing}
+
+-- ---- the commands in order
+
+-- a command that neither begins nor ends a definition nor removes any: the only ones that definitions hold
+unfoldable pub Plain : Command → Type 0
+Plain (draw k) = Unit {0}
+Plain (layer l) = Unit {0}
+Plain (call n ts) = Unit {0}
+Plain nothing = Unit {0}
+Plain (start n a b) = ⊥
+Plain finish = ⊥
+Plain (delete n) = ⊥
+
+-- whether a definition is open behind a command, and behind commands
+unfoldable pub opens : Command → Bool → Bool
+opens (start n a b) i = true
+opens finish i = false
+opens (draw k) i = i
+opens (layer l) i = i
+opens (call n ts) i = i
+opens (delete n) i = i
+opens nothing i = i
+
+unfoldable pub insideThen : Bool → List (Placed Command) → Bool
+insideThen i [] = i
+insideThen i (c ∷ cs) = insideThen (opens (c .what) i) cs
+
+-- a command that may stand where a definition is open or not
+unfoldable pub Allowed : Bool → Command → Type 0
+Allowed i (start n a b) = i ≡ false
+Allowed i (delete n) = i ≡ false
+Allowed i finish = i ≡ true
+Allowed i (draw k) = Unit {0}
+Allowed i (layer l) = Unit {0}
+Allowed i (call n ts) = Unit {0}
+Allowed i nothing = Unit {0}
+
+-- commands in order, with no definition open at their end
+unfoldable pub Ordered : Bool → List (Placed Command) → Type 0
+Ordered i [] = i ≡ false
+Ordered i (c ∷ cs) = Allowed i (c .what) × Ordered (opens (c .what) i) cs
+
+plain-allowed : (i : Bool) (c : Command) → Plain c → Allowed i c
+unfolding Plain Allowed
+plain-allowed i (draw k) h = tt
+plain-allowed i (layer l) h = tt
+plain-allowed i (call n ts) h = tt
+plain-allowed i nothing h = tt
+plain-allowed i (start n a b) h = absurd h
+plain-allowed i finish h = absurd h
+plain-allowed i (delete n) h = absurd h
+
+pub plain-opens : (i : Bool) (c : Command) → Plain c → opens c i ≡ i
+unfolding Plain opens
+plain-opens i (draw k) h = refl
+plain-opens i (layer l) h = refl
+plain-opens i (call n ts) h = refl
+plain-opens i nothing h = refl
+plain-opens i (start n a b) h = absurd h
+plain-opens i finish h = absurd h
+plain-opens i (delete n) h = absurd h
+
+-- it is what the standing says
+pub after-inside : (c : Command) (s : Standing) → after c s .inside ≡ opens c (s .inside)
+unfolding after opens
+after-inside (draw k) s = refl
+after-inside (layer l) s = refl
+after-inside (call n ts) s = refl
+after-inside nothing s = refl
+after-inside (start n a b) s = refl
+after-inside finish s = refl
+after-inside (delete n) s = refl
+
+pub standing-inside : (s : Standing) (cs : List (Placed Command)) → standing s cs .inside ≡ insideThen (s .inside) cs
+unfolding standing insideThen
+standing-inside s [] = refl
+standing-inside s (c ∷ cs) = standing-inside (after (c .what) s) cs ∙ ap (λ (i : Bool). insideThen i cs) (after-inside (c .what) s)
+
+-- ---- the letters in order
+
+-- neither the first nor the second letter of a command, nor its semicolon
+unfoldable pub quiet : Role → Bool
+quiet skip = true
+quiet turn = true
+quiet axis = true
+quiet sign = true
+quiet lead = true
+quiet later = true
+quiet name = true
+quiet head = false
+quiet second = false
+quiet stop = false
+
+abbrev pub Quiet : Letter → Type 0
+Quiet l = T (quiet (l .role))
+
+-- where a letter stands: between commands, behind a D whose second letter is still to come, further on in a command, behind E
+pub data Stage : Type 0 where
+  between halfway further over : Stage
+
+-- the letters from here on; i says whether a definition is open
+pub data Orderly : Stage → Bool → List Letter → Type 0 where
+  done : Orderly over false []
+  passes : {g : Stage} {i : Bool} {l : Letter} {m : List Letter} → Quiet l → Orderly g i m → Orderly g i (l ∷ m)
+  parts : {i : Bool} {l : Letter} {m : List Letter} → l .role ≡ stop → Orderly between i m → Orderly between i (l ∷ m)
+  ends : {i : Bool} {l : Letter} {m : List Letter} → l .role ≡ stop → Orderly between i m → Orderly further i (l ∷ m)
+  begins : {i : Bool} {l : Letter} {m : List Letter} → l .role ≡ head → (l is 'D') ≡ false → (l is 'E') ≡ false → Orderly further i m → Orderly between i (l ∷ m)
+  begins-D : {i : Bool} {l : Letter} {m : List Letter} → l .role ≡ head → (l is 'D') ≡ true → Orderly halfway i m → Orderly between i (l ∷ m)
+  begins-E : {l : Letter} {m : List Letter} → l .role ≡ head → (l is 'E') ≡ true → Orderly over false m → Orderly between false (l ∷ m)
+  starts : {l : Letter} {m : List Letter} → l .role ≡ second → (l is 'S') ≡ true → Orderly further true m → Orderly halfway false (l ∷ m)
+  finishes : {l : Letter} {m : List Letter} → l .role ≡ second → (l is 'F') ≡ true → Orderly further false m → Orderly halfway true (l ∷ m)
+  deletes : {l : Letter} {m : List Letter} → l .role ≡ second → (l is 'D') ≡ true → Orderly further false m → Orderly halfway false (l ∷ m)
+
+-- ---- from the productions
+
+-- what a test of all characters of an expression says of all letters of its texts
+unfoldable pub everywhere : (Role → Class → Bool) → Expression → Bool
+everywhere f (one ρ c) = f ρ c
+everywhere f (r ▹ s) = everywhere f r && everywhere f s
+everywhere f (r ∣ s) = everywhere f r && everywhere f s
+everywhere f (many r) = everywhere f r
+everywhere f (option r) = everywhere f r
+everywhere f commentText = f skip Comment && (f skip lpar && f skip rpar)
+
+comment-test : (a b c : Bool) → T (a && (b && c)) → T (a && ((a && (b && c)) && (b && ((a && (b && c)) && (c && (a && (b && c)))))))
+comment-test true true true h = tt
+comment-test true true false h = h
+comment-test true false c h = h
+comment-test false b c h = h
+
+module _ (f : Role → Class → Bool) (P : Letter → Type 0) (sound : (ρ : Role) (c : Class) (a : Letter) → T (f ρ c) → T (matches ρ c a) → P a) where
+  pub match-all : {r : Expression} {w : List Letter} → Match r w → T (everywhere f r) → All P w
+  unfolding everywhere All
+  match-all (char {ρ} {c} {a} h) t = (sound ρ c a t h, tt)
+  match-all (both {r} {s} u v m n e) t =
+      subst (All P) (sym e) (all-++ P u v (match-all m (and-left (everywhere f r) (everywhere f s) t)) (match-all n (and-right (everywhere f r) (everywhere f s) t)))
+  match-all (left {r} {s} m) t = match-all m (and-left (everywhere f r) (everywhere f s) t)
+  match-all (right {r} {s} m) t = match-all m (and-right (everywhere f r) (everywhere f s) t)
+  match-all none t = tt
+  match-all (more u v m n e) t = subst (All P) (sym e) (all-++ P u v (match-all m t) (match-all n t))
+  match-all absent t = tt
+  match-all (present m) t = match-all m t
+  match-all (text m) t = match-all m (comment-test (f skip Comment) (f skip lpar) (f skip rpar) t)
+
+role-of : (ρ : Role) (c : Class) (a : Letter) → T (matches ρ c a) → a .role ≡ ρ
+unfolding matches
+role-of ρ c a t = sym (dec-sound (Role-discrete ρ (a .role)) (and-left (dec (Role-discrete ρ (a .role))) (has c (a .byte)) t))
+
+byte-of : (ρ : Role) (c : Class) (a : Letter) → T (matches ρ c a) → T (has c (a .byte))
+unfolding matches
+byte-of ρ c a t = and-right (dec (Role-discrete ρ (a .role))) (has c (a .byte)) t
+
+true-of : (b : Bool) → T b → b ≡ true
+true-of true h = refl
+true-of false h = absurd h
+
+all-quiet : {r : Expression} {w : List Letter} → Match r w → T (everywhere (λ ρ c. quiet ρ) r) → All Quiet w
+all-quiet k t = match-all (λ ρ c. quiet ρ) Quiet (λ ρ c a h m. subst (λ (σ : Role). T (quiet σ)) (sym (role-of ρ c a m)) h) k t
+
+not-both : (b : Bool) → T b → T (not b) → ⊥
+not-both true h k = k
+not-both false h k = h
+
+-- a class without the character n has only other ones
+other : (c : Class) (a n : ℕ) → T (not (has c n)) → T (has c a) → eqb a n ≡ false
+other c a n t h = ne-eqb a n (λ e. not-both (has c n) (subst (λ (b : ℕ). T (has c b)) e h) t)
+
+-- the letters w lead from one stage to another
+pub record Leads (g : Stage) (i : Bool) (h : Stage) (j : Bool) (w : List Letter) : Type 0 where
+  pub on : (m : List Letter) → Orderly h j m → Orderly g i (w ++ m)
+
+in-turn : {g h k : Stage} {i j l : Bool} {u v w : List Letter} → Leads g i h j u → Leads h j k l v → w ≡ u ++ v → Leads g i k l w
+in-turn {g} {i = i} {u = u} {v = v} f q e =
+    record { on = λ m o. subst (Orderly g i) (sym (ap (λ (x : List Letter). x ++ m) e ∙ append-assoc u v m)) (f .on (v ++ m) (q .on m o)) }
+
+by : {g h : Stage} {i j : Bool} (l : Letter) → ((m : List Letter) → Orderly h j m → Orderly g i (l ∷ m)) → Leads g i h j (l ∷ [])
+by l f = record { on = f }
+
+stays : {g : Stage} {i : Bool} → Leads g i g i []
+stays = record { on = λ m o. o }
+
+pass : {g : Stage} {i : Bool} (w : List Letter) → All Quiet w → Leads g i g i w
+unfolding All
+pass [] h = stays
+pass (l ∷ w) h = record { on = λ m o. passes (h .0) (pass w (h .1) .on m o) }
+
+passing : {g : Stage} {i : Bool} {r : Expression} {w : List Letter} → T (everywhere (λ ρ c. quiet ρ) r) → Match r w → Leads g i g i w
+passing {w = w} t k = pass w (all-quiet k t)
+
+blanks : {g : Stage} {i : Bool} {w : List Letter} → Match (many blank) w → Leads g i g i w
+unfolding everywhere quiet
+blanks k = passing tt k
+
+-- a semicolon behind a command, or alone
+semi-ends : {i : Bool} {w : List Letter} → Match semi w → Leads further i between i w
+semi-ends {i} (both u v k (both p q (char {ρ} {c} {a} h) n f) e) = in-turn (blanks k) (in-turn {h = between} {j = i} (by a (λ m o. ends (role-of ρ c a h) o)) (blanks n) f) e
+
+semi-parts : {i : Bool} {w : List Letter} → Match semi w → Leads between i between i w
+semi-parts {i} (both u v k (both p q (char {ρ} {c} {a} h) n f) e) = in-turn (blanks k) (in-turn {h = between} {j = i} (by a (λ m o. parts (role-of ρ c a h) o)) (blanks n) f) e
+
+-- a command that is no D command and not E
+headed : {c : Class} {r : Expression} {i : Bool} {w : List Letter} → T (not (has c 68)) → T (not (has c 69)) → T (everywhere (λ ρ c. quiet ρ) r)
+    → Match (one head c ▹ r) w → Leads between i further i w
+unfolding has
+headed {c} {i = i} t₁ t₂ t (both u v (char {a = a} h) n e) =
+    let b = byte-of head c a h in
+    in-turn {h = further} {j = i} (by a (λ m o. begins (role-of head c a h) (other c (a .byte) 68 t₁ b) (other c (a .byte) 69 t₂ b) o)) (passing t n) e
+
+prim-leads : {i : Bool} {w : List Letter} → Match primCommand w → Leads between i further i w
+unfolding everywhere quiet has
+prim-leads (left k) = headed tt tt tt k
+prim-leads (right (left k)) = headed tt tt tt k
+prim-leads (right (right (left k))) = headed tt tt tt k
+prim-leads (right (right (right (left k)))) = headed tt tt tt k
+prim-leads (right (right (right (right (left k))))) = headed tt tt tt k
+prim-leads (right (right (right (right (right (left k)))))) = headed tt tt tt k
+prim-leads (right (right (right (right (right (right (left k))))))) = headed tt tt tt k
+prim-leads (right (right (right (right (right (right (right k))))))) = headed tt tt tt k
+
+-- any number of commands with their semicolons
+abbrev pub itemOf : Expression → Expression
+itemOf r = many blank ▹ option r ▹ semi
+
+module _ (r : Expression) (i : Bool) (reads : (w : List Letter) → Match r w → Leads between i further i w) where
+  item-leads : {w : List Letter} → Match (itemOf r) w → Leads between i between i w
+  item-leads (both u v k (both p q absent n f) e) = in-turn (blanks k) (in-turn stays (semi-parts n) f) e
+  item-leads (both u v k (both p q (present c) n f) e) = in-turn (blanks k) (in-turn (reads p c) (semi-ends n) f) e
+
+  items-lead : {w : List Letter} → Match (many (itemOf r)) w → Leads between i between i w
+  items-lead none = stays
+  items-lead (more u v k n e) = in-turn (item-leads k) (items-lead n) e
+
+-- the D commands
+module _ {i j : Bool} {r : Expression} (reads : (v : List Letter) → Match r v → Leads halfway i further j v) where
+  d-headed : {w : List Letter} → Match (one head 'D' ▹ many blank ▹ r) w → Leads between i further j w
+  unfolding has
+  d-headed (both u v (char {a = a} h) (both p q k n f) e) =
+      in-turn {h = halfway} {j = i} (by a (λ m o. begins-D (role-of head 'D' a h) (true-of _ (byte-of head 'D' a h)) o)) (in-turn (blanks k) (reads q n) f) e
+
+start-leads : {w : List Letter} → Match defStartCommand w → Leads between false further true w
+unfolding everywhere quiet
+start-leads k = d-headed go k
+  where
+    go : (v : List Letter) → Match (one second 'S' ▹ integer ▹ option (sep ▹ integer ▹ sep ▹ integer)) v → Leads halfway false further true v
+    go v (both p q (char {a = a} h) n e) = in-turn {h = further} {j = true} (by a (λ m o. starts (role-of second 'S' a h) (true-of _ (byte-of second 'S' a h)) o)) (passing tt n) e
+
+delete-leads : {w : List Letter} → Match defDeleteCommand w → Leads between false further false w
+unfolding everywhere quiet
+delete-leads k = d-headed go k
+  where
+    go : (v : List Letter) → Match (one second 'D' ▹ integer) v → Leads halfway false further false v
+    go v (both p q (char {a = a} h) n e) = in-turn {h = further} {j = false} (by a (λ m o. deletes (role-of second 'D' a h) (true-of _ (byte-of second 'D' a h)) o)) (passing tt n) e
+
+finish-leads : {w : List Letter} → Match defFinishCommand w → Leads between true further false w
+finish-leads k = d-headed go k
+  where
+    go : (v : List Letter) → Match (one second 'F') v → Leads halfway true further false v
+    go v (char {a = a} h) = by a (λ m o. finishes (role-of second 'F' a h) (true-of _ (byte-of second 'F' a h)) o)
+
+command-leads : {w : List Letter} → Match command w → Leads between false further false w
+command-leads (left k) = prim-leads k
+command-leads (right (left k)) = delete-leads k
+command-leads (right (right (both u v k (both p q l (both x y n f g) d) e))) =
+    in-turn (start-leads k) (in-turn (semi-ends l) (in-turn (items-lead primCommand true (λ w z. prim-leads z) n) (finish-leads f) g) d) e
+
+-- the letters before E lead from between commands to between commands
+pub file-leads : {w : List Letter} → Match (many (itemOf command)) w → Leads between false between false w
+file-leads k = items-lead command false (λ w z. command-leads z) k
+
+last : (w : List Letter) → All Quiet w → Orderly over false w
+unfolding All
+last [] h = done
+last (l ∷ w) h = passes (h .0) (last w (h .1))
+
+-- the letters of a text are in order
+pub orderly : {m : List Letter} → Match cifFile m → Orderly between false m
+unfolding everywhere quiet
+orderly (both u v k (both p q (char {a = a} h) n f) e) =
+    subst (Orderly between false) (sym e)
+    (file-leads k .on v (subst (Orderly between false) (sym f) (begins-E (role-of head 'E' a h) (true-of _ (byte-of head 'E' a h)) (last q (all-quiet n tt)))))
