@@ -7,7 +7,7 @@ use mathlib.Core.List.{List, [], _∷_, _++_, append-assoc}
 use mathlib.Core.Logic.{_⊎_, inl, inr}
 use Prim.Native.Nat.{ℕ, zero, suc, _+_}
 use native.Mathlib.Omega.{arith}
-use borrow.Author.Tests.{ne-eqb, eqb-true}
+use borrow.Author.Tests.{ne-eqb, eqb-true, eqb-false}
 use lib.Dec.{T, leb, eqb, leb→le, eqb→eq}
 use lib.IntN.{pos}
 use lib.ListN.{length}
@@ -20,6 +20,7 @@ use Rattle.grammar.specs.Notation.{one, _▹_, _∣_, many, option, commentText
 use Rattle.grammar.specs.Productions.{blank, semi, integer, sep, primCommand, defDeleteCommand, defFinishCommand, defStartCommand, command, cifFile}
 use Rattle.grammar.specs.Viable.{Marked}
 use Rattle.grammar.specs.Steps.{choose, number}
+use Rattle.grammar.specs.Tables.{letter}
 use Rattle.grammar.proofs.Items.{dec-sound}
 use Rattle.grammar.proofs.Tests.{and-left, and-right, and-both}
 use Rattle.grammar.proofs.Boundaries.{insideBy, insideAfter}
@@ -27,7 +28,7 @@ use Rattle.definition.specs.Words.{if_then_else_, Placed, at}
 use Rattle.definition.specs.Commands.{Number, nth, numbers, Command, draw, layer, call, start, finish, delete, nothing, _plays_, _is_, next, commandAt, commands}
 use Rattle.definition.specs.Standing.{Standing, after}
 use Rattle.definition.proofs.Range.{All, all-++}
-use Rattle.definition.proofs.Joined.{standing}
+use Rattle.definition.proofs.Joined.{standing, commands-++}
 
 -- ---- the commands in order
 
@@ -308,3 +309,265 @@ unfolding everywhere quiet
 orderly (both u v k (both p q (char {a = a} h) n f) e) =
     subst (Orderly between false) (sym e)
     (file-leads k .on v (subst (Orderly between false) (sym f) (begins-E (role-of head 'E' a h) (true-of _ (byte-of head 'E' a h)) (last q (all-quiet n tt)))))
+
+-- ---- from letters to commands
+
+abbrev Second : Role → Bool
+Second ρ = eqb (number ρ) (number second)
+
+-- what a letter in order is not
+pub quiet-not : (ρ : Role) → T (quiet ρ) → (dec (Role-discrete ρ head) ≡ false) × (dec (Role-discrete ρ second) ≡ false) × (dec (Role-discrete ρ stop) ≡ false) × (Second ρ ≡ false)
+unfolding quiet dec number
+quiet-not skip h = (refl, refl, refl, refl)
+quiet-not turn h = (refl, refl, refl, refl)
+quiet-not axis h = (refl, refl, refl, refl)
+quiet-not sign h = (refl, refl, refl, refl)
+quiet-not lead h = (refl, refl, refl, refl)
+quiet-not later h = (refl, refl, refl, refl)
+quiet-not name h = (refl, refl, refl, refl)
+quiet-not head h = absurd h
+quiet-not second h = absurd h
+quiet-not stop h = absurd h
+
+module _ (n : ℕ) (l : Letter) (m : List Letter) where
+  quiet-commands : Quiet l → commands n (l ∷ m) ≡ commands (n + 1) m
+  unfolding commands
+  quiet-commands h = rw (quiet-not (l .role) h .0)
+
+  quiet-next : Quiet l → next second (l ∷ m) ≡ next second m
+  unfolding next
+  quiet-next h = rw (quiet-not (l .role) h .1, quiet-not (l .role) h .2)
+
+  stop-commands : l .role ≡ stop → commands n (l ∷ m) ≡ commands (n + 1) m
+  unfolding commands dec
+  stop-commands e = rw e
+
+  second-commands : l .role ≡ second → commands n (l ∷ m) ≡ commands (n + 1) m
+  unfolding commands dec
+  second-commands e = rw e
+
+  second-next : l .role ≡ second → next second (l ∷ m) ≡ l
+  unfolding next dec
+  second-next e = rw e
+
+  head-commands : l .role ≡ head → commands n (l ∷ m) ≡ at n (commandAt n l m) ∷ commands (n + 1) m
+  unfolding commands dec
+  head-commands e = rw e
+
+-- the command that a D begins, by its second letter
+abbrev by-second : Number → Number → Number → Number → Letter → Command
+by-second x y z w l = if l is 'S' then start x y z else if l is 'D' then delete w else finish
+
+one-of : (P : Command → Type 0) (b : Bool) {x y : Command} → P x → P y → P (if b then x else y)
+one-of P true h k = h
+one-of P false h k = k
+
+plain-at : (n : ℕ) (l : Letter) (m : List Letter) → (l is 'D') ≡ false → Plain (commandAt n l m)
+unfolding commandAt Plain
+plain-at n l m e =
+    one-of Plain (l is 'P') tt
+    (one-of Plain (l is 'B') tt
+    (one-of Plain (l is 'R') tt
+    (one-of Plain (l is 'W') tt
+    (one-of Plain (l is 'L') tt
+    (one-of Plain (l is 'C') tt (rw e tt))))))
+
+d-at : (n b : ℕ) (ρ : Role) (m : List Letter) → b ≡ 68
+    → (x : Number) × (y : Number) × (z : Number) × (w : Number) × (commandAt n (letter b ρ) m ≡ by-second x y z w (next second m))
+unfolding commandAt has
+d-at n b ρ m e =
+    let ns = numbers (n + 1) false m in
+    (nth n ns (pos 0) 0, nth n ns (pos 1) 1, nth n ns (pos 1) 2, nth n ns (pos 0) 0, rw e)
+
+other-byte : (b x y : ℕ) → eqb b x ≡ true → (x ≡ y → ⊥) → eqb b y ≡ false
+other-byte b x y t h = ne-eqb b y (λ e. h (sym (eqb-true b x t) ∙ e))
+
+Claim : Stage → Bool → ℕ → List Letter → Type 0
+Claim halfway i n m = (p : ℕ) (x y z w : Number) → Ordered i (at p (by-second x y z w (next second m)) ∷ commands n m)
+Claim between i n m = Ordered i (commands n m)
+Claim further i n m = Ordered i (commands n m)
+Claim over i n m = Ordered i (commands n m)
+
+passed : (g : Stage) (i : Bool) (n : ℕ) (l : Letter) (m : List Letter) → Quiet l → Claim g i (n + 1) m → Claim g i n (l ∷ m)
+unfolding Claim
+passed halfway i n l m q f = λ p x y z w. rw (quiet-commands n l m q, quiet-next n l m q) (f p x y z w)
+passed between i n l m q f = rw (quiet-commands n l m q) f
+passed further i n l m q f = rw (quiet-commands n l m q) f
+passed over i n l m q f = rw (quiet-commands n l m q) f
+
+module _ (i : Bool) (n : ℕ) (l : Letter) (m : List Letter) where
+  plain-first : l .role ≡ head → (l is 'D') ≡ false → Ordered i (commands (n + 1) m) → Ordered i (commands n (l ∷ m))
+  unfolding Ordered
+  plain-first e d f =
+      let c = plain-at n l m d in
+      rw (head-commands n l m e) (plain-allowed i (commandAt n l m) c, rw (plain-opens i (commandAt n l m) c) f)
+
+  d-first : l .role ≡ head → (l is 'D') ≡ true → Claim halfway i (n + 1) m → Ordered i (commands n (l ∷ m))
+  unfolding Claim has
+  d-first e d f =
+      let c = d-at n (l .byte) (l .role) m (eqb-true (l .byte) 68 d) in
+      rw (head-commands n l m e, c .4) (f n (c .0) (c .1) (c .2) (c .3))
+
+  seconded : (j : Bool) → l .role ≡ second → ((x y z w : Number) → Allowed i (by-second x y z w l) × (opens (by-second x y z w l) i ≡ j))
+      → Ordered j (commands (n + 1) m) → Claim halfway i n (l ∷ m)
+  unfolding Claim Ordered
+  seconded j e a f = λ p x y z w. rw (second-commands n l m e, second-next n l m e) (a x y z w .0, rw (a x y z w .1) f)
+
+claimed : {g : Stage} {i : Bool} {m : List Letter} → Orderly g i m → (n : ℕ) → Claim g i n m
+unfolding Claim Ordered Allowed opens has
+claimed done n = unfold commands in refl
+claimed (passes {g} {i} {l} {m} q o) n = passed g i n l m q (claimed o (n + 1))
+claimed (parts {i} {l} {m} e o) n = rw (stop-commands n l m e) (claimed o (n + 1))
+claimed (ends {i} {l} {m} e o) n = rw (stop-commands n l m e) (claimed o (n + 1))
+claimed (begins {i} {l} {m} e d f o) n = plain-first i n l m e d (claimed o (n + 1))
+claimed (begins-D {i} {l} {m} e d o) n = d-first i n l m e d (claimed o (n + 1))
+claimed (begins-E {l} {m} e f o) n = plain-first false n l m e (other-byte (l .byte) 69 68 f (λ h. omega arith)) (claimed o (n + 1))
+claimed (starts {l} {m} e s o) n = seconded false n l m true e (λ x y z w. rw s (refl, refl)) (claimed o (n + 1))
+claimed (finishes {l} {m} e s o) n =
+    let a = other-byte (l .byte) 70 83 s (λ h. omega arith) in
+    let b = other-byte (l .byte) 70 68 s (λ h. omega arith) in
+    seconded true n l m false e (λ x y z w. rw (a, b) (refl, refl)) (claimed o (n + 1))
+claimed (deletes {l} {m} e s o) n =
+    let a = other-byte (l .byte) 68 83 s (λ h. omega arith) in
+    seconded false n l m false e (λ x y z w. rw (a, s) (refl, refl)) (claimed o (n + 1))
+
+-- so are its commands, and those of any letters between commands
+pub letters-ordered : {i : Bool} {m : List Letter} → Orderly between i m → (n : ℕ) → Ordered i (commands n m)
+unfolding Claim
+letters-ordered o n = claimed o n
+
+pub ordered : {t : List ℕ} {m : List Letter} → Marked t m → (n : ℕ) → Ordered false (commands n m)
+ordered k n = letters-ordered (orderly (k .rule)) n
+
+-- ---- cut at a letter
+
+-- whether a definition is open behind a letter
+module _ (l : Letter) (i : Bool) where
+  by-other : Second (l .role) ≡ false → insideBy l i ≡ i
+  unfolding insideBy
+  by-other e = rw e
+
+  by-quiet : Quiet l → insideBy l i ≡ i
+  by-quiet h = by-other (quiet-not (l .role) h .3)
+
+  by-stop : l .role ≡ stop → insideBy l i ≡ i
+  by-stop e = by-other (unfold number in rw e)
+
+  by-head : l .role ≡ head → insideBy l i ≡ i
+  by-head e = by-other (unfold number in rw e)
+
+  by-S : l .role ≡ second → (l is 'S') ≡ true → insideBy l i ≡ true
+  unfolding insideBy number
+  by-S e s = rw (e, s)
+
+  by-F : l .role ≡ second → (l is 'F') ≡ true → insideBy l i ≡ false
+  unfolding insideBy number has
+  by-F e s = rw (e, other-byte (l .byte) 70 83 s (λ h. omega arith), s)
+
+  by-D : l .role ≡ second → (l is 'D') ≡ true → insideBy l i ≡ i
+  unfolding insideBy number has
+  by-D e s = rw (e, other-byte (l .byte) 68 83 s (λ h. omega arith), other-byte (l .byte) 68 70 s (λ h. omega arith))
+
+-- the letters behind a, and what holds of a cut in them
+onward : (P : Bool → Type 0) (a : Letter) (u : List Letter) (i j : Bool) → insideBy a i ≡ j → P (insideAfter j u) → P (insideAfter i (a ∷ u))
+unfolding insideAfter
+onward P a u i j e h = subst (λ (k : Bool). P (insideAfter k u)) (sym e) h
+
+-- what holds at a letter where the stages are cut, holds wherever it stands
+module _ (l : Letter) (v : List Letter) (P : Bool → Type 0) (here : (g : Stage) (i : Bool) → Orderly g i (l ∷ v) → P i) where
+  at-cut : {g : Stage} {i : Bool} (u : List Letter) → Orderly g i (u ++ l ∷ v) → P (insideAfter i u)
+  at-cut {g} {i} [] o = unfold insideAfter in here g i o
+  at-cut (a ∷ u) (passes {i = i} q o) = onward P a u i i (by-quiet a i q) (at-cut u o)
+  at-cut (a ∷ u) (parts {i} e o) = onward P a u i i (by-stop a i e) (at-cut u o)
+  at-cut (a ∷ u) (ends {i} e o) = onward P a u i i (by-stop a i e) (at-cut u o)
+  at-cut (a ∷ u) (begins {i} e d f o) = onward P a u i i (by-head a i e) (at-cut u o)
+  at-cut (a ∷ u) (begins-D {i} e d o) = onward P a u i i (by-head a i e) (at-cut u o)
+  at-cut (a ∷ u) (begins-E e f o) = onward P a u false false (by-head a false e) (at-cut u o)
+  at-cut (a ∷ u) (starts e s o) = onward P a u false true (by-S a false e s) (at-cut u o)
+  at-cut (a ∷ u) (finishes e s o) = onward P a u true false (by-F a true e s) (at-cut u o)
+  at-cut (a ∷ u) (deletes e s o) = onward P a u false false (by-D a false e s) (at-cut u o)
+
+two-roles : {ρ σ τ : Role} → ρ ≡ σ → ρ ≡ τ → eqb (number σ) (number τ) ≡ false → ⊥
+two-roles {σ = σ} {τ = τ} d e h = eqb-false (number σ) (number τ) h (ap number (sym d ∙ e))
+
+two-bits : {b : Bool} → b ≡ true → b ≡ false → ⊥
+two-bits d e = let z : _≡_ {A = ℕ} 0 1 = cc in omega arith
+
+-- behind a command's semicolon
+stopped : (l : Letter) (v : List Letter) → l .role ≡ stop → (g : Stage) (i : Bool) → Orderly g i (l ∷ v) → Orderly between i v
+unfolding quiet number
+stopped l v e g i (passes q o) = absurd (subst (λ (ρ : Role). T (quiet ρ)) e q)
+stopped l v e g i (parts d o) = o
+stopped l v e g i (ends d o) = o
+stopped l v e g i (begins d f h o) = absurd (two-roles e d refl)
+stopped l v e g i (begins-D d f o) = absurd (two-roles e d refl)
+stopped l v e g i (begins-E d f o) = absurd (two-roles e d refl)
+stopped l v e g i (starts d f o) = absurd (two-roles e d refl)
+stopped l v e g i (finishes d f o) = absurd (two-roles e d refl)
+stopped l v e g i (deletes d f o) = absurd (two-roles e d refl)
+
+pub behind : {i : Bool} (u : List Letter) (l : Letter) (v : List Letter) → l .role ≡ stop → Orderly between i (u ++ l ∷ v) → Orderly between (insideAfter i u) v
+behind u l v e o = at-cut l v (λ i. Orderly between i v) (stopped l v e) u o
+
+-- E stands outside definitions, and only blanks follow it
+pub record Last (i : Bool) (w : List Letter) : Type 0 where
+  pub outside : i ≡ false
+  pub quiet : All Quiet w
+
+all-over : {i : Bool} {w : List Letter} → Orderly over i w → All Quiet w
+unfolding All
+all-over done = tt
+all-over (passes q o) = (q, all-over o)
+
+ended : (l : Letter) (v : List Letter) → l .role ≡ head → (l is 'E') ≡ true → (g : Stage) (i : Bool) → Orderly g i (l ∷ v) → Last i v
+unfolding quiet number has
+ended l v e f g i (passes q o) = absurd (subst (λ (ρ : Role). T (quiet ρ)) e q)
+ended l v e f g i (parts d o) = absurd (two-roles e d refl)
+ended l v e f g i (ends d o) = absurd (two-roles e d refl)
+ended l v e f g i (begins d h k o) = absurd (two-bits f k)
+ended l v e f g i (begins-D d h o) = absurd (two-bits h (other-byte (l .byte) 69 68 f (λ x. omega arith)))
+ended l v e f g i (begins-E d h o) = record { outside = refl; quiet = all-over o }
+ended l v e f g i (starts d h o) = absurd (two-roles e d refl)
+ended l v e f g i (finishes d h o) = absurd (two-roles e d refl)
+ended l v e f g i (deletes d h o) = absurd (two-roles e d refl)
+
+pub at-end : {t : List ℕ} (u : List Letter) (l : Letter) (w : List Letter) → Marked t (u ++ l ∷ w) → l .role ≡ head → (l is 'E') ≡ true → Last (insideAfter false u) w
+at-end u l w k e f = at-cut l w (λ i. Last i w) (ended l w e f) u (orderly (k .rule))
+
+-- ---- cut commands
+
+pub ordered-behind : (i : Bool) (us vs : List (Placed Command)) → Ordered i (us ++ vs) → Ordered (insideThen i us) vs
+unfolding Ordered insideThen
+ordered-behind i [] vs o = o
+ordered-behind i (c ∷ us) vs o = ordered-behind (opens (c .what) i) us vs (o .1)
+
+-- commands in order tell whether a definition was open before them
+told : (i j : Bool) (cs : List (Placed Command)) → Ordered i cs → Ordered j cs → i ≡ j
+unfolding Ordered
+told i j [] o p = o ∙ sym p
+told i j (c ∷ cs) o p = go (c .what) (o .0) (p .0) (told (opens (c .what) i) (opens (c .what) j) cs (o .1) (p .1))
+  where
+    go : (c : Command) → Allowed i c → Allowed j c → opens c i ≡ opens c j → i ≡ j
+    go (start n a b) x y e = unfold Allowed in x ∙ sym y
+    go (delete n) x y e = unfold Allowed in x ∙ sym y
+    go finish x y e = unfold Allowed in x ∙ sym y
+    go (draw k) x y e = unfold opens in e
+    go (layer l) x y e = unfold opens in e
+    go (call n ts) x y e = unfold opens in e
+    go nothing x y e = unfold opens in e
+
+module _ {t : List ℕ} (u : List Letter) (l : Letter) (v : List Letter) (k : Marked t (u ++ l ∷ v)) (e : l .role ≡ stop) where
+  -- the commands behind a semicolon
+  pub ordered-resumed : (n : ℕ) → Ordered (insideAfter false u) (commands n v)
+  ordered-resumed n = letters-ordered (behind u l v e (orderly (k .rule))) n
+
+  -- what stands there: whether a definition is open is what the recogniser says
+  pub inside-commands : (n : ℕ) → insideThen false (commands n (u ++ l ∷ [])) ≡ insideAfter false u
+  inside-commands n =
+      let cs = commands (n + (length u + 1)) v in
+      let whole : Ordered false (commands n (u ++ l ∷ []) ++ cs) = subst (Ordered false) (commands-++ l e v n u) (ordered k n) in
+      told _ _ cs (ordered-behind false (commands n (u ++ l ∷ [])) cs whole) (ordered-resumed (n + (length u + 1)))
+
+  pub inside-standing : (n : ℕ) (s : Standing) → s .inside ≡ false → standing s (commands n (u ++ l ∷ [])) .inside ≡ insideAfter false u
+  inside-standing n s h =
+      standing-inside s (commands n (u ++ l ∷ [])) ∙ (ap (λ (i : Bool). insideThen i (commands n (u ++ l ∷ []))) h ∙ inside-commands n)
