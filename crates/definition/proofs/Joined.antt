@@ -10,7 +10,7 @@ use lib.ListN.{length}
 use Rattle.grammar.specs.Notation.{Role, Letter, dec, Role-discrete, head, second, turn, axis, sign, name, stop, lead, later}
 use Rattle.definition.specs.Words.{if_then_else_, Placed, at, Point}
 use Rattle.definition.specs.Commands.{Turn, Command, start, Number, worth, numbers, named, next, turnAt, turns, commandAt, commands, _plays_}
-use Rattle.definition.specs.Standing.{Standing, after}
+use Rattle.definition.specs.Standing.{Standing, outside, after}
 use Rattle.definition.specs.Faults.{Refusal, faults, allFaults}
 use Rattle.definition.specs.Turns.{inOrder}
 use Rattle.definition.specs.Table.{Step, Definition, Table}
@@ -78,6 +78,29 @@ unfoldable pub standing : Standing → List (Placed Command) → Standing
 standing s [] = s
 standing s (c ∷ cs) = standing (after (c .what) s) cs
 
+-- outside definitions nothing stands but the layer
+abbrev Bare : Standing → Type 0
+Bare s = s .inside ≡ false → s ≡ outside (s .layer-set)
+
+after-bare : (c : Command) (s : Standing) → Bare s → Bare (after c s)
+unfolding after
+after-bare (layer k) s h = λ e. ap (after (layer k)) (h e)
+after-bare (start n a b) s h = λ e. absurd (let z : _≡_ {A = ℕ} 0 1 = cc in omega arith)
+after-bare finish s h = λ e. refl
+after-bare (draw k) s h = h
+after-bare (call n ts) s h = h
+after-bare (delete n) s h = h
+after-bare nothing s h = h
+
+standing-bare : (s : Standing) (cs : List (Placed Command)) → Bare s → Bare (standing s cs)
+unfolding standing
+standing-bare s [] h = h
+standing-bare s (c ∷ cs) h = standing-bare (after (c .what) s) cs (after-bare (c .what) s h)
+
+pub standing-outside : (l : List ℕ) (cs : List (Placed Command)) → standing (outside l) cs .inside ≡ false
+    → standing (outside l) cs ≡ outside (standing (outside l) cs .layer-set)
+standing-outside l cs e = standing-bare (outside l) cs (λ h. refl) e
+
 pub allFaults-++ : (s : Standing) (a b : List (Placed Command)) → allFaults s (a ++ b) ≡ allFaults s a ++ allFaults (standing s a) b
 unfolding allFaults standing
 allFaults-++ s [] b = refl
@@ -86,12 +109,12 @@ allFaults-++ s (c ∷ a) b =
     ∙ sym (append-assoc (faults s c) (allFaults (after (c .what) s) a) (allFaults (standing (after (c .what) s) a) b))
 
 -- a body ends before commands that stand outside
-retained-out : (s : Standing) (b : List (Placed Command)) → s .inside ≡ false → retained s b ≡ []
+pub retained-out : (s : Standing) (b : List (Placed Command)) → s .inside ≡ false → retained s b ≡ []
 unfolding retained
 retained-out s [] e = refl
 retained-out s (c ∷ b) e = rw e
 
-retained-++ : (s : Standing) (a b : List (Placed Command)) → standing s a .inside ≡ false → retained s (a ++ b) ≡ retained s a
+pub retained-++ : (s : Standing) (a b : List (Placed Command)) → standing s a .inside ≡ false → retained s (a ++ b) ≡ retained s a
 unfolding retained standing
 retained-++ s [] b e = retained-out s b e
 retained-++ s (c ∷ a) b e =
