@@ -58,7 +58,7 @@ drop-map f (suc n) [] = refl
 drop-map f (suc n) (a ∷ l) = drop-map f n l
 
 -- a function of one of two is one of the two functions
-chosen : {A B : Type 0} (f : A → B) (b : Bool) {x y : A} {x′ y′ : B} → x′ ≡ f x → y′ ≡ f y → (if b then x′ else y′) ≡ f (if b then x else y)
+pub chosen : {A B : Type 0} (f : A → B) (b : Bool) {x y : A} {x′ y′ : B} → x′ ≡ f x → y′ ≡ f y → (if b then x′ else y′) ≡ f (if b then x else y)
 chosen f true e g = e
 chosen f false e g = g
 
@@ -293,7 +293,7 @@ module _ (k : ℕ) where
       (λ t. and-then (both-of (shifts t) _ (shifts-shift k t)) (both-of (bearings t) _ (bearings-shift k t))) (partsOf c .turns)))) .maps)
 
 -- a test that does not look at places
-any-map : {A : Type 0} (f : A → Bool) (g : A → A) → ((a : A) → f (g a) ≡ f a) → (l : List A) → any f (map g l) ≡ any f l
+pub any-map : {A : Type 0} (f : A → Bool) (g : A → A) → ((a : A) → f (g a) ≡ f a) → (l : List A) → any f (map g l) ≡ any f l
 unfolding any
 any-map f g h [] = refl
 any-map f g h (a ∷ l) = ap₂ {C = Bool} (λ (x y : Bool). x || y) (h a) (any-map f g h l)
