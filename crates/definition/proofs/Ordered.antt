@@ -173,19 +173,19 @@ module _ (f : Role → Class → Bool) (P : Letter → Type 0) (sound : (ρ : Ro
   match-all (present m) t = match-all m t
   match-all (text m) t = match-all m (comment-test (f skip Comment) (f skip lpar) (f skip rpar) t)
 
-role-of : (ρ : Role) (c : Class) (a : Letter) → T (matches ρ c a) → a .role ≡ ρ
+pub role-of : (ρ : Role) (c : Class) (a : Letter) → T (matches ρ c a) → a .role ≡ ρ
 unfolding matches
 role-of ρ c a t = sym (dec-sound (Role-discrete ρ (a .role)) (and-left (dec (Role-discrete ρ (a .role))) (has c (a .byte)) t))
 
-byte-of : (ρ : Role) (c : Class) (a : Letter) → T (matches ρ c a) → T (has c (a .byte))
+pub byte-of : (ρ : Role) (c : Class) (a : Letter) → T (matches ρ c a) → T (has c (a .byte))
 unfolding matches
 byte-of ρ c a t = and-right (dec (Role-discrete ρ (a .role))) (has c (a .byte)) t
 
-true-of : (b : Bool) → T b → b ≡ true
+pub true-of : (b : Bool) → T b → b ≡ true
 true-of true h = refl
 true-of false h = absurd h
 
-all-quiet : {r : Expression} {w : List Letter} → Match r w → T (everywhere (λ ρ c. quiet ρ) r) → All Quiet w
+pub all-quiet : {r : Expression} {w : List Letter} → Match r w → T (everywhere (λ ρ c. quiet ρ) r) → All Quiet w
 all-quiet k t = match-all (λ ρ c. quiet ρ) Quiet (λ ρ c a h m. subst (λ (σ : Role). T (quiet σ)) (sym (role-of ρ c a m)) h) k t
 
 not-both : (b : Bool) → T b → T (not b) → ⊥
@@ -193,7 +193,7 @@ not-both true h k = k
 not-both false h k = h
 
 -- a class without the character n has only other ones
-other : (c : Class) (a n : ℕ) → T (not (has c n)) → T (has c a) → eqb a n ≡ false
+pub other : (c : Class) (a n : ℕ) → T (not (has c n)) → T (has c a) → eqb a n ≡ false
 other c a n t h = ne-eqb a n (λ e. not-both (has c n) (subst (λ (b : ℕ). T (has c b)) e h) t)
 
 -- the letters w lead from one stage to another
@@ -330,7 +330,7 @@ quiet-not second h = absurd h
 quiet-not stop h = absurd h
 
 module _ (n : ℕ) (l : Letter) (m : List Letter) where
-  quiet-commands : Quiet l → commands n (l ∷ m) ≡ commands (n + 1) m
+  pub quiet-commands : Quiet l → commands n (l ∷ m) ≡ commands (n + 1) m
   unfolding commands
   quiet-commands h = rw (quiet-not (l .role) h .0)
 
@@ -350,7 +350,7 @@ module _ (n : ℕ) (l : Letter) (m : List Letter) where
   unfolding next dec
   second-next e = rw e
 
-  head-commands : l .role ≡ head → commands n (l ∷ m) ≡ at n (commandAt n l m) ∷ commands (n + 1) m
+  pub head-commands : l .role ≡ head → commands n (l ∷ m) ≡ at n (commandAt n l m) ∷ commands (n + 1) m
   unfolding commands dec
   head-commands e = rw e
 
@@ -490,7 +490,7 @@ module _ (l : Letter) (v : List Letter) (P : Bool → Type 0) (here : (g : Stage
 two-roles : {ρ σ τ : Role} → ρ ≡ σ → ρ ≡ τ → eqb (number σ) (number τ) ≡ false → ⊥
 two-roles {σ = σ} {τ = τ} d e h = eqb-false (number σ) (number τ) h (ap number (sym d ∙ e))
 
-two-bits : {b : Bool} → b ≡ true → b ≡ false → ⊥
+pub two-bits : {b : Bool} → b ≡ true → b ≡ false → ⊥
 two-bits d e = let z : _≡_ {A = ℕ} 0 1 = cc in omega arith
 
 -- behind a command's semicolon
