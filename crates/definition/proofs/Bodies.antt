@@ -3,7 +3,7 @@
 -- Assumes nothing.
 use mathlib.Core.Path.{_≡_, refl, sym, ap, ap₂, _∙_, subst}
 use mathlib.Core.Bool.{Bool, true, false}
-use mathlib.Core.List.{List, [], _∷_, _++_, append-assoc, map}
+use mathlib.Core.List.{List, [], _∷_, _++_, append-assoc, append-nil, map}
 use Prim.Native.Nat.{ℕ, suc, _+_}
 use native.Mathlib.Numerals.{add-one}
 use native.Mathlib.Omega.{arith}
@@ -15,13 +15,12 @@ use Rattle.grammar.specs.Steps.{marked}
 use Rattle.grammar.specs.Viable.{bytes, Marked}
 use Rattle.grammar.proofs.Fitting.{stateBehind}
 use Rattle.grammar.proofs.Boundaries.{insideAfter, resumed}
-use Rattle.definition.specs.Words.{if_then_else_, Placed, at, Point, point}
-use Rattle.definition.specs.Commands.{Number, Shape, shapeOf, Turn, translate, mirrorX, mirrorY, rotate, Command, draw, layer, call, start, finish, delete, nothing, commands}
+use Rattle.definition.specs.Words.{if_then_else_, Placed, at, point}
+use Rattle.definition.specs.Commands.{Number, shapeOf, Turn, translate, mirrorX, mirrorY, rotate, Command, draw, layer, call, start, finish, delete, nothing, commands}
 use Rattle.definition.specs.Standing.{Standing, outside, after, given, scaled, scaledShape, scaledTurn}
 use Rattle.definition.specs.Table.{Step, shape, instance, Definition}
 use Rattle.definition.specs.Drawing.{stepOf, retained, Deed, define, deedOf, deeds}
 use Rattle.definition.proofs.Range.{All}
-use Rattle.definition.proofs.Again.{bytes-++}
 use Rattle.definition.proofs.Joined.{standing, commands-++, deeds-++, retained-out}
 use Rattle.definition.proofs.Ordered.{Plain, opens, insideThen, Allowed, Ordered, plain-opens, after-inside, standing-inside, ordered, ordered-behind, ordered-resumed, inside-commands}
 
@@ -63,18 +62,35 @@ body-of (c ∷ cs) o = go (c .what) (o .0) (o .1) (body-of cs)
 
 -- ---- what a body draws
 
--- up to a DF, and no further
-pub retained-own : (s : Standing) (us : List (Placed Command)) (p : ℕ) (vs : List (Placed Command)) → s .inside ≡ true
-    → All (λ c. opens (c .what) true ≡ true) us → retained s (us ++ (at p finish ∷ vs)) ≡ retained s us
-unfolding retained All
-retained-own s [] p vs e h = closed (s .inside)
+-- it may be taken up again anywhere before its DF
+abbrev pub Unfinished : List (Placed Command) → Type 0
+Unfinished cs = All (λ c. opens (c .what) true ≡ true) cs
+
+pub retained-split : (s : Standing) (us vs : List (Placed Command)) → s .inside ≡ true → Unfinished us → retained s (us ++ vs) ≡ retained s us ++ retained (standing s us) vs
+unfolding retained standing All
+retained-split s [] vs e h = refl
+retained-split s (c ∷ us) vs e h =
+    go (s .inside) e _ _ _ (retained-split (after (c .what) s) us vs (after-inside (c .what) s ∙ (ap (opens (c .what)) e ∙ h .0)) (h .1))
   where
-    closed : (b : Bool) → (if b then map (at p) (stepOf s finish) ++ retained (after finish s) vs else []) ≡ []
-    closed true = unfold stepOf after in retained-out (outside (s .layer-outside)) vs refl
-    closed false = refl
-retained-own s (c ∷ us) p vs e h =
-    ap (λ (x : List (Placed Step)). if s .inside then map (at (c .place)) (stepOf s (c .what)) ++ x else [])
-    (retained-own (after (c .what) s) us p vs (after-inside (c .what) s ∙ (ap (opens (c .what)) e ∙ h .0)) (h .1))
+    own : List (Placed Step)
+    own = map (at (c .place)) (stepOf s (c .what))
+
+    go : (b : Bool) → b ≡ true → (x y z : List (Placed Step)) → x ≡ y ++ z → (if b then own ++ x else []) ≡ (if b then own ++ y else []) ++ z
+    go true f x y z g = ap (λ (w : List (Placed Step)). own ++ w) g ∙ sym (append-assoc own y z)
+    go false f x y z g = absurd (never-inside (sym f))
+
+-- and goes up to its DF, and no further
+pub retained-own : (s : Standing) (us : List (Placed Command)) (p : ℕ) (vs : List (Placed Command)) → s .inside ≡ true
+    → Unfinished us → retained s (us ++ (at p finish ∷ vs)) ≡ retained s us
+retained-own s us p vs e h =
+    retained-split s us (at p finish ∷ vs) e h ∙ (ap (λ (x : List (Placed Step)). retained s us ++ x) (closed (standing s us)) ∙ append-nil (retained s us))
+  where
+    none-of : (s : Standing) (b : Bool) → (if b then map (at p) (stepOf s finish) ++ retained (after finish s) vs else []) ≡ []
+    none-of s true = unfold stepOf after in retained-out (outside (s .layer-outside)) vs refl
+    none-of s false = refl
+
+    closed : (s : Standing) → retained s (at p finish ∷ vs) ≡ []
+    closed s = unfold retained in none-of s (s .inside)
 
 -- the standing behind a DS, as far as its body can tell
 abbrev pub inBody : (a b : Number) → Standing
@@ -137,7 +153,7 @@ retained-body s n a b us h = retained-layers true (natAbs (a .what)) (natAbs (b 
 abbrev pub definitionOf : ℕ → (n a b : Number) → List (Placed Command) → Definition
 definitionOf p n a b cs = record { symbol = natAbs (n .what); place = p; body = retained (inBody a b) cs }
 
-plain-stay : (us : List (Placed Command)) → Plains us → All (λ c. opens (c .what) true ≡ true) us
+pub plain-stay : (us : List (Placed Command)) → Plains us → Unfinished us
 unfolding All
 plain-stay [] h = tt
 plain-stay (c ∷ us) h = (plain-opens true (c .what) (h .0), plain-stay us (h .1))

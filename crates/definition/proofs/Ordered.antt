@@ -1,31 +1,30 @@
 -- The order of commands in a text: a DS and a DD stand outside definitions, a DF ends one, and E comes last. It is read off the productions letter by
 -- letter, so that what holds at a semicolon holds wherever a text is cut.
 -- Assumes nothing.
-use mathlib.Core.Path.{_≡_, refl, sym, ap, ap₂, _∙_, subst}
-use mathlib.Core.Bool.{Bool, true, false, not, _&&_, _||_}
+use mathlib.Core.Path.{_≡_, refl, sym, ap, _∙_, subst}
+use mathlib.Core.Bool.{Bool, true, false, not, _&&_}
 use mathlib.Core.List.{List, [], _∷_, _++_, append-assoc}
-use mathlib.Core.Logic.{_⊎_, inl, inr}
-use Prim.Native.Nat.{ℕ, zero, suc, _+_}
+use Prim.Native.Nat.{ℕ, _+_}
 use native.Mathlib.Omega.{arith}
 use borrow.Author.Tests.{ne-eqb, eqb-true, eqb-false}
-use lib.Dec.{T, leb, eqb, leb→le, eqb→eq}
+use lib.Dec.{T, eqb}
 use lib.IntN.{pos}
 use lib.ListN.{length}
-use Rattle.grammar.specs.Notation.{Class, Role, Role-discrete, Letter, Expression, Match, dec, has, digit}
+use Rattle.grammar.specs.Notation.{Class, Role, Role-discrete, Letter, Expression, Match, dec, has}
 use Rattle.grammar.specs.Notation.{is as matches}
-use Rattle.grammar.specs.Notation.{Digit, Upper, Blank, User, Comment, '-', lpar, rpar, semicolon}
-use Rattle.grammar.specs.Notation.{'B', 'C', 'D', 'E', 'F', 'L', 'M', 'P', 'R', 'S', 'T', 'W', 'X', 'Y'}
+use Rattle.grammar.specs.Notation.{Comment, lpar, rpar}
+use Rattle.grammar.specs.Notation.{'B', 'C', 'D', 'E', 'F', 'L', 'P', 'R', 'S', 'W'}
 use Rattle.grammar.specs.Notation.{skip, head, second, turn, axis, sign, lead, later, name, stop}
-use Rattle.grammar.specs.Notation.{one, _▹_, _∣_, many, option, commentText, commentRule, char, both, left, right, none, more, absent, present, text}
+use Rattle.grammar.specs.Notation.{one, _▹_, _∣_, many, option, commentText, char, both, left, right, none, more, absent, present, text}
 use Rattle.grammar.specs.Productions.{blank, semi, integer, sep, primCommand, defDeleteCommand, defFinishCommand, defStartCommand, command, cifFile}
 use Rattle.grammar.specs.Viable.{Marked}
-use Rattle.grammar.specs.Steps.{choose, number}
+use Rattle.grammar.specs.Steps.{number}
 use Rattle.grammar.specs.Tables.{letter}
 use Rattle.grammar.proofs.Items.{dec-sound}
-use Rattle.grammar.proofs.Tests.{and-left, and-right, and-both}
+use Rattle.grammar.proofs.Tests.{and-left, and-right}
 use Rattle.grammar.proofs.Boundaries.{insideBy, insideAfter}
 use Rattle.definition.specs.Words.{if_then_else_, Placed, at}
-use Rattle.definition.specs.Commands.{Number, nth, numbers, Command, draw, layer, call, start, finish, delete, nothing, _plays_, _is_, next, commandAt, commands}
+use Rattle.definition.specs.Commands.{Number, nth, numbers, Command, draw, layer, call, start, finish, delete, nothing, _is_, next, commandAt, commands}
 use Rattle.definition.specs.Standing.{Standing, after}
 use Rattle.definition.proofs.Range.{All, all-++}
 use Rattle.definition.proofs.Joined.{standing, commands-++}
@@ -540,6 +539,11 @@ pub ordered-behind : (i : Bool) (us vs : List (Placed Command)) → Ordered i (u
 unfolding Ordered insideThen
 ordered-behind i [] vs o = o
 ordered-behind i (c ∷ us) vs o = ordered-behind (opens (c .what) i) us vs (o .1)
+
+pub ends-outside : (i : Bool) (cs : List (Placed Command)) → Ordered i cs → insideThen i cs ≡ false
+unfolding Ordered insideThen
+ends-outside i [] o = o
+ends-outside i (c ∷ cs) o = ends-outside (opens (c .what) i) cs (o .1)
 
 -- commands in order tell whether a definition was open before them
 told : (i j : Bool) (cs : List (Placed Command)) → Ordered i cs → Ordered j cs → i ≡ j

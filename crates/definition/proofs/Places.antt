@@ -4,20 +4,21 @@
 use mathlib.Core.Path.{_≡_, refl, sym, ap, ap₂, _∙_, subst}
 use mathlib.Core.Bool.{Bool, true, false, not, _||_}
 use mathlib.Core.List.{List, [], _∷_, _++_, map, map-map, map-append, flatMap}
-use Prim.Native.Nat.{ℕ, zero, suc, _+_, _-_, _*_, _≤_}
+use mathlib.Core.Option.{Option·map}
+use Prim.Native.Nat.{ℕ, zero, suc, _+_, _-_, _≤_}
 use native.Mathlib.Omega.{arith}
 use lib.Dec.{ltb, eqb}
 use lib.IntN.{ℤ, pos, negℤ, natAbs}
-use lib.ListN.{length, getD, take, drop, length-map, List·getD-map}
-use Rattle.grammar.specs.Notation.{Letter, dec, has, Role-discrete, head, second, turn, axis, sign, lead, later, name, stop, 'B', 'C', 'D', 'F', 'L', 'P', 'R', 'S', 'T', 'W', 'X'}
-use Rattle.definition.specs.Words.{if_then_else_, Placed, at, Point, point, those, any}
-use Rattle.definition.specs.Commands.{Number, Kind, box, flash, wire, polygon, Shape, shapeOf, Turn, translate, mirrorX, mirrorY, rotate}
+use lib.ListN.{length, getD, drop, length-map, List·getD-map}
+use Rattle.grammar.specs.Notation.{Letter, head, second, turn, axis, sign, lead, stop, 'B', 'C', 'D', 'L', 'P', 'R', 'S', 'T', 'W', 'X'}
+use Rattle.definition.specs.Words.{if_then_else_, Placed, at, Point, point, those, any, first}
+use Rattle.definition.specs.Commands.{Number, box, flash, wire, polygon, Shape, shapeOf, Turn, translate, mirrorX, mirrorY, rotate}
 use Rattle.definition.specs.Commands.{Command, draw, layer, call, start, finish, delete, nothing, _plays_, _is_}
-use Rattle.definition.specs.Commands.{worth, numbers, nth, unsigned, paired, next, named, turnAt, turns, commandAt, commands}
-use Rattle.definition.specs.Standing.{Standing, after, given, scaled, whole, scaledPoint, scaledShape, scaledTurn}
-use Rattle.definition.specs.Faults.{Parts, parts, partsOf, shifts, bearings, both, distances, numbersOf, zeroScale, degenerate, layerless, tooMany, Refusal, atNumbers, atCommand, faults, allFaults, zero?, beyond, nowhere, emptyShape}
-use Rattle.definition.specs.Table.{Step, shape, instance, Definition, Table, find, enter, forget}
-use Rattle.definition.specs.Drawing.{stepOf, retained, Deed, output, define, remove, deedOf, deeds}
+use Rattle.definition.specs.Commands.{worth, numbers, nth, unsigned, paired, next, turnAt, turns, commandAt, commands}
+use Rattle.definition.specs.Standing.{Standing, after, given, scaled, whole, scaledPoint, scaledShape, scaledTurn, outside}
+use Rattle.definition.specs.Faults.{Parts, parts, partsOf, shifts, bearings, both, distances, numbersOf, zeroScale, degenerate, layerless, tooMany, Refusal, atNumbers, atCommand, faults, allFaults, zero?, beyond, nowhere, emptyShape, firstFault}
+use Rattle.definition.specs.Table.{shape, instance}
+use Rattle.definition.specs.Drawing.{stepOf}
 use Rattle.definition.proofs.Joined.{standing}
 
 -- ---- all places in a thing k more
@@ -349,3 +350,11 @@ allFaults-shift k s (c ∷ cs) =
     ap₂ {C = List Refusal} (λ (x y : List Refusal). x ++ y) (faults-shift k s c)
     (ap (λ (x : Standing). allFaults x (map (shifted k) cs)) (after-shift k (c .what) s) ∙ allFaults-shift k (after (c .what) s) cs)
     ∙ sym (map-append (shift k) (faults s c) (allFaults (after (c .what) s) cs))
+
+pub firstFault-shift : (k : ℕ) (cs : List (Placed Command)) → firstFault (map (shifted k) cs) ≡ Option·map (shift k) (firstFault cs)
+unfolding firstFault
+firstFault-shift k cs = ap first (allFaults-shift k (outside []) cs) ∙ go (allFaults (outside []) cs)
+  where
+    go : (rs : List Refusal) → first (map (shift k) rs) ≡ Option·map (shift k) (first rs)
+    go [] = unfold first in refl
+    go (r ∷ rs) = unfold first in refl

@@ -5,15 +5,15 @@ use mathlib.Core.Path.{_≡_, refl, sym, ap, ap₂, _∙_, subst}
 use mathlib.Core.Bool.{Bool, true, false, not, _||_}
 use mathlib.Core.List.{List, [], _∷_, _++_, append-assoc, append-nil, map, flatMap}
 use mathlib.Core.Logic.{_⊎_, inl, inr}
-use Prim.Native.Nat.{ℕ, suc, _+_}
+use Prim.Native.Nat.{ℕ, _+_}
 use native.Mathlib.Omega.{arith}
 use borrow.Author.Tests.{eqb-true}
-use lib.Dec.{T, eqb}
+use lib.Dec.{T}
 use lib.ListN.{length, take, length-append}
 use Rattle.grammar.specs.Notation.{Class, Role, Role-discrete, Letter, Expression, Match, dec, has, head, stop, 'E'}
 use Rattle.grammar.specs.Notation.{is as matches}
-use Rattle.grammar.specs.Notation.{one, _▹_, _∣_, many, option, char, both, none, more, absent, present}
-use Rattle.grammar.specs.Productions.{blank, semi, command, endCommand, cifFile}
+use Rattle.grammar.specs.Notation.{many, char, both, none, more}
+use Rattle.grammar.specs.Productions.{blank, semi, command, cifFile}
 use Rattle.grammar.specs.Tables.{letter}
 use Rattle.grammar.specs.Viable.{bytes, Marked}
 use Rattle.grammar.proofs.Tests.{or-cases}
@@ -23,7 +23,7 @@ use Rattle.definition.specs.Standing.{Standing, outside, after}
 use Rattle.definition.specs.Faults.{Refusal, partsOf, distances, numbersOf, atNumbers, zeroScale, degenerate, layerless, tooMany, faults, allFaults}
 use Rattle.definition.specs.Drawing.{Deed, deedOf, deeds, Event, story}
 use Rattle.definition.specs.Answer.{drawingOf}
-use Rattle.definition.proofs.Range.{All, all-++}
+use Rattle.definition.proofs.Range.{All}
 use Rattle.definition.proofs.Again.{bytes-++}
 use Rattle.definition.proofs.Joined.{standing, tableThen, standing-outside, allFaults-++, deeds-++, story-++, commands-++}
 use Rattle.definition.proofs.Ordered.{Quiet, everywhere, match-all, role-of, byte-of, true-of, all-quiet, itemOf, other, two-bits, insideThen, opens, Ordered, ordered, ordered-behind, standing-inside, quiet-not, quiet-commands, head-commands}
@@ -118,11 +118,15 @@ many-++ {v = v} (more x y m n e) k = more x (y ++ v) m (many-++ n k) (ap (λ (w 
 pub file-joined : {u m : List Letter} → Match items u → Match cifFile m → Match cifFile (u ++ m)
 file-joined {u} k (both x y n l e) = both (u ++ x) y (many-++ k n) l (ap (λ (w : List Letter). u ++ w) e ∙ sym (append-assoc u x y))
 
+pub taken : (u m : List Letter) → take (length u) (bytes (u ++ m)) ≡ bytes u
+taken [] m = refl
+taken (l ∷ u) m = ap (λ (x : List ℕ). l .byte ∷ x) (taken u m)
+
 -- a text before its E, and another one: no condition on either
 pub marked-joined : {t₁ t₂ : List ℕ} (u : List Letter) (l : Letter) (w m : List Letter) → Marked t₁ (u ++ l ∷ w) → l .role ≡ head → (l is 'E') ≡ true
-    → Marked t₂ m → Marked (bytes u ++ t₂) (u ++ m)
+    → Marked t₂ m → Marked (take (length u) t₁ ++ t₂) (u ++ m)
 marked-joined u l w m k r b n = record {
-  reads = bytes-++ u m ∙ ap (λ (x : List ℕ). bytes u ++ x) (n .reads);
+  reads = bytes-++ u m ∙ ap₂ {C = List ℕ} (λ (x y : List ℕ). x ++ y) (sym (taken u (l ∷ w)) ∙ ap (take (length u)) (k .reads)) (n .reads);
   rule = file-joined (before-end u l w k r b) (n .rule);
 }
 
