@@ -22,7 +22,7 @@ use Rattle.definition.specs.Table.{Step, shape, instance, Definition}
 use Rattle.definition.specs.Drawing.{stepOf, retained, Deed, define, deedOf, deeds}
 use Rattle.definition.proofs.Range.{All}
 use Rattle.definition.proofs.Joined.{standing, commands-++, deeds-++, retained-out}
-use Rattle.definition.proofs.Ordered.{Plain, opens, insideThen, Allowed, Ordered, plain-opens, after-inside, standing-inside, ordered, ordered-behind, ordered-resumed, inside-commands}
+use Rattle.definition.proofs.Ordered.{Plain, opens, insideThen, Allowed, Ordered, plain-opens, after-inside, standing-inside, ordered, ordered-behind, ordered-resumed, inside-commands, two-bits}
 
 -- ---- a body ends at its own DF
 
@@ -43,12 +43,9 @@ unfolding All
 longer p c cs h b =
     record { own = at p c ∷ b .own; place = b .place; rest = b .rest; splits = ap (λ (x : List (Placed Command)). at p c ∷ x) (b .splits); plain = (h, b .plain); further = b .further }
 
-never-inside : true ≡ false → ⊥
-never-inside e = let z : _≡_ {A = ℕ} 0 1 = cc in omega arith
-
 pub body-of : (cs : List (Placed Command)) → Ordered true cs → Body cs
 unfolding Ordered
-body-of [] o = absurd (never-inside o)
+body-of [] o = absurd (two-bits refl o)
 body-of (c ∷ cs) o = go (c .what) (o .0) (o .1) (body-of cs)
   where
     go : (w : Command) → Allowed true w → Ordered (opens w true) cs → (Ordered true cs → Body cs) → Body (at (c .place) w ∷ cs)
@@ -56,8 +53,8 @@ body-of (c ∷ cs) o = go (c .what) (o .0) (o .1) (body-of cs)
     go (layer l) h p f = unfold opens Plain in longer (c .place) (layer l) cs tt (f p)
     go (call n ts) h p f = unfold opens Plain in longer (c .place) (call n ts) cs tt (f p)
     go nothing h p f = unfold opens Plain in longer (c .place) nothing cs tt (f p)
-    go (start n a b) h p f = unfold Allowed in absurd (never-inside h)
-    go (delete n) h p f = unfold Allowed in absurd (never-inside h)
+    go (start n a b) h p f = unfold Allowed in absurd (two-bits refl h)
+    go (delete n) h p f = unfold Allowed in absurd (two-bits refl h)
     go finish h p f = unfold opens All in record { own = []; place = c .place; rest = cs; splits = refl; plain = tt; further = p }
 
 -- ---- what a body draws
@@ -77,7 +74,7 @@ retained-split s (c ∷ us) vs e h =
 
     go : (b : Bool) → b ≡ true → (x y z : List (Placed Step)) → x ≡ y ++ z → (if b then own ++ x else []) ≡ (if b then own ++ y else []) ++ z
     go true f x y z g = ap (λ (w : List (Placed Step)). own ++ w) g ∙ sym (append-assoc own y z)
-    go false f x y z g = absurd (never-inside (sym f))
+    go false f x y z g = absurd (two-bits f refl)
 
 -- and goes up to its DF, and no further
 pub retained-own : (s : Standing) (us : List (Placed Command)) (p : ℕ) (vs : List (Placed Command)) → s .inside ≡ true
