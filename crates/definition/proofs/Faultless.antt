@@ -1,27 +1,27 @@
 -- The flat file read again has no fault.
 -- Assumes nothing.
 use mathlib.Core.Path.{_≡_, refl, sym, ap, ap₂, _∙_, subst}
-use mathlib.Core.Bool.{Bool, true, false, not, _&&_, _||_}
+use mathlib.Core.Bool.{Bool, true, false, not, _||_}
 use mathlib.Core.List.{List, [], _∷_, _++_, map, flatMap, append-assoc, append-nil}
-use Prim.Native.Nat.{ℕ, zero, suc, _+_, _*_, _%_, _<_}
+use Prim.Native.Nat.{ℕ, _+_, _*_, _%_}
 use native.Mathlib.Omega.{arith}
 use borrow.Author.Tests.{eq-eqb}
 use lib.Dec.{T, ltb, eqb}
-use lib.IntN.{ℤ, pos, negsuc, natAbs}
+use lib.IntN.{ℤ, natAbs}
 use lib.ListN.{length}
-use Rattle.grammar.specs.Notation.{Letter, dec, has, head, stop, skip}
+use Rattle.grammar.specs.Notation.{Letter, dec, has, stop, skip}
 use Rattle.grammar.specs.Tables.{letter}
 use Rattle.definition.specs.Words.{if_then_else_, Placed, at, Point, any, those, same}
 use Rattle.definition.specs.Commands.{Shape, Number, Command, draw, layer, nothing, commandAt, commands}
-use Rattle.definition.specs.Standing.{Standing, outside, after, given, scaled, whole, scaledShape}
-use Rattle.definition.specs.Faults.{Refusal, beyond, both, emptyShape, partsOf, shifts, bearings, distances, numbersOf, atNumbers, atCommand, zeroScale, degenerate, layerless, tooMany, faults, allFaults}
+use Rattle.definition.specs.Standing.{outside, after, given, scaled, whole, scaledShape}
+use Rattle.definition.specs.Faults.{Refusal, beyond, both, emptyShape, partsOf, distances, numbersOf, atNumbers, zeroScale, degenerate, layerless, tooMany, faults, allFaults}
 use Rattle.definition.specs.Flat.{letterOf, numbersOfShape}
 use Rattle.definition.specs.Drawing.{Drawn}
 use Rattle.definition.proofs.Range.{All}
 use Rattle.definition.proofs.Rows.{same-eq}
 use Rattle.definition.proofs.Again.{values, spacedLetters}
 use Rattle.definition.proofs.Shapes.{valued, shape-read, read-outside, scaled-outside}
-use Rattle.definition.proofs.Reread.{InRange, Sayable, names, ended, lineLetters, lastLetters, saidLetters, linesLetters, flatLetters, line-commands, names-headless, spaced-headless, layer-read, none-beyond, range-left, range-right}
+use Rattle.definition.proofs.Reread.{InRange, Sayable, names, lineLetters, lastLetters, saidLetters, linesLetters, flatLetters, line-commands, names-headless, spaced-headless, layer-read, none-beyond, range-left, range-right}
 use Rattle.definition.proofs.Said.{Good, range-++, or-first, or-second, length-map}
 
 none-listed : (n : ℕ) (t : ℤ → Bool) (ds : List Number) → any t (values ds) ≡ false → atNumbers n t ds ≡ []

@@ -3,17 +3,17 @@
 use mathlib.Core.Path.{_≡_, refl, sym, ap, ap₂, _∙_, subst}
 use mathlib.Core.Bool.{Bool, true, false, _||_}
 use mathlib.Core.List.{List, [], _∷_, _++_, append-assoc, map}
-use Prim.Native.Nat.{ℕ, zero, suc, _+_, _-_, _*_}
+use Prim.Native.Nat.{ℕ, suc, _+_, _-_, _*_}
 use native.Mathlib.Omega.{arith}
 use lib.IntN.{ℤ}
 use lib.ListN.{length}
-use Rattle.grammar.specs.Notation.{Role, Letter, dec, Role-discrete, head, second, turn, axis, sign, name, stop, lead, later}
+use Rattle.grammar.specs.Notation.{Role, Letter, dec, Role-discrete, head, second, axis, sign, stop, later}
 use Rattle.definition.specs.Words.{if_then_else_, Placed, at, Point}
-use Rattle.definition.specs.Commands.{Turn, Command, start, Number, worth, numbers, named, next, turnAt, turns, commandAt, commands, _plays_}
+use Rattle.definition.specs.Commands.{Turn, Command, start, worth, numbers, named, next, turnAt, turns, commandAt, commands, _plays_}
 use Rattle.definition.specs.Standing.{Standing, outside, after}
 use Rattle.definition.specs.Faults.{Refusal, faults, allFaults}
 use Rattle.definition.specs.Turns.{inOrder}
-use Rattle.definition.specs.Table.{Step, Definition, Table}
+use Rattle.definition.specs.Table.{Step, Table}
 use Rattle.definition.specs.Drawing.{stepOf, retained, Deed, deedOf, deeds, Chain, Event, drawStep, drawBody, happens, tableAfter, story, Drawn}
 use Rattle.definition.specs.Drawing.{called, drew, entered, removed, refused}
 use Rattle.definition.specs.Counts.{Counts, End, finished, stopped, counted, goOn, ending, shapesOf}

@@ -2,16 +2,16 @@
 -- are of one to four of the characters that they may have.
 -- Assumes nothing.
 use mathlib.Core.Path.{_≡_, refl, sym, ap, _∙_, subst}
-use mathlib.Core.Bool.{Bool, true, false, _&&_, _||_}
+use mathlib.Core.Bool.{Bool, true, false, _&&_}
 use mathlib.Core.List.{List, [], _∷_, _++_}
-use mathlib.Core.Logic.{_⊎_, inl, inr}
+use mathlib.Core.Logic.{inl, inr}
 use Prim.Native.Nat.{ℕ, _+_, _≤_, _<_}
 use native.Mathlib.Omega.{arith}
 use lib.Dec.{T}
 use lib.ListN.{length}
 use Rattle.grammar.specs.Notation.{Expression, one, _▹_, _∣_, many, option, commentText, Class, Role, Letter, Match, char, both, left, right, none, more, absent, present, text, dec, has}
 use Rattle.grammar.specs.Notation.{Role-discrete, Digit, Upper, Blank, User, Comment, '-', lpar, rpar, semicolon, 'B', 'C', 'D', 'E', 'F', 'L', 'M', 'P', 'R', 'S', 'T', 'W', 'X', 'Y'}
-use Rattle.grammar.specs.Notation.{skip, head, second, turn, axis, sign, lead, later, name, stop}
+use Rattle.grammar.specs.Notation.{skip, head, second, sign, name, stop}
 use Rattle.grammar.specs.Productions.{cifFile}
 use Rattle.grammar.proofs.Tests.{and-left, and-right}
 use Rattle.definition.specs.Words.{if_then_else_, Placed, at, Point}

@@ -14,7 +14,7 @@ use Rattle.grammar.proofs.Items.{dec-sound}
 use Rattle.definition.specs.Words.{if_then_else_, Placed, at}
 use Rattle.definition.specs.Commands.{Number, Turn}
 use Rattle.definition.specs.Commands.{Command, nothing}
-use Rattle.definition.specs.Commands.{_plays_, _is_, worth, numbers, nth, unsigned, paired, next, turnAt, turns, commandAt, commands}
+use Rattle.definition.specs.Commands.{_plays_, _is_, worth, numbers, nth, paired, next, turnAt, turns, commandAt, commands}
 use Rattle.definition.specs.Faults.{partsOf, shifts, bearings, both, distances, numbersOf}
 use Rattle.definition.proofs.Range.{All}
 
@@ -106,15 +106,12 @@ numbers-rise n minus (l ∷ m) = go (l plays turn || l plays stop) (l plays lead
 
 module _ (Idle : ℤ → Type 0) {high : ℕ} where
   -- number i, or an idle one if it is left out, before others that stand behind it
-  nth-rises : (i : ℕ) (ns : List Number) (d : Number) (f : Number → Number) → ((x : Number) → f x .place ≡ x .place) → Idle (f d .what) → {low : ℕ} {rest : List Number}
-      → Rising Never low high (drop i ns) → ((low′ : ℕ) → Rising Never low′ high (drop (suc i) ns) → Rising Idle low′ high rest) → Rising Idle low high (f (getD ns i d) ∷ rest)
-  nth-rises zero [] d f same z r k = idle z (k _ done)
-  nth-rises zero (x ∷ ns) d f same z {low} (stands a b r) k =
-      let from : low ≤ f x .place = omega (arith, same x) in
-      let to : f x .place < high = omega (arith, same x) in
-      stands from to (k (suc (f x .place)) (wider (omega (arith, same x)) (omega arith) r))
-  nth-rises (suc i) [] d f same z r k = idle z (k _ done)
-  nth-rises (suc i) (x ∷ ns) d f same z r k = nth-rises i ns d f same z r k
+  nth-rises : (i : ℕ) (ns : List Number) (d : Number) → Idle (d .what) → {low : ℕ} {rest : List Number} → Rising Never low high (drop i ns)
+      → ((low′ : ℕ) → Rising Never low′ high (drop (suc i) ns) → Rising Idle low′ high rest) → Rising Idle low high (getD ns i d ∷ rest)
+  nth-rises zero [] d z r k = idle z (k _ done)
+  nth-rises zero (x ∷ ns) d z (stands a b r) k = stands a b (k (suc (x .place)) r)
+  nth-rises (suc i) [] d z r k = idle z (k _ done)
+  nth-rises (suc i) (x ∷ ns) d z r k = nth-rises i ns d z r k
 
   pairs-rise : (ns : List Number) {low : ℕ} → Rising Never low high ns → Rising Idle low high (both (paired ns))
   unfolding paired
@@ -138,16 +135,11 @@ behind-rise : (n : ℕ) (m : List Letter) → Rising Never n (until (n + 1) m) (
 behind-rise n m = wider (omega arith) (omega arith) (numbers-rise n false m)
 
 module _ (Idle : ℤ → Type 0) (zero-idle : Idle (pos 0)) where
-  -- number i behind place n, or z if it is left out, before others; and likewise a size, which is unsigned
+  -- number i behind place n, or z if it is left out, before others
   pick : (n z i : ℕ) (m : List Letter) → Idle (pos z) → {low : ℕ} {rest : List Number} → Rising Never low (until (n + 1) m) (drop i (behind n m))
       → ((low′ : ℕ) → Rising Never low′ (until (n + 1) m) (drop (suc i) (behind n m)) → Rising Idle low′ (until (n + 1) m) rest)
       → Rising Idle low (until (n + 1) m) (nth n (behind n m) (pos z) i ∷ rest)
-  pick n z i m h r k = nth-rises Idle i (behind n m) (at n (pos z)) (λ x. x) (λ x. refl) h r k
-
-  pick-size : (n i : ℕ) (m : List Letter) {low : ℕ} {rest : List Number} → Rising Never low (until (n + 1) m) (drop i (behind n m))
-      → ((low′ : ℕ) → Rising Never low′ (until (n + 1) m) (drop (suc i) (behind n m)) → Rising Idle low′ (until (n + 1) m) rest)
-      → Rising Idle low (until (n + 1) m) (unsigned (nth n (behind n m) (pos 0) i) ∷ rest)
-  pick-size n i m r k = nth-rises Idle i (behind n m) (at n (pos 0)) (λ x. unsigned x) (λ x. refl) zero-idle r k
+  pick n z i m h r k = nth-rises Idle i (behind n m) (at n (pos z)) h r k
 
   -- ---- transformations
 
@@ -185,16 +177,16 @@ module _ (Idle : ℤ → Type 0) (zero-idle : Idle (pos 0)) where
   -- sizes, then points, as a box, a flash, a wire and a polygon have them, before others
   box-rises : (n : ℕ) (m : List Letter) {rest : List Number} → ((low : ℕ) → Rising Never low (until (n + 1) m) (drop 4 (behind n m)) → Rising Idle low (until (n + 1) m) rest)
       → Rising Idle n (until (n + 1) m)
-      (unsigned (nth n (behind n m) (pos 0) 0) ∷ unsigned (nth n (behind n m) (pos 0) 1) ∷ nth n (behind n m) (pos 0) 2 ∷ nth n (behind n m) (pos 0) 3 ∷ rest)
+      (nth n (behind n m) (pos 0) 0 ∷ nth n (behind n m) (pos 0) 1 ∷ nth n (behind n m) (pos 0) 2 ∷ nth n (behind n m) (pos 0) 3 ∷ rest)
   box-rises n m k =
-      pick-size n 0 m (behind-rise n m) (λ a r. pick-size n 1 m r (λ b r₁. pick n 0 2 m zero-idle r₁ (λ c r₂. pick n 0 3 m zero-idle r₂ k)))
+      pick n 0 0 m zero-idle (behind-rise n m) (λ a r. pick n 0 1 m zero-idle r (λ b r₁. pick n 0 2 m zero-idle r₁ (λ c r₂. pick n 0 3 m zero-idle r₂ k)))
 
   flash-rises : (n : ℕ) (m : List Letter)
-      → Rising Idle n (until (n + 1) m) (unsigned (nth n (behind n m) (pos 0) 0) ∷ nth n (behind n m) (pos 0) 1 ∷ nth n (behind n m) (pos 0) 2 ∷ [])
-  flash-rises n m = pick-size n 0 m (behind-rise n m) (λ a r. pick n 0 1 m zero-idle r (λ b r₁. pick n 0 2 m zero-idle r₁ (λ c r₂. done)))
+      → Rising Idle n (until (n + 1) m) (nth n (behind n m) (pos 0) 0 ∷ nth n (behind n m) (pos 0) 1 ∷ nth n (behind n m) (pos 0) 2 ∷ [])
+  flash-rises n m = pick n 0 0 m zero-idle (behind-rise n m) (λ a r. pick n 0 1 m zero-idle r (λ b r₁. pick n 0 2 m zero-idle r₁ (λ c r₂. done)))
 
-  wire-rises : (n : ℕ) (m : List Letter) → Rising Idle n (until (n + 1) m) (unsigned (nth n (behind n m) (pos 0) 0) ∷ both (paired (drop 1 (behind n m))))
-  wire-rises n m = pick-size n 0 m (behind-rise n m) (λ a r. pairs-rise Idle (drop 1 (behind n m)) r)
+  wire-rises : (n : ℕ) (m : List Letter) → Rising Idle n (until (n + 1) m) (nth n (behind n m) (pos 0) 0 ∷ both (paired (drop 1 (behind n m))))
+  wire-rises n m = pick n 0 0 m zero-idle (behind-rise n m) (λ a r. pairs-rise Idle (drop 1 (behind n m)) r)
 
   polygon-rises : (n : ℕ) (m : List Letter) → Rising Idle n (until (n + 1) m) (both (paired (behind n m)))
   polygon-rises n m = pairs-rise Idle (behind n m) (behind-rise n m)

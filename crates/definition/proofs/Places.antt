@@ -14,7 +14,7 @@ use Rattle.grammar.specs.Notation.{Letter, head, second, turn, axis, sign, lead
 use Rattle.definition.specs.Words.{if_then_else_, Placed, at, Point, point, those, any, first}
 use Rattle.definition.specs.Commands.{Number, box, flash, wire, polygon, Shape, shapeOf, Turn, translate, mirrorX, mirrorY, rotate}
 use Rattle.definition.specs.Commands.{Command, draw, layer, call, start, finish, delete, nothing, _plays_, _is_}
-use Rattle.definition.specs.Commands.{worth, numbers, nth, unsigned, paired, next, turnAt, turns, commandAt, commands}
+use Rattle.definition.specs.Commands.{worth, numbers, nth, paired, next, turnAt, turns, commandAt, commands}
 use Rattle.definition.specs.Standing.{Standing, after, given, scaled, whole, scaledPoint, scaledShape, scaledTurn, outside}
 use Rattle.definition.specs.Faults.{Parts, parts, partsOf, shifts, bearings, both, distances, numbersOf, zeroScale, degenerate, layerless, tooMany, Refusal, atNumbers, atCommand, faults, allFaults, zero?, beyond, nowhere, emptyShape, firstFault}
 use Rattle.definition.specs.Table.{shape, instance}
@@ -107,9 +107,6 @@ module _ (k n : ℕ) (m : List Letter) where
   nth-shift : (z : ℤ) (i : ℕ) → nth (k + n) (numbers (k + n + 1) false m) z i ≡ shift k (nth n (numbers (n + 1) false m) z i)
   nth-shift z i = ap (λ (ns : List Number). getD ns i (at (k + n) z)) own ∙ List·getD-map (shift k) (numbers (n + 1) false m) i (at n z)
 
-  size-shift : (i : ℕ) → unsigned (nth (k + n) (numbers (k + n + 1) false m) (pos 0) i) ≡ shift k (unsigned (nth n (numbers (n + 1) false m) (pos 0) i))
-  size-shift i = ap (λ (d : Number). unsigned d) (nth-shift (pos 0) i)
-
   point-shift : (y z : ℤ) (i j : ℕ)
       → point (nth (k + n) (numbers (k + n + 1) false m) y i) (nth (k + n) (numbers (k + n + 1) false m) z j)
       ≡ shiftPoint k (point (nth n (numbers (n + 1) false m) y i) (nth n (numbers (n + 1) false m) z j))
@@ -140,13 +137,12 @@ commandAt-shift k n l m =
     let f = shiftCommand k in
     let nr = nth-shift k n m (pos 0) in
     let nr₁ = nth-shift k n m (pos 1) in
-    let size = size-shift k n m in
     let ns = numbers (n + 1) false m in
     chosen f (l is 'P') (ap (λ (ps : List (Point Number)). draw (shapeOf polygon [] ps [])) (ap paired (own k n m) ∙ paired-shift k ns))
-    (chosen f (l is 'B') (λ i. draw (shapeOf box (size 0 i ∷ size 1 i ∷ []) (point-shift k n m (pos 0) (pos 0) 2 3 i ∷ []) (point-shift k n m (pos 1) (pos 0) 4 5 i ∷ [])))
-    (chosen f (l is 'R') (λ i. draw (shapeOf flash (size 0 i ∷ []) (point-shift k n m (pos 0) (pos 0) 1 2 i ∷ []) []))
+    (chosen f (l is 'B') (λ i. draw (shapeOf box (nr 0 i ∷ nr 1 i ∷ []) (point-shift k n m (pos 0) (pos 0) 2 3 i ∷ []) (point-shift k n m (pos 1) (pos 0) 4 5 i ∷ [])))
+    (chosen f (l is 'R') (λ i. draw (shapeOf flash (nr 0 i ∷ []) (point-shift k n m (pos 0) (pos 0) 1 2 i ∷ []) []))
     (chosen f (l is 'W')
-    (ap₂ {C = Command} (λ (d : Number) (ps : List (Point Number)). draw (shapeOf wire (d ∷ []) ps [])) (size 0)
+    (ap₂ {C = Command} (λ (d : Number) (ps : List (Point Number)). draw (shapeOf wire (d ∷ []) ps [])) (nr 0)
     (ap (λ (ds : List Number). paired (drop 1 ds)) (own k n m) ∙ ap paired (drop-map (shift k) 1 ns) ∙ paired-shift k (drop 1 ns)))
     (chosen f (l is 'L') refl
     (chosen f (l is 'C')

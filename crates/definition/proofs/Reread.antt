@@ -1,15 +1,15 @@
 -- The flat file read again draws the same shapes: its letters, its commands, and what they draw.
 -- Assumes nothing.
 use mathlib.Core.Path.{_≡_, refl, sym, ap, ap₂, _∙_, subst}
-use mathlib.Core.Bool.{Bool, true, false, _||_}
+use mathlib.Core.Bool.{Bool, true, false}
 use mathlib.Core.List.{List, [], _∷_, _++_, map, append-assoc}
-use Prim.Native.Nat.{ℕ, zero, suc, _+_, _≤_, _<_}
+use Prim.Native.Nat.{ℕ, suc, _+_, _≤_}
 use native.Mathlib.Omega.{arith}
 use borrow.Author.Tests.{le-ltb, lt-ltb}
 use lib.IntN.{ℤ, pos, negsuc, natAbs}
 use lib.ListN.{length}
 use lib.Dec.{T, ltb}
-use Rattle.grammar.specs.Notation.{Letter, dec, Role-discrete, has, skip, head, sign, lead, later, name, stop}
+use Rattle.grammar.specs.Notation.{Letter, dec, has, skip, head, name, stop}
 use Rattle.grammar.specs.Viable.{bytes}
 use Rattle.grammar.specs.Tables.{letter}
 use Rattle.definition.specs.Words.{if_then_else_, Placed, at, Point, same, any}
@@ -19,12 +19,12 @@ use Rattle.definition.specs.Faults.{beyond, both}
 use Rattle.definition.specs.Turns.{act, aim, inOrder, moved}
 use Rattle.definition.specs.Table.{Table, shape}
 use Rattle.definition.specs.Drawing.{Drawn, Event, drew, refused, stepOf, deedOf, deeds, drawShape, drawStep, happens, tableAfter, story}
-use Rattle.definition.specs.Counts.{shapesOf, counts, End, finished, counted, goOn, ending}
+use Rattle.definition.specs.Counts.{shapesOf, counts, finished, counted, goOn, ending}
 use Rattle.definition.specs.Flat.{letterOf, numbersOfShape, spaced, line, said, lines, flat, shortest}
 use Rattle.definition.proofs.Range.{All, all-++}
-use Rattle.definition.proofs.Again.{values, digitLetters, decimalLetters, spacedLetters, bytes-++, spaced-bytes}
+use Rattle.definition.proofs.Again.{digitLetters, decimalLetters, spacedLetters, bytes-++, spaced-bytes}
 use Rattle.definition.proofs.Rows.{same-eq}
-use Rattle.definition.proofs.Shapes.{Formed, valued, shape-read, read-outside}
+use Rattle.definition.proofs.Shapes.{Formed, shape-read, read-outside}
 
 -- ---- the letters
 

@@ -2,16 +2,13 @@
 -- Assumes nothing.
 use mathlib.Core.Path.{_≡_, refl, sym, ap, _∙_, subst}
 use mathlib.Core.Bool.{Bool, true, false, not}
-use mathlib.Core.List.{List, [], _∷_}
-use Prim.Native.Nat.{ℕ, zero, suc, _≤_, _<_}
-use native.Mathlib.Omega.{arith}
+use mathlib.Core.List.{List, []}
+use Prim.Native.Nat.{ℕ, _≤_}
 use lib.Dec.{T, ltb, ltb→lt, nltb→le}
-use lib.ListN.{length, getD}
+use lib.ListN.{length}
 use Rattle.grammar.specs.Notation.{Letter}
-use Rattle.grammar.specs.Viable.{bytes, Marked}
-use Rattle.grammar.specs.Steps.{marked, verdictOf}
+use Rattle.grammar.specs.Steps.{verdictOf}
 use Rattle.grammar.specs.Viable
-use Rattle.grammar.specs.Viable.{Grammatical, LongestViable}
 use Rattle.grammar.specs.declared.Verdict.{Verdict}
 use Rattle.grammar.specs.declared.Verdict.the-variants.{InGrammar, StuckAt}
 use Rattle.grammar.proofs.Markings.{marking-is}

@@ -2,35 +2,34 @@
 -- Assumes nothing.
 use mathlib.Core.Path.{_≡_, refl, sym, ap, ap₂, _∙_, subst}
 use mathlib.Core.Bool.{Bool, true, false, not, _&&_, _||_}
-use mathlib.Core.List.{List, [], _∷_, _++_, map, flatMap, nil≢cons}
-use mathlib.Core.Option.{Option, none, some}
+use mathlib.Core.List.{List, [], _∷_, _++_, map, nil≢cons}
+use mathlib.Core.Option.{none}
 use Prim.Native.Nat.{ℕ, zero, suc, _≤_, _<_}
 use native.Mathlib.Omega.{arith}
 use borrow.Author.Tests.{ltb-false, eqb-false}
 use lib.Dec.{T, ltb, eqb}
-use lib.IntN.{ℤ, pos, negsuc, negℤ, natAbs}
+use lib.IntN.{ℤ, negℤ, natAbs}
 use lib.ListN.{length}
 use Rattle.grammar.specs.Notation.{Letter, Match}
 use Rattle.grammar.specs.Productions.{cifFile}
-use Rattle.grammar.specs.Viable.{Marked}
-use Rattle.definition.specs.Words.{if_then_else_, Placed, at, Point, point, any}
+use Rattle.definition.specs.Words.{at, Point, any}
 use Rattle.definition.specs.Commands.{Kind, box, flash, wire, polygon, Shape, Turn, Number, translate, mirrorX, mirrorY, rotate}
 use Rattle.definition.specs.Commands.{Command, draw, layer, call, start, finish, delete, nothing, commands}
 use Rattle.definition.specs.Standing.{Standing, outside, after, scaled, whole, scaledPoint, scaledShape}
-use Rattle.definition.specs.Faults.{Refusal, beyond, both, zero?, nowhere, least, emptyShape, partsOf, distances, numbersOf, atNumbers, atCommand, zeroScale, degenerate, layerless, tooMany, faults, allFaults, firstFault}
+use Rattle.definition.specs.Faults.{beyond, both, zero?, nowhere, least, emptyShape, partsOf, distances, numbersOf, atNumbers, atCommand, zeroScale, degenerate, layerless, tooMany, faults, allFaults, firstFault}
 use Rattle.definition.specs.Turns.{Heading, +x, +y, -x, -y, askew, heading, rotated, act, aim, inOrder, moved}
 use Rattle.definition.specs.Table.{shape}
-use Rattle.definition.specs.Drawing.{stepOf, deeds, Drawn, story}
+use Rattle.definition.specs.Drawing.{stepOf, Drawn}
 use Rattle.definition.specs.Counts.{shapesOf}
-use Rattle.definition.specs.Flat.{flat, numbersOfShape}
+use Rattle.definition.specs.Flat.{flat}
 use Rattle.definition.specs.Answer.{drawingOf}
 use Rattle.definition.proofs.Range.{All, Within}
 use Rattle.definition.proofs.Sizes
 use Rattle.definition.proofs.Sizes.{Fits, Fits₂, Fit, FitStep, nil-left, nil-right, abs-neg, fit-moved, fit-step, no-fault}
 use Rattle.definition.proofs.Shapes
 use Rattle.definition.proofs.Shapes.{Formed}
-use Rattle.definition.proofs.Reread.{InRange, Sayable, again, plain, Redrawn, flatLetters, flat-redrawn}
-use Rattle.definition.proofs.Spelling.{NameChar, Spelt, flat-marked}
+use Rattle.definition.proofs.Reread.{InRange, Sayable, again}
+use Rattle.definition.proofs.Spelling.{Spelt}
 use Rattle.definition.proofs.Course.{natural}
 use Rattle.definition.proofs.Made
 use Rattle.definition.proofs.Made.{Drafted, Name, Made, all-made}

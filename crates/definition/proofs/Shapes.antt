@@ -1,16 +1,16 @@
 -- A shape of the flat file is read back.
 -- Assumes nothing.
-use mathlib.Core.Path.{_≡_, refl, sym, ap, ap₂, _∙_, subst}
-use mathlib.Core.Bool.{Bool, true, false}
+use mathlib.Core.Path.{_≡_, refl, sym, ap, ap₂, _∙_}
+use mathlib.Core.Bool.{false}
 use mathlib.Core.List.{List, [], _∷_, _++_, map}
-use Prim.Native.Nat.{ℕ, zero, suc, _+_, _*_, _/_, _%_}
+use Prim.Native.Nat.{ℕ, suc, _+_, _*_, _/_}
 use native.Mathlib.Omega.{arith}
 use lib.IntN.{ℤ, pos, negsuc, negℤ}
-use lib.ListN.{length, getD, drop, List·getD-map}
+use lib.ListN.{getD, drop, List·getD-map}
 use Rattle.grammar.specs.Notation.{Letter, has, head, stop}
 use Rattle.grammar.specs.Tables.{letter}
-use Rattle.definition.specs.Words.{if_then_else_, Placed, at, Point, point}
-use Rattle.definition.specs.Commands.{Kind, box, flash, wire, polygon, Shape, Number, Command, draw, numbers, nth, paired, commandAt}
+use Rattle.definition.specs.Words.{at, Point, point}
+use Rattle.definition.specs.Commands.{box, flash, wire, polygon, Shape, Number, draw, numbers, nth, paired, commandAt}
 use Rattle.definition.specs.Standing.{outside, given, scaled, scaledPoint, scaledShape}
 use Rattle.definition.specs.Faults.{both}
 use Rattle.definition.specs.Flat.{letterOf, numbersOfShape}
