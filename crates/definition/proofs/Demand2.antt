@@ -1,5 +1,5 @@
--- Demand 2 for the refusals 1 to 9 and 18 and for acceptance: each happens exactly when 01's table says; and the refusals 10 to 17 are those of the
--- drawing.
+-- Demand 2: a text is accepted, and refused with each number at each place, exactly when document 01's table and its order of refusals say so.
+-- The rules stand in FaultRules (3 to 9) and DrawingRules (10 to 17), each as its row states it.
 -- Assumes nothing.
 use mathlib.Core.Path.{_≡_, refl, subst, sym}
 use mathlib.Core.List.{List, []}
@@ -17,6 +17,11 @@ use Rattle.definition.proofs.FaultRules.{FirstBreak, rule-number}
 use Rattle.definition.proofs.Outcomes.{Passed, endOf, flatLength, TooLong, Way, by-length, by-grammar, by-rule, by-drawing, by-flat-file, Accepting, refusal, acceptance}
 use Rattle.definition.proofs.EventPlaces.{ByDrawing}
 use Rattle.definition.proofs.Demand1.{stopped-within}
+use Rattle.definition.specs.Drawing.{deeds}
+use Rattle.definition.specs.Counts.{counts}
+use Rattle.definition.specs.Standing.{outside}
+use Rattle.definition.proofs.Moments.{moments}
+use Rattle.definition.proofs.DrawingRules.{FirstStop, drawing-stops}
 
 -- the text is refused by this number at this place, whatever calls are open there
 abbrev pub Refused : List ℕ → (room number place : ℕ) → Type 0
@@ -30,11 +35,11 @@ pub record RuleBroken (t : List ℕ) (n p : ℕ) : Type 0 where
   pub marked : Marked t roles
   pub broken : FirstBreak (commands 0 roles) n p
 
--- 10 to 17: nothing broken, and the drawing stops so
+-- 10 to 17: nothing broken, and this is the first rule that a moment of the drawing breaks
 pub record DrawingStopped (t : List ℕ) (n p : ℕ) (chain : Chain) : Type 0 where
   pub roles : List Letter
   pub passed : Passed t roles
-  pub stops : endOf roles ≡ stopped n p chain
+  pub stops : FirstStop (counts 0 0 0) (moments [] (deeds (outside []) (commands 0 roles))) n p chain
 
 -- 18: nothing broken, the drawing finishes, and its flat file is too long
 pub record FlatFileTooLong (t : List ℕ) (room : ℕ) : Type 0 where
@@ -49,6 +54,10 @@ pub record FlatFileTooLong (t : List ℕ) (room : ℕ) : Type 0 where
 -- the numbers that stop a drawing
 drawing-number : {t : List ℕ} {m : List Letter} → Passed t m → {n p : ℕ} {chain : Chain} → endOf m ≡ stopped n p chain → ByDrawing n
 drawing-number q e = stopped-within (q .marked) e .number
+
+-- how a drawing stops is the first rule broken
+stopping : (m : List Letter) {n p : ℕ} {chain : Chain} → (endOf m ≡ stopped n p chain) ↔ FirstStop (counts 0 0 0) (moments [] (deeds (outside []) (commands 0 m))) n p chain
+stopping m {n} {p} {chain} = drawing-stops [] (deeds (outside []) (commands 0 m)) n p chain
 
 module _ {t : List ℕ} {room : ℕ} where
   way-1 : {n p : ℕ} {chain : Chain} → Way t room n p chain → n ≡ 1 → (p ≡ 0) × (16777216 < length t)
@@ -76,7 +85,7 @@ module _ {t : List ℕ} {room : ℕ} where
   way-10-to-17 (by-length h) a b = absurd (omega arith)
   way-10-to-17 (by-grammar h g l) a b = absurd (omega arith)
   way-10-to-17 (by-rule h k f) a b = absurd (omega (arith, rule-number (f .breaks) .1))
-  way-10-to-17 (by-drawing {m} q s) a b = record { roles = m; passed = q; stops = s }
+  way-10-to-17 (by-drawing {m} q s) a b = record { roles = m; passed = q; stops = stopping m .0 s }
   way-10-to-17 (by-flat-file q f l) a b = absurd (omega arith)
 
   way-18 : {n p : ℕ} {chain : Chain} → Way t room n p chain → n ≡ 18 → (p ≡ 0) × FlatFileTooLong t room
@@ -100,12 +109,12 @@ refused-2 {t} {room} {p} = (λ r. way-2 (refusal .0 (r .1)) refl, λ h. ([], ref
 pub refused-3-to-9 : {t : List ℕ} {room n p : ℕ} → 3 ≤ n → n ≤ 9 → Refused t room n p ↔ RuleBroken t n p
 refused-3-to-9 a b = (λ r. way-3-to-9 (refusal .0 (r .1)) a b, λ h. ([], refusal .1 (by-rule (h .within) (h .marked) (h .broken))))
 
--- 01: then 10 to 17 in the order of drawing. A drawing is stopped by these numbers only
+-- 01: then 10 to 17 in the order of drawing, at one command by number. A drawing is stopped by these numbers only
 pub refused-10-to-17 : {t : List ℕ} {room n p : ℕ} {chain : Chain} → 10 ≤ n → n ≤ 17 → Answers t room (rejected n p chain) ↔ DrawingStopped t n p chain
-refused-10-to-17 a b = (λ r. way-10-to-17 (refusal .0 r) a b, λ h. refusal .1 (by-drawing (h .passed) (h .stops)))
+refused-10-to-17 a b = (λ r. way-10-to-17 (refusal .0 r) a b, λ h. refusal .1 (by-drawing (h .passed) (stopping (h .roles) .1 (h .stops))))
 
 pub stopped-number : {t : List ℕ} {n p : ℕ} {chain : Chain} → DrawingStopped t n p chain → ByDrawing n
-stopped-number h = drawing-number (h .passed) (h .stops)
+stopped-number h = drawing-number (h .passed) (stopping (h .roles) .1 (h .stops))
 
 -- 01: then 18, flat file longer than the room or than 16,777,216; at 0
 pub refused-18 : {t : List ℕ} {room p : ℕ} → Refused t room 18 p ↔ ((p ≡ 0) × FlatFileTooLong t room)
