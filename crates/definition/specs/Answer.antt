@@ -1,4 +1,5 @@
--- What the reader answers of a text and a room.
+-- What the reader answers of a text and a room: the order of refusals, what is given back, and what is left in the room. The exported contract is
+-- `Promised`, at the end.
 -- Assumes nothing.
 use mathlib.Core.Path.{_≡_}
 use mathlib.Core.Bool.{Bool, true, false, _&&_}
@@ -19,8 +20,7 @@ use Rattle.definition.specs.Drawing.{Chain, Event, deeds, story}
 use Rattle.definition.specs.Counts.{Counts, counts, End, finished, stopped, ending, shapesOf}
 use Rattle.definition.specs.Flat.{flat}
 
--- how a reading comes out: drawn, with the counts and all that happened; or refused, with the calls open there
-pub data Outcome : Type 0 where
+pub data Outcome : Type 0 where  -- how a reading comes out: drawn, with the counts and all that happened; or refused, with the calls open there
   accepted : Counts → List Event → Outcome
   rejected : (number place : ℕ) → Chain → Outcome
 
@@ -36,16 +36,13 @@ unfoldable pub given-back : Outcome → Answer
 given-back (accepted c es) = answer 0 0 (length (flat (shapesOf es))) c
 given-back (rejected n p chain) = answer n p 0 (counts 0 0 0)
 
--- the first bytes of the room hold the flat file, and the rest of the room is unchanged
-abbrev pub roomAfter : Outcome → List ℕ → List ℕ
+abbrev pub roomAfter : Outcome → List ℕ → List ℕ  -- the first bytes of the room hold the flat file, and the rest of the room is unchanged
 roomAfter o room = flatFile o ++ drop (length (flatFile o)) room
 
--- the drawing of commands
-abbrev pub drawingOf : List (Placed Command) → List Event
+abbrev pub drawingOf : List (Placed Command) → List Event  -- the drawing of commands
 drawingOf cs = story [] (deeds (outside []) cs)
 
--- 01, refusal 18: flat file longer than the room or than 16,777,216
-unfoldable pub fitted : End → List Event → ℕ → Outcome
+unfoldable pub fitted : End → List Event → ℕ → Outcome  -- 01, refusal 18: flat file longer than the room or than 16,777,216
 fitted (stopped n p chain) es room = rejected n p chain
 fitted (finished c) es room =
     if leb (length (flat (shapesOf es))) room && leb (length (flat (shapesOf es))) 16777216 then accepted c es else rejected 18 0 []

@@ -1,4 +1,5 @@
--- The commands of a text, each with its place, read off the roles that the grammar gives the text's characters.
+-- The commands of a text, each with its place, read off the roles that the grammar gives the text's characters. Each is read by looking ahead
+-- from its first letter, so no parser stands beside the grammar.
 -- Assumes nothing.
 use mathlib.Core.Bool.{Bool, true, false, _||_}
 use mathlib.Core.List.{List, [], _∷_}
@@ -9,8 +10,7 @@ use Rattle.grammar.specs.Notation.{Class, has, 'B', 'C', 'D', 'F', 'L', 'P', 'R
 use Rattle.grammar.specs.Notation.{Role, Role-discrete, Letter, dec, head, second, turn, axis, sign, lead, later, name, stop}
 use Rattle.definition.specs.Words.{if_then_else_, Placed, at, Point, point}
 
--- 7.1.2, Numbers: a number of the text. Its place is its minus sign's, or else its first digit's (01)
-abbrev pub Number : Type 0
+abbrev pub Number : Type 0  -- 7.1.2, Numbers: a number of the text. Its place is its minus sign's, or else its first digit's (01)
 Number = Placed ℤ
 
 -- 7.1.1, the table of commands: a shape has sizes (a box length and width, a flash its diameter, a wire its width), then points (a centre, or the
@@ -27,8 +27,7 @@ pub record Shape (N : Type 0) : Type 0 where
 abbrev pub shapeOf : {N : Type 0} → Kind → List N → List (Point N) → List (Point N) → Shape N
 shapeOf k s p d = record { kind = k; sizes = s; points = p; directions = d }
 
--- 7.1.2.3, the primitive transformations: T, M X, M Y, R
-pub data Turn (N : Type 0) : Type 0 where
+pub data Turn (N : Type 0) : Type 0 where  -- 7.1.2.3, the primitive transformations: T, M X, M Y, R
   translate : Point N → Turn N
   mirrorX : Turn N
   mirrorY : Turn N
@@ -52,8 +51,7 @@ infix 40 _is_
 abbrev pub _is_ : Letter → Class → Bool
 l is c = has c (l .byte)
 
--- the number that begins with digits worth v: what its later digits make of it
-unfoldable pub worth : ℕ → List Letter → ℕ
+unfoldable pub worth : ℕ → List Letter → ℕ  -- the number that begins with digits worth v: what its later digits make of it
 worth v [] = v
 worth v (l ∷ m) = let more = worth (10 * v + (l .byte - 48)) m in if l plays later then more else v
 
@@ -66,36 +64,30 @@ numbers n minus (l ∷ m) =
     let number : Number = if minus then at (n - 1) (negℤ v) else at n v in
     if l plays turn || l plays stop then [] else if l plays lead then number ∷ rest else rest
 
--- number i of a command or transformation at place n; one that is left out is worth z
-abbrev pub nth : ℕ → List Number → ℤ → ℕ → Number
+abbrev pub nth : ℕ → List Number → ℤ → ℕ → Number  -- number i of a command or transformation at place n; one that is left out is worth z
 nth n ns z i = getD ns i (at n z)
 
--- two numbers make a point
-unfoldable pub paired : List Number → List (Point Number)
+unfoldable pub paired : List Number → List (Point Number)  -- two numbers make a point
 paired [] = []
 paired (x ∷ []) = []
 paired (x ∷ y ∷ ns) = point x y ∷ paired ns
 
--- the first letter of this role in the command, or else its semicolon
-unfoldable pub next : Role → List Letter → Letter
+unfoldable pub next : Role → List Letter → Letter  -- the first letter of this role in the command, or else its semicolon
 next ρ [] = record { byte = 59; role = stop }
 next ρ (l ∷ m) = let rest = next ρ m in if l plays ρ || l plays stop then l else rest
 
--- a layer's name: the letters of that role up to the semicolon
-unfoldable pub named : List Letter → List ℕ
+unfoldable pub named : List Letter → List ℕ  -- a layer's name: the letters of that role up to the semicolon
 named [] = []
 named (l ∷ m) = let rest = named m in if l plays stop then [] else if l plays name then l .byte ∷ rest else rest
 
--- the transformation that the letter l at place n begins, before the letters m
-unfoldable pub turnAt : ℕ → Letter → List Letter → Turn Number
+unfoldable pub turnAt : ℕ → Letter → List Letter → Turn Number  -- the transformation that the letter l at place n begins, before the letters m
 turnAt n l m =
     let nr : ℕ → Number = nth n (numbers (n + 1) false m) (pos 0) in
     if l is 'T' then translate (point (nr 0) (nr 1))
     else if l is 'R' then rotate (point (nr 0) (nr 1))
     else if next axis m is 'X' then mirrorX else mirrorY
 
--- the transformations of a call, from place n on, in written order
-unfoldable pub turns : ℕ → List Letter → List (Turn Number)
+unfoldable pub turns : ℕ → List Letter → List (Turn Number)  -- the transformations of a call, from place n on, in written order
 turns n [] = []
 turns n (l ∷ m) =
     let rest = turns (n + 1) m in
@@ -116,8 +108,7 @@ commandAt n l m =
     else if l is 'D' then (if next second m is 'S' then start (nr 0) (nr₁ 1) (nr₁ 2) else if next second m is 'D' then delete (nr 0) else finish)
     else nothing
 
--- the commands from place n on, in text order
-unfoldable pub commands : ℕ → List Letter → List (Placed Command)
+unfoldable pub commands : ℕ → List Letter → List (Placed Command)  -- the commands from place n on, in text order
 commands n [] = []
 commands n (l ∷ m) =
     let rest = commands (n + 1) m in

@@ -8,8 +8,7 @@ use Rattle.definition.specs.Words.{if_then_else_, none?}
 use Rattle.definition.specs.Table.{find}
 use Rattle.definition.specs.Drawing.{Chain, Drawn, Event, called, drew, entered, removed, refused}
 
--- 01: the running counts of calls, shapes and redefinitions are one record, carried along through the drawing
-pub record Counts : Type 0 where
+pub record Counts : Type 0 where  -- 01: the running counts of calls, shapes and redefinitions are one record, carried along through the drawing
   pub calls : ℕ
   pub shapes : ℕ
   pub redefinitions : ℕ
@@ -17,13 +16,11 @@ pub record Counts : Type 0 where
 abbrev pub counts : ℕ → ℕ → ℕ → Counts
 counts c s r = record { calls = c; shapes = s; redefinitions = r }
 
--- how it ends: with counts, or by a refusal and the calls open there
-pub data End : Type 0 where
+pub data End : Type 0 where  -- how it ends: with counts, or by a refusal and the calls open there
   finished : Counts → End
   stopped : (number place : ℕ) → Chain → End
 
--- one event counted. 01, refusals 15 and 17: call 1,048,577 and shape 1,048,577
-unfoldable pub counted : Counts → Event → End
+unfoldable pub counted : Counts → Event → End  -- one event counted. 01, refusals 15 and 17: call 1,048,577 and shape 1,048,577
 counted c (called p chain d) =
     if ltb (c .calls) 1048576 then finished (counts (c .calls + 1) (c .shapes) (c .redefinitions)) else stopped 15 p chain
 counted c (drew d) =
@@ -37,13 +34,11 @@ unfoldable pub goOn : End → (Counts → End) → End
 goOn (finished c) f = f c
 goOn (stopped n p chain) f = stopped n p chain
 
--- the first refusal ends it
-unfoldable pub ending : Counts → List Event → End
+unfoldable pub ending : Counts → List Event → End  -- the first refusal ends it
 ending c [] = finished c
 ending c (e ∷ es) = goOn (counted c e) (λ c′. ending c′ es)
 
--- the shapes of a story
-unfoldable pub shapesOf : List Event → List Drawn
+unfoldable pub shapesOf : List Event → List Drawn  -- the shapes of a story
 shapesOf [] = []
 shapesOf (drew d ∷ es) = d ∷ shapesOf es
 shapesOf (called p chain d ∷ es) = shapesOf es

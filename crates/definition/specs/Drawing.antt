@@ -1,4 +1,5 @@
--- The drawing of 7.1.2.4: all that happens, in order, and how it ends.
+-- The drawing of 7.1.2.4 as a story: the list of all that happens, in order, refusals among it. It runs nowhere, so it may be as long as it likes;
+-- Counts reads it up to the first refusal, and everything that is given back is read off it.
 -- Assumes nothing.
 use mathlib.Core.Bool.{Bool, true, false}
 use mathlib.Core.List.{List, [], _∷_, _++_, map}
@@ -37,8 +38,7 @@ pub data Deed : Type 0 where
   define : Definition → Deed
   remove : (symbol : Placed ℕ) → Deed
 
--- a command and those after it
-unfoldable pub deedOf : Standing → ℕ → Command → List (Placed Command) → List Deed
+unfoldable pub deedOf : Standing → ℕ → Command → List (Placed Command) → List Deed  -- a command and those after it
 deedOf s p (draw k) cs = if s .inside then [] else map (λ x. output (at p x)) (stepOf s (draw k))
 deedOf s p (call n ts) cs = if s .inside then [] else map (λ x. output (at p x)) (stepOf s (call n ts))
 deedOf s p (start n a b) cs = define (record { symbol = natAbs (n .what); place = p; body = retained (after (start n a b) s) cs }) ∷ []
@@ -51,8 +51,7 @@ unfoldable pub deeds : Standing → List (Placed Command) → List Deed
 deeds s [] = []
 deeds s (c ∷ cs) = deedOf s (c .place) (c .what) cs ++ deeds (after (c .what) s) cs
 
--- the calls that are open, the outermost first: the place of each, and its symbol
-abbrev pub Chain : Type 0
+abbrev pub Chain : Type 0  -- the calls that are open, the outermost first: the place of each, and its symbol
 Chain = List (Placed ℕ)
 
 -- a shape as it is drawn: its command's place, the open calls, their transformations in one list, its layer, and itself in its final place
@@ -71,8 +70,7 @@ pub data Event : Type 0 where
   removed : (symbol : Placed ℕ) → (before : Table) → Event
   refused : (number place : ℕ) → Chain → Event
 
--- 01, refusal 16: a final point beyond 16,777,215
-unfoldable pub drawShape : Chain → List (Turn ℤ) → ℕ → List ℕ → Shape ℤ → Event
+unfoldable pub drawShape : Chain → List (Turn ℤ) → ℕ → List ℕ → Shape ℤ → Event  -- 01, refusal 16: a final point beyond 16,777,215
 drawShape chain net p l k =
     let m = moved net k in
     if any beyond (both (m .points)) then refused 16 p chain
@@ -109,8 +107,7 @@ drawCall (suc left) t chain net p n ts =
     unless (callFault (suc left) (find n t) chain n ts) p chain (find n t)
     (λ d. drawBody (drawCall left t deeper (ts ++ net)) deeper (ts ++ net) (d .body))
 
--- 7.1.2.4: what happens at a deed. 01, refusal 10: 513 live definitions
-unfoldable pub happens : Table → Deed → List Event
+unfoldable pub happens : Table → Deed → List Event  -- 7.1.2.4: what happens at a deed. 01, refusal 10: 513 live definitions
 happens t (output s) = drawStep (drawCall 32 t [] []) [] [] (s .place) (s .what)
 happens t (define d) = (if ltb 512 (length (enter d t)) then refused 10 (d .place) [] else entered d t) ∷ []
 happens t (remove n) = removed n t ∷ []
@@ -120,7 +117,6 @@ tableAfter t (output s) = t
 tableAfter t (define d) = enter d t
 tableAfter t (remove n) = forget (n .what) t
 
--- all that happens, in order
-unfoldable pub story : Table → List Deed → List Event
+unfoldable pub story : Table → List Deed → List Event  -- all that happens, in order
 story t [] = []
 story t (d ∷ ds) = happens t d ++ story (tableAfter t d) ds

@@ -12,20 +12,17 @@ use Rattle.definition.specs.Counts.{shapesOf}
 use Rattle.definition.specs.Flat.{decimal, spaced, letterOf, numbersOfShape}
 use Rattle.definition.specs.Answer.{Outcome, accepted, rejected, Answers}
 
--- fields behind a word, each after a tab
-unfoldable pub fields : List (List ℕ) → List ℕ
+unfoldable pub fields : List (List ℕ) → List ℕ  -- fields behind a word, each after a tab
 fields [] = bytesOf "\n"
 fields (f ∷ fs) = bytesOf "\t" ++ (f ++ fields fs)
 
--- `shape`, its count, layer, kind letter, its numbers parted by spaces
-unfoldable pub shapeLines : ℕ → List Drawn → List ℕ
+unfoldable pub shapeLines : ℕ → List Drawn → List ℕ  -- `shape`, its count, layer, kind letter, its numbers parted by spaces
 shapeLines n [] = []
 shapeLines n (d ∷ ds) =
     bytesOf "shape" ++ (fields (decimal (pos n) ∷ d .layer-of ∷ (letterOf (d .itself .kind) ∷ []) ∷ spaced (numbersOfShape (d .itself)) ∷ [])
     ++ shapeLines (n + 1) ds)
 
--- the lowest, or the highest, of numbers: the one before which the test puts it
-unfoldable pub extreme : (ℤ → ℤ → Bool) → ℤ → List ℤ → ℤ
+unfoldable pub extreme : (ℤ → ℤ → Bool) → ℤ → List ℤ → ℤ  -- the lowest, or the highest, of numbers: the one before which the test puts it
 extreme before z [] = z
 extreme before z (y ∷ ys) = extreme before (if before z y then z else y) ys
 
@@ -45,7 +42,6 @@ listing (accepted c es) =
     ++ windowLine (flatMap (λ d. d .itself .points) (shapesOf es))))
 listing (rejected n p chain) = bytesOf "refused" ++ fields (decimal (pos n) ∷ decimal (pos p) ∷ [])
 
--- it takes at most 32,768 bytes, a longer text is refusal 1, and its room is 32,768 bytes
-pub data Lists (t : List ℕ) : List ℕ → Type 0 where
+pub data Lists (t : List ℕ) : List ℕ → Type 0 where  -- it takes at most 32,768 bytes, a longer text is refusal 1, and its room is 32,768 bytes
   over : 32768 < length t → Lists t (listing (rejected 1 0 []))
   within : {o : Outcome} → length t ≤ 32768 → Answers t 32768 o → Lists t (listing o)

@@ -1,4 +1,5 @@
--- What stands while a command is read: whether a definition is open, its scale, and the layer.
+-- What stands while a command is read: whether a definition is open, its scale, and the layer. So scale and layer of a shape can be told from the
+-- text alone, and nothing is carried out of a called symbol.
 -- Assumes nothing.
 use mathlib.Core.Bool.{Bool, true, false}
 use mathlib.Core.List.{List, [], _∷_, map}
@@ -17,8 +18,7 @@ pub record Standing : Type 0 where
   pub layer-set : List ℕ
   pub layer-outside : List ℕ
 
--- outside definitions distances are as written
-abbrev pub outside : List ℕ → Standing
+abbrev pub outside : List ℕ → Standing  -- outside definitions distances are as written
 outside l = record { inside = false; a = 1; b = 1; layer-set = l; layer-outside = [] }
 
 -- what stands after a command: a definition starts with no layer set, and after DF the outer layer is what it was before DS
@@ -31,16 +31,14 @@ after (call n ts) s = s
 after (delete n) s = s
 after nothing s = s
 
--- 7.1.2.3: each distance d becomes a * d / b
-unfoldable pub scaled : Standing → ℤ → ℤ
+unfoldable pub scaled : Standing → ℤ → ℤ  -- 7.1.2.3: each distance d becomes a * d / b
 scaled s (pos d) = pos (s .a * d / s .b)
 scaled s (negsuc d) = negℤ (pos (s .a * natAbs (negsuc d) / s .b))
 
 unfoldable pub whole : Standing → ℤ → Bool
 whole s d = eqb (s .a * natAbs d % s .b) 0
 
--- a shape or a transformation with its distances scaled, and directions as given
-abbrev pub scaledPoint : Standing → Point Number → Point ℤ
+abbrev pub scaledPoint : Standing → Point Number → Point ℤ  -- a shape or a transformation with its distances scaled, and directions as given
 scaledPoint s p = point (scaled s (p .x .what)) (scaled s (p .y .what))
 
 abbrev pub given : Point Number → Point ℤ

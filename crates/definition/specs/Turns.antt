@@ -1,4 +1,5 @@
--- What the transformations of a call do to points, directions and shapes, exactly, over the whole numbers.
+-- What the transformations of a call do to points, directions and shapes, exactly, over the whole numbers: the range is looked at by Drawing, at the
+-- final points.
 -- Assumes nothing.
 use mathlib.Core.Bool.{Bool, true, false, not, _&&_}
 use mathlib.Core.List.{List, [], _∷_, map}
@@ -7,8 +8,7 @@ use Rattle.definition.specs.Words.{if_then_else_, Point, point, any}
 use Rattle.definition.specs.Commands.{Shape, shapeOf, Turn, translate, mirrorX, mirrorY, rotate}
 use Rattle.definition.specs.Faults.{zero?, bearings}
 
--- 7.1.2, Directions: the axis that a direction points along, whatever its length
-pub data Heading : Type 0 where
+pub data Heading : Type 0 where  -- 7.1.2, Directions: the axis that a direction points along, whatever its length
   +x +y -x -y askew : Heading
 
 unfoldable pub negative : ℤ → Bool
@@ -20,23 +20,20 @@ heading d =
     if zero? (d .y) then (if negative (d .x) then -x else +x)
     else if zero? (d .x) then (if negative (d .y) then -y else +y) else askew
 
--- 01, Drawing: what R does; one that is askew draws nothing, by refusal 11
-unfoldable pub rotated : Heading → Point ℤ → Point ℤ
+unfoldable pub rotated : Heading → Point ℤ → Point ℤ  -- 01, Drawing: what R does; one that is askew draws nothing, by refusal 11
 rotated +x p = p
 rotated +y p = point (negℤ (p .y)) (p .x)
 rotated -x p = point (negℤ (p .x)) (negℤ (p .y))
 rotated -y p = point (p .y) (negℤ (p .x))
 rotated askew p = p
 
--- 7.1.2.3: T adds the point, MX multiplies x by -1, MY y, R turns the x axis to the direction
-unfoldable pub act : Turn ℤ → Point ℤ → Point ℤ
+unfoldable pub act : Turn ℤ → Point ℤ → Point ℤ  -- 7.1.2.3: T adds the point, MX multiplies x by -1, MY y, R turns the x axis to the direction
 act (translate d) p = point (p .x +ℤ d .x) (p .y +ℤ d .y)
 act mirrorX p = point (negℤ (p .x)) (p .y)
 act mirrorY p = point (p .x) (negℤ (p .y))
 act (rotate d) p = rotated (heading d) p
 
--- 01: directions take the mirrors and turns and not the T
-unfoldable pub aim : Turn ℤ → Point ℤ → Point ℤ
+unfoldable pub aim : Turn ℤ → Point ℤ → Point ℤ  -- 01: directions take the mirrors and turns and not the T
 aim (translate d) p = p
 aim mirrorX p = act mirrorX p
 aim mirrorY p = act mirrorY p
@@ -47,10 +44,8 @@ unfoldable pub inOrder : (Turn ℤ → Point ℤ → Point ℤ) → List (Turn �
 inOrder f [] p = p
 inOrder f (t ∷ ts) p = inOrder f ts (f t p)
 
--- 01: lengths, widths and diameters never change
-unfoldable pub moved : List (Turn ℤ) → Shape ℤ → Shape ℤ
+unfoldable pub moved : List (Turn ℤ) → Shape ℤ → Shape ℤ  -- 01: lengths, widths and diameters never change
 moved ts k = shapeOf (k .kind) (k .sizes) (map (inOrder act ts) (k .points)) (map (inOrder aim ts) (k .directions))
 
--- 01, refusal 11: an R off the axes
-unfoldable pub offAxes : List (Turn ℤ) → Bool
+unfoldable pub offAxes : List (Turn ℤ) → Bool  -- 01, refusal 11: an R off the axes
 offAxes ts = any (λ t. any (λ d. not (zero? (d .x)) && not (zero? (d .y))) (bearings t)) ts

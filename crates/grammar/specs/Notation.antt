@@ -7,15 +7,13 @@ use mathlib.Core.List.{List, [], _∷_, _++_}
 use Prim.Native.Nat.{ℕ}
 use lib.Dec.{T, leb, eqb}
 
--- 7.1.1: the sets of characters that the rules name, and the single characters that they quote
-pub data Class : Type 0 where
+pub data Class : Type 0 where  -- 7.1.1: the sets of characters that the rules name, and the single characters that they quote
   Digit Upper Blank User Comment : Class
   '-' lpar rpar semicolon : Class
   'B' 'C' 'D' 'E' 'F' 'L' 'M' 'P' 'R' 'S' 'T' 'W' 'X' 'Y' : Class
   deriving Discrete as Class-discrete
 
--- 01, Grammar: an ASCII byte is 0 to 127, and bytes from 128 up fit nowhere
-abbrev pub ascii : ℕ → Bool
+abbrev pub ascii : ℕ → Bool  -- 01, Grammar: an ASCII byte is 0 to 127, and bytes from 128 up fit nowhere
 ascii a = leb a 127
 
 abbrev pub digit : ℕ → Bool
@@ -58,8 +56,7 @@ pub data Role : Type 0 where
   skip head second turn axis sign lead later name stop : Role
   deriving Discrete as Role-discrete
 
--- a character in its role
-pub record Letter : Type 0 where
+pub record Letter : Type 0 where  -- a character in its role
   pub byte : ℕ
   pub role : Role
 
@@ -67,8 +64,7 @@ unfoldable pub dec : {A : Type 0} → Dec A → Bool
 dec (yes p) = true
 dec (no p) = false
 
--- the letter has this role, and its byte is of this class
-unfoldable pub is : Role → Class → Letter → Bool
+unfoldable pub is : Role → Class → Letter → Bool  -- the letter has this role, and its byte is of this class
 unfolding dec has
 is ρ c l = dec (Role-discrete ρ (l .role)) && has c (l .byte)
 
@@ -83,12 +79,10 @@ pub data Expression : Type 0 where
   commentText : Expression
   deriving Discrete as Expression-discrete
 
--- commentText = { commentChar } | commentText "(" commentText ")" commentText.
-abbrev pub commentRule : Expression
+abbrev pub commentRule : Expression  -- commentText = { commentChar } | commentText "(" commentText ")" commentText.
 commentRule = many (one skip Comment) ∣ commentText ▹ one skip lpar ▹ commentText ▹ one skip rpar ▹ commentText
 
--- the letters w are a text that the expression stands for
-pub data Match : Expression → List Letter → Type 0 where
+pub data Match : Expression → List Letter → Type 0 where  -- the letters w are a text that the expression stands for
   char : {ρ : Role} {c : Class} {a : Letter} → T (is ρ c a) → Match (one ρ c) (a ∷ [])
   both : {r s : Expression} {w : List Letter} (u v : List Letter) → Match r u → Match s v → w ≡ u ++ v → Match (r ▹ s) w
   left : {r s : Expression} {w : List Letter} → Match r w → Match (r ∣ s) w

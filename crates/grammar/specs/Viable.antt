@@ -13,26 +13,21 @@ abbrev pub bytes : List Letter → List ℕ
 bytes [] = []
 bytes (l ∷ m) = l .byte ∷ bytes m
 
--- m is the text t with roles that the grammar gives its characters
-pub record Marked (t : List ℕ) (m : List Letter) : Type 0 where
+pub record Marked (t : List ℕ) (m : List Letter) : Type 0 where  -- m is the text t with roles that the grammar gives its characters
   pub reads : bytes m ≡ t
   pub rule : Match cifFile m
 
--- 01, refusal 2: "in the grammar"
-abbrev pub Grammatical : List ℕ → Type 0
+abbrev pub Grammatical : List ℕ → Type 0  -- 01, refusal 2: "in the grammar"
 Grammatical t = (m : List Letter) × Marked t m
 
--- "a prefix that some continuation completes to a grammatical text"
-abbrev pub Viable : List ℕ → Type 0
+abbrev pub Viable : List ℕ → Type 0  -- "a prefix that some continuation completes to a grammatical text"
 Viable p = (q : List ℕ) × Grammatical (p ++ q)
 
--- "length of the longest" such prefix
-pub record LongestViable (t : List ℕ) (n : ℕ) : Type 0 where
+pub record LongestViable (t : List ℕ) (n : ℕ) : Type 0 where  -- "length of the longest" such prefix
   pub within : n ≤ length t
   pub viable : Viable (take n t)
   pub longest : (k : ℕ) → k ≤ length t → Viable (take k t) → k ≤ n
 
--- what each verdict says of a text
-abbrev pub Judged : List ℕ → Verdict → Type 0
+abbrev pub Judged : List ℕ → Verdict → Type 0  -- what each verdict says of a text
 Judged t InGrammar = Grammatical t
 Judged t (StuckAt n) = (Grammatical t → ⊥) × LongestViable t n
