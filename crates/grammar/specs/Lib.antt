@@ -3,3 +3,4 @@ pub mod Productions
 pub mod Viable
 pub mod Tables
 pub mod Steps
+pub mod Host

@@ -5,6 +5,7 @@ ghost use Prim.Native.Nat.{_<_, _/_, _%_};
 ghost use Rattle.grammar.specs.Tables.{stateCount, kindCount, roleUnit};
 ghost use Rattle.grammar.specs.Steps.{kindOf, entryOf, mode, entered, within, Moved, KindsLent, NextLent};
 ghost use Rattle.grammar.specs.Viable.{Judged};
+ghost use Rattle.grammar.specs.Host.{Told};
 
 pub mod tables;
 
@@ -149,4 +150,19 @@ pub fn recognise(text: &[u8]) -> Verdict
     let kinds = tables::KINDS;
     let next = tables::NEXT;
     recognised(text, &kinds, &next)
+}
+
+// For hosts: the verdict as two numbers, 0 and 0 for a text in the grammar, 2 and the place for one that is not.
+#[no_mangle]
+pub extern "C" fn cif_recognise(text: &[u8], verdict: &mut [u64; 2])
+    ensures { λ _. ⌜ Told (now (text .entry)) (now (verdict .exit)) ⌝ }
+{
+    match recognise(text) {
+        Verdict::InGrammar => {
+            *verdict = [0, 0];
+        }
+        Verdict::StuckAt(place) => {
+            *verdict = [2, place as u64];
+        }
+    }
 }
