@@ -13,4 +13,5 @@ pub mod Boundaries
 pub mod Verdicts
 pub mod Unique
 pub mod Boundaries
+pub mod Ahead
 pub mod Host

@@ -3,7 +3,7 @@
 ghost use mathlib.Core.Path.{_≡_};
 ghost use Prim.Native.Nat.{_<_, _/_, _%_};
 ghost use Rattle.grammar.specs.Tables.{stateCount, kindCount, roleUnit};
-ghost use Rattle.grammar.specs.Steps.{kindOf, entryOf, mode, entered, within, Moved, KindsLent, NextLent};
+ghost use Rattle.grammar.specs.Steps.{kindOf, entryOf, nextOf, mode, entered, within, Moved, KindsLent, NextLent};
 ghost use Rattle.grammar.specs.Viable.{Judged};
 ghost use Rattle.grammar.specs.Host.{Told};
 
@@ -117,6 +117,16 @@ pub fn step(kinds: &[u8; 256], next: &[u16; tables::ENTRY_COUNT], q: usize, d: u
     nest(q, d, k)
 }
 
+// Where the table leads from state q, outside comments: most bytes lead to a state and need no more than this.
+fn plain_next(kinds: &[u8; 256], next: &[u16; tables::ENTRY_COUNT], q: usize, b: u8) -> usize
+    requires { ⌜ KindsLent (now kinds) × NextLent (now next) ⌝ }
+    requires { ⌜ q < stateCount ⌝ }
+    ensures { λ r. ⌜ r ≡ nextOf q (kindOf b) ⌝ }
+{
+    let k = kind(kinds, b);
+    entry(next, q, k) % tables::ROLE_UNIT
+}
+
 fn recognised(text: &[u8], kinds: &[u8; 256], next: &[u16; tables::ENTRY_COUNT]) -> Verdict
     requires { ⌜ KindsLent (now kinds) × NextLent (now next) ⌝ }
     ensures { λ r. ⌜ Judged (now (text .entry)) r ⌝ }
@@ -125,7 +135,16 @@ fn recognised(text: &[u8], kinds: &[u8; 256], next: &[u16; tables::ENTRY_COUNT])
     let mut d: usize = 0;
     let mut i: usize = 0;
     while i < text.len() {
-        let to = step(kinds, next, q, d, text[i]);
+        let b = text[i];
+        if d == 0 {
+            let ahead = plain_next(kinds, next, q, b);
+            if ahead < tables::DEEP {
+                q = ahead;
+                i += 1;
+                continue;
+            }
+        }
+        let to = step(kinds, next, q, d, b);
         let s = to.state;
         if s == tables::STUCK {
             return Verdict::StuckAt(i);
