@@ -1,5 +1,5 @@
-// Tells which texts are CIF, by the grammar of section 7.1.1, and what each character is in them. `recognise` is the whole of it for a text;
-// `step` is for crates above, which learn a byte's role as they go.
+// Tells which texts are CIF, by the grammar of section 7.1.1, and what each character is in them. `recognise` is the whole of it for a text,
+// and `cif_recognise` the same for hosts; `step` is for crates above, which learn a byte's role as they go.
 ghost use mathlib.Core.Path.{_≡_};
 ghost use Prim.Native.Nat.{_<_, _/_, _%_};
 ghost use Rattle.grammar.specs.Tables.{stateCount, kindCount, roleUnit};
