@@ -12,6 +12,5 @@ pub mod Markings
 pub mod Boundaries
 pub mod Verdicts
 pub mod Unique
-pub mod Boundaries
 pub mod Ahead
 pub mod Host
