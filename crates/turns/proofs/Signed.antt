@@ -1,0 +1,83 @@
+-- How far whole numbers lie from zero, as `natAbs`, which omega reads; and how they come back from the machine's words.
+-- Assumes nothing.
+use mathlib.Core.Path.{_≡_, refl, sym, subst, _∙_}
+use mathlib.Core.Bool.{Bool, true, false, cond}
+use Prim.Native.Nat.{ℕ, zero, suc, _+_, _-_, _^_, _≤_, _<_}
+use native.Mathlib.Omega.{arith}
+use lib.Dec.{ltb}
+use lib.IntN.{ℤ, pos, negsuc, _+ℤ_, negℤ, natAbs, subℕ}
+use lib.Signed.{mag, ltZ, natAbs-le}
+use borrow.Author.Tests.{ltb-true, ltb-false, lt-ltb, le-ltb}
+use mir.Syntax.{w32, w64}
+use mir.Val.{SFits, toZ, ofZ}
+use mir.Facts.{toZ-ofZ}
+use Rattle.definition.specs.Faults.{beyond}
+use Rattle.turns.specs.Nets.{signed}
+
+pub abs-neg : (x : ℤ) → natAbs (negℤ x) ≡ natAbs x
+abs-neg (pos zero) = refl
+abs-neg (pos (suc n)) = refl
+abs-neg (negsuc n) = refl
+
+abs-sub : (a b : ℕ) → natAbs (subℕ a b) ≤ a + b
+abs-sub a b = go (ltb a b) refl
+  where
+    go : (t : Bool) → ltb a b ≡ t → natAbs (cond t (negsuc (b - suc a)) (pos (a - b))) ≤ a + b
+    go true e = omega (arith, ltb-true a b e)
+    go false e = omega arith
+
+pub abs-add : (x y : ℤ) → natAbs (x +ℤ y) ≤ natAbs x + natAbs y
+abs-add (pos a) (pos b) = omega arith
+abs-add (pos a) (negsuc b) = abs-sub a (suc b)
+abs-add (negsuc a) (pos b) = omega (arith, abs-sub b (suc a))
+abs-add (negsuc a) (negsuc b) = omega arith
+
+mag-le : (z : ℤ) → mag z ≤ natAbs z
+mag-le (pos n) = omega arith
+mag-le (negsuc n) = omega arith
+
+pub fits : (z : ℤ) → natAbs z < 2 ^ 63 → SFits w64 z
+fits z h = record { sfits = omega (arith, mag-le z) }
+
+-- a number comes back from its bits
+pub back : (z : ℤ) → natAbs z < 2 ^ 63 → toZ w64 (ofZ w64 z) ≡ z
+back z h = toZ-ofZ {w = w64} {z = z} (fits z h)
+
+pub told : (z : ℤ) → mag z < 2 ^ 63 → toZ w64 (ofZ w64 z) ≡ z
+told z h = toZ-ofZ {w = w64} {z = z} (record { sfits = h })
+
+pub abs-signed : (n : Bool) (z : ℤ) → natAbs (signed n z) ≡ natAbs z
+unfolding signed
+abs-signed true z = abs-neg z
+abs-signed false z = refl
+
+-- the sum of two numbers of that size fits
+pub sum-fits : (x y : ℤ) → natAbs x ≤ 2 ^ 61 → natAbs y ≤ 2 ^ 61 → SFits w64 (x +ℤ y)
+sum-fits x y hx hy = fits (x +ℤ y) (omega (arith, abs-add x y))
+
+pub difference-fits : (x y : ℤ) → natAbs x ≤ 2 ^ 61 → natAbs y ≤ 2 ^ 61 → SFits w64 (y +ℤ negℤ x)
+difference-fits x y hx hy = sum-fits y (negℤ x) hy (omega (arith, abs-neg x))
+
+-- a number of 32 bits, widened to 64
+narrow : (z : ℤ) → SFits w32 z → natAbs z ≤ 2 ^ 31
+narrow z h = natAbs-le z (h .sfits)
+
+pub wide : (z : ℤ) → SFits w32 z → SFits w64 (toZ w32 (ofZ w32 z))
+wide z h = rw (toZ-ofZ h) (fits z (omega (arith, narrow z h)))
+
+pub worth : (z : ℤ) → SFits w32 z → toZ w64 (ofZ w64 (toZ w32 (ofZ w32 z))) ≡ z
+worth z h = rw (toZ-ofZ h) (back z (omega (arith, narrow z h)))
+
+pub widened : (z : ℤ) → SFits w32 z → natAbs (toZ w64 (ofZ w64 (toZ w32 (ofZ w32 z)))) ≤ 2 ^ 61
+widened z h = rw (worth z h) (omega (arith, narrow z h))
+
+-- the two tests of a number beyond the range
+pub below : (x : ℤ) → ltZ x (negsuc 16777214) ≡ true → ltZ x (negsuc 16777214) ≡ beyond x
+unfolding beyond
+below (pos n) e = absurd (let z : _≡_ {A = Bool} false true = e in subst (λ (b : Bool). cond b ⊥ (Unit {0})) z tt)
+below (negsuc n) e = e ∙ sym (lt-ltb 16777215 (suc n) (omega (arith, ltb-true 16777214 n e)))
+
+pub above : (x : ℤ) → ltZ x (negsuc 16777214) ≡ false → ltZ (pos 16777215) x ≡ beyond x
+unfolding beyond
+above (pos n) e = refl
+above (negsuc n) e = sym (le-ltb 16777215 (suc n) (omega (arith, ltb-false 16777214 n e)))

@@ -1,0 +1,150 @@
+// Right-angle transformations over whole numbers (01, "Drawing"): what a call's list makes of points and directions, exactly. Only the final points
+// of a shape are held to the range, by `is_beyond`. A transformation adds a step of 32 bits, 32 of them a level and 32 levels at most 2^41,
+// so that i64 never wraps: the contracts carry the longest step along as `Near`.
+ghost use mathlib.Core.Path.{_≡_};
+ghost use mathlib.Core.Bool.{_||_};
+ghost use mathlib.Core.List.{List, _∷_, []};
+ghost use Prim.Native.Nat.{ℕ, _+_, _*_, _^_, _<_, _≤_};
+ghost use lib.IntN.{ℤ, pos, natAbs, _+ℤ_};
+ghost use lib.ListN.{length};
+ghost use Rattle.definition.specs.Words.{if_then_else_, point};
+ghost use Rattle.definition.specs.Commands.{rotate};
+ghost use Rattle.definition.specs.Faults.{beyond};
+ghost use Rattle.definition.specs.Turns.{offAxes};
+ghost use Rattle.turns.specs.Nets.{asPoint, signed, turned, apply, Carries, Near, Composed};
+ghost use Rattle.turns.specs.Nets.{Begins, Written, IsStep, IsListed, net, either};
+
+// A point or a direction.
+pub struct Pair {
+    pub x: i64,
+    pub y: i64,
+}
+
+// A net transformation: x and y change places or not, then each is negated or not, then a step is added.
+pub struct Net {
+    pub swap: bool,
+    pub negx: bool,
+    pub negy: bool,
+    pub tx: i64,
+    pub ty: i64,
+}
+
+// One transformation of a list: what it does, whether it is an R off the axes, and the place after its words.
+pub struct Step {
+    pub net: Net,
+    pub askew: bool,
+    pub next: usize,
+}
+
+// A call's list: what it does, and whether an R in it is off the axes.
+pub struct Listed {
+    pub net: Net,
+    pub askew: bool,
+}
+
+fn differ(a: bool, b: bool) -> bool
+    ensures { λ r. ⌜ r ≡ either a b ⌝ }
+{
+    if a { !b } else { b }
+}
+
+fn choose(first: bool, a: bool, b: bool) -> bool
+    ensures { λ r. ⌜ r ≡ if first then a else b ⌝ }
+{
+    if first { a } else { b }
+}
+
+// The number with its sign, and then a step.
+fn stepped(negate: bool, x: i64, by: i64) -> i64
+    requires { ⌜ (natAbs x ≤ 2 ^ 61) × (natAbs by ≤ 2 ^ 61) ⌝ }
+    ensures { λ r. ⌜ r ≡ signed negate x +ℤ by ⌝ }
+{
+    if negate { by - x } else { x + by }
+}
+
+fn oriented(swap: bool, negx: bool, negy: bool) -> Net
+    ensures { λ r. ⌜ r ≡ net swap negx negy (pos 0) (pos 0) ⌝ }
+{
+    Net {
+        swap,
+        negx,
+        negy,
+        tx: 0,
+        ty: 0,
+    }
+}
+
+// The transformation that changes nothing.
+pub fn still() -> Net
+    ensures { λ r. ⌜ Carries [] r × Near 0 r ⌝ }
+{
+    oriented(false, false, false)
+}
+
+// Each with its sign, and then the step.
+fn mirrored(net: Net, x: i64, y: i64) -> Pair
+    requires { ⌜ Near (2 ^ 61) net × (natAbs x ≤ 2 ^ 61) × (natAbs y ≤ 2 ^ 61) ⌝ }
+    ensures { λ r. ⌜ asPoint r ≡ point (signed (net .negx) x +ℤ net .tx) (signed (net .negy) y +ℤ net .ty) ⌝ }
+{
+    Pair {
+        x: stepped(net.negx, x, net.tx),
+        y: stepped(net.negy, y, net.ty),
+    }
+}
+
+fn placed(net: Net, x: i64, y: i64) -> Pair
+    requires { ⌜ Near (2 ^ 61) net × (natAbs x ≤ 2 ^ 61) × (natAbs y ≤ 2 ^ 61) ⌝ }
+    ensures { λ r. ⌜ asPoint r ≡ apply net (point x y) ⌝ }
+{
+    if net.swap {
+        return mirrored(net, y, x);
+    }
+    mirrored(net, x, y)
+}
+
+// A point in its place.
+pub fn place_point(net: Net, x: i32, y: i32) -> Pair
+    requires { ⌜ Near (2 ^ 61) net ⌝ }
+    ensures { λ r. ⌜ asPoint r ≡ apply net (point x y) ⌝ }
+{
+    placed(net, x as i64, y as i64)
+}
+
+// A direction takes the mirrors and turns and not the T.
+pub fn aim_direction(net: Net, x: i32, y: i32) -> Pair
+    ensures { λ r. ⌜ asPoint r ≡ turned net (point x y) ⌝ }
+{
+    let turns = oriented(net.swap, net.negx, net.negy);
+    placed(turns, x as i64, y as i64)
+}
+
+// The inner call's list acts before the outer's.
+pub fn compose(inner: Net, outer: Net) -> Net
+    requires { ⌜ Near (2 ^ 61) inner × Near (2 ^ 61) outer ⌝ }
+    ensures { λ r. ⌜ Composed inner outer r ⌝ }
+{
+    let step = placed(outer, inner.tx, inner.ty);
+    Net {
+        swap: differ(inner.swap, outer.swap),
+        negx: differ(outer.negx, choose(outer.swap, inner.negy, inner.negx)),
+        negy: differ(outer.negy, choose(outer.swap, inner.negx, inner.negy)),
+        tx: step.x,
+        ty: step.y,
+    }
+}
+
+fn is_far(x: i64) -> bool
+    ensures { λ r. ⌜ r ≡ beyond x ⌝ }
+{
+    x < -16777215 || 16777215 < x
+}
+
+// Is a final point beyond the range?
+pub fn is_beyond(p: Pair) -> bool
+    ensures { λ r. ⌜ r ≡ (beyond (p .x) || beyond (p .y)) ⌝ }
+{
+    if is_far(p.x) {
+        return true;
+    }
+    is_far(p.y)
+}
