@@ -1,17 +1,18 @@
 -- How far whole numbers lie from zero, as `natAbs`, which omega reads; and how they come back from the machine's words.
 -- Assumes nothing.
-use mathlib.Core.Path.{_≡_, refl, sym, subst, _∙_}
+use mathlib.Core.Path.{_≡_, refl, sym, ap, subst, _∙_}
 use mathlib.Core.Bool.{Bool, true, false, cond}
 use Prim.Native.Nat.{ℕ, zero, suc, _+_, _-_, _^_, _≤_, _<_}
 use native.Mathlib.Omega.{arith}
-use lib.Dec.{ltb}
+use lib.Dec.{ltb, eqb}
 use lib.IntN.{ℤ, pos, negsuc, _+ℤ_, negℤ, natAbs, subℕ}
 use lib.Signed.{mag, ltZ, natAbs-le}
-use borrow.Author.Tests.{ltb-true, ltb-false, lt-ltb, le-ltb}
+use borrow.Author.Tests.{ltb-true, ltb-false, lt-ltb, le-ltb, eqb-true, eqb-false, ne-eqb}
 use mir.Syntax.{w32, w64}
 use mir.Val.{SFits, toZ, ofZ}
 use mir.Facts.{toZ-ofZ}
-use Rattle.definition.specs.Faults.{beyond}
+use Rattle.definition.specs.Faults.{beyond, zero?}
+use Rattle.definition.specs.Turns.{negative}
 use Rattle.turns.specs.Nets.{signed}
 
 pub abs-neg : (x : ℤ) → natAbs (negℤ x) ≡ natAbs x
@@ -59,7 +60,7 @@ pub difference-fits : (x y : ℤ) → natAbs x ≤ 2 ^ 61 → natAbs y ≤ 2 ^ 6
 difference-fits x y hx hy = sum-fits y (negℤ x) hy (omega (arith, abs-neg x))
 
 -- a number of 32 bits, widened to 64
-narrow : (z : ℤ) → SFits w32 z → natAbs z ≤ 2 ^ 31
+pub narrow : (z : ℤ) → SFits w32 z → natAbs z ≤ 2 ^ 31
 narrow z h = natAbs-le z (h .sfits)
 
 pub wide : (z : ℤ) → SFits w32 z → SFits w64 (toZ w32 (ofZ w32 z))
@@ -81,3 +82,35 @@ pub above : (x : ℤ) → ltZ x (negsuc 16777214) ≡ false → ltZ (pos 1677721
 unfolding beyond
 above (pos n) e = refl
 above (negsuc n) e = sym (le-ltb 16777215 (suc n) (omega (arith, ltb-false 16777214 n e)))
+
+-- a number of 32 bits, by the tests that code makes of it
+pub of-bits : (z : ℤ) (n : ℕ) → SFits w32 z → ofZ w32 z ≡ n → z ≡ toZ w32 n
+of-bits z n h e = sym (toZ-ofZ h) ∙ ap (toZ w32) e
+
+pub is-zero : (z : ℤ) → SFits w32 z → ofZ w32 z ≡ 0 → zero? z ≡ true
+is-zero z h e = rw (of-bits z 0 h e)
+
+pub not-zero : (z : ℤ) → (ofZ w32 z ≡ 0 → ⊥) → zero? z ≡ false
+not-zero z h = ne-eqb (natAbs z) 0 (λ e. h (go z e))
+  where
+    go : (v : ℤ) → natAbs v ≡ 0 → ofZ w32 v ≡ 0
+    go (pos n) e = e
+    go (negsuc n) e = absurd (omega arith)
+
+pub is-negative : (z : ℤ) (t : Bool) → SFits w32 z → ltZ (toZ w32 (ofZ w32 z)) (pos 0) ≡ t → negative z ≡ t
+unfolding negative
+is-negative z t h e = sym (go z) ∙ (rw (toZ-ofZ h) at e)
+  where
+    go : (v : ℤ) → ltZ v (pos 0) ≡ negative v
+    go (pos n) = le-ltb n 0 (omega arith)
+    go (negsuc n) = refl
+
+pub bits-zero : (z : ℤ) → SFits w32 z → eqb (ofZ w32 z) 0 ≡ zero? z
+bits-zero z h = go (eqb (ofZ w32 z) 0) refl
+  where
+    go : (t : Bool) → eqb (ofZ w32 z) 0 ≡ t → t ≡ zero? z
+    go true e = sym (is-zero z h (eqb-true (ofZ w32 z) 0 e))
+    go false e = sym (not-zero z (eqb-false (ofZ w32 z) 0 e))
+
+pub told32 : (z : ℤ) → mag z < 2 ^ 31 → toZ w32 (ofZ w32 z) ≡ z
+told32 z h = toZ-ofZ {w = w32} {z = z} (record { sfits = h })

@@ -4,16 +4,16 @@
 use mathlib.Core.Path.{_≡_}
 use mathlib.Core.Bool.{Bool, true, false, not}
 use mathlib.Core.List.{List, [], _∷_, _++_}
-use Prim.Native.Nat.{ℕ, _+_, _*_, _≤_}
+use Prim.Native.Nat.{ℕ, _+_, _^_, _≤_}
 use lib.IntN.{ℤ, negℤ, _+ℤ_, natAbs}
-use lib.ListN.{length, take, drop}
+use lib.ListN.{length, drop}
 use Rattle.definition.specs.Words.{if_then_else_, Point, point}
 use Rattle.definition.specs.Commands.{Turn}
 use Rattle.definition.specs.Turns.{act, aim, inOrder, offAxes}
 use Rattle.turns.specs.Words.{turnWords, turnsWords}
 use Rattle.turns.specs.declared.Net.{Net}
 use Rattle.turns.specs.declared.Pair.{Pair}
-use Rattle.turns.specs.declared.Step.{Step}
+use Rattle.turns.specs.declared.Single.{Single}
 use Rattle.turns.specs.declared.Listed.{Listed}
 
 abbrev pub asPoint : Pair → Point ℤ
@@ -64,28 +64,29 @@ pub record Composed (inner outer both : Net) : Type 0 where
   pub aims : (d : Point ℤ) → turned both d ≡ turned outer (turned inner d)
   pub near : (a b : ℕ) → Near a inner → Near b outer → Near (a + b) both
 
--- the words from a place on begin with those of a transformation
+-- one transformation, read: what it does, with a step of 32 bits at most; the place after its words
+pub record IsSingle (t : Turn ℤ) (past : ℕ) (r : Single) : Type 0 where
+  pub carries : Carries (t ∷ []) (r .net)
+  pub near : Near (2 ^ 31) (r .net)
+  pub askew : r .askew ≡ offAxes (t ∷ [])
+  pub next : r .next ≡ past
+
+-- a call's list, read: 32 such steps at most
+pub record IsListed (ts : List (Turn ℤ)) (r : Listed) : Type 0 where
+  pub carries : Carries ts (r .net)
+  pub near : Near (2 ^ 36) (r .net)
+  pub askew : r .askew ≡ offAxes ts
+
+-- the words from this place on begin with those of a transformation
 pub record Begins (words : List ℤ) (from : ℕ) : Type 0 where
   pub turn : Turn ℤ
   pub rest : List ℤ
   pub are : drop from words ≡ turnWords turn ++ rest
 
--- the words from a place up to another are those of a call's list, of at most 32 transformations (01, refusal 9)
+-- the words from this place up to that one are a call's list, of at most 32 transformations (01, refusal 9)
 pub record Written (words : List ℤ) (from end : ℕ) : Type 0 where
   pub turns : List (Turn ℤ)
-  pub are : drop from (take end words) ≡ turnsWords turns
+  pub rest : List ℤ
+  pub are : drop from words ≡ turnsWords turns ++ rest
+  pub ends : from + length (turnsWords turns) ≡ end
   pub few : length turns ≤ 32
-  pub ends : end ≤ length words
-
--- what is made of one transformation: its words are passed by, and it adds a step of 32 bits
-pub record IsStep (words : List ℤ) (from : ℕ) (h : Begins words from) (r : Step) : Type 0 where
-  pub carries : Carries (h .turn ∷ []) (r .net)
-  pub askew : r .askew ≡ offAxes (h .turn ∷ [])
-  pub near : Near 2147483648 (r .net)
-  pub next : r .next ≡ from + length (turnWords (h .turn))
-
--- what is made of a call's list: 32 such steps at most
-pub record IsListed (ts : List (Turn ℤ)) (r : Listed) : Type 0 where
-  pub carries : Carries ts (r .net)
-  pub askew : r .askew ≡ offAxes ts
-  pub near : Near 68719476736 (r .net)

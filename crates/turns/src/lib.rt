@@ -8,11 +8,12 @@ ghost use Prim.Native.Nat.{ℕ, _+_, _*_, _^_, _<_, _≤_};
 ghost use lib.IntN.{ℤ, pos, natAbs, _+ℤ_};
 ghost use lib.ListN.{length};
 ghost use Rattle.definition.specs.Words.{if_then_else_, point};
-ghost use Rattle.definition.specs.Commands.{rotate};
+ghost use Rattle.definition.specs.Commands.{translate, rotate};
 ghost use Rattle.definition.specs.Faults.{beyond};
 ghost use Rattle.definition.specs.Turns.{offAxes};
+ghost use Rattle.turns.specs.Words.{turnWords};
 ghost use Rattle.turns.specs.Nets.{asPoint, signed, turned, apply, Carries, Near, Composed};
-ghost use Rattle.turns.specs.Nets.{Begins, Written, IsStep, IsListed, net, either};
+ghost use Rattle.turns.specs.Nets.{Begins, Written, IsSingle, IsListed, net, either};
 
 // A point or a direction.
 pub struct Pair {
@@ -30,7 +31,7 @@ pub struct Net {
 }
 
 // One transformation of a list: what it does, whether it is an R off the axes, and the place after its words.
-pub struct Step {
+struct Single {
     pub net: Net,
     pub askew: bool,
     pub next: usize,
@@ -147,4 +148,104 @@ pub fn is_beyond(p: Pair) -> bool
         return true;
     }
     is_far(p.y)
+}
+
+fn or_too(a: bool, b: bool) -> bool
+    ensures { λ r. ⌜ r ≡ (a || b) ⌝ }
+{
+    a || b
+}
+
+// T adds the point.
+fn translation(x: i32, y: i32) -> Net
+    ensures { λ r. ⌜ Carries (translate (point x y) ∷ []) r × Near (2 ^ 31) r ⌝ }
+{
+    Net {
+        swap: false,
+        negx: false,
+        negy: false,
+        tx: x as i64,
+        ty: y as i64,
+    }
+}
+
+// R turns the x axis to the vector, whatever its length; one off the axes, which is refused, changes nothing.
+fn rotation(x: i32, y: i32) -> Net
+    ensures { λ r. ⌜ Carries (rotate (point x y) ∷ []) r × Near 0 r ⌝ }
+{
+    if y == 0 {
+        if x < 0 {
+            return oriented(false, true, true);
+        }
+        return oriented(false, false, false);
+    }
+    if x == 0 {
+        if y < 0 {
+            return oriented(true, false, true);
+        }
+        return oriented(true, true, false);
+    }
+    oriented(false, false, false)
+}
+
+fn is_askew(x: i32, y: i32) -> bool
+    ensures { λ r. ⌜ r ≡ offAxes (rotate (point x y) ∷ []) ⌝ }
+{
+    x != 0 && y != 0
+}
+
+// The transformation whose words begin at this place.
+fn single_at(words: &[i32], at: usize) -> Single
+    requires { ⌜ Begins (now words) at ⌝ }
+    ensures { λ r. ⌜ ((h : Begins (now (words .entry)) at) → IsSingle (h .turn) (at + length (turnWords (h .turn))) r) ⌝ }
+{
+    let letter = words[at];
+    if letter == 88 {
+        return Single {
+            net: oriented(false, true, false),
+            askew: false,
+            next: at + 1,
+        };
+    }
+    if letter == 89 {
+        return Single {
+            net: oriented(false, false, true),
+            askew: false,
+            next: at + 1,
+        };
+    }
+    let i = at + 1;
+    let j = at + 2;
+    let x = words[i];
+    let y = words[j];
+    if letter == 84 {
+        return Single {
+            net: translation(x, y),
+            askew: false,
+            next: at + 3,
+        };
+    }
+    Single {
+        net: rotation(x, y),
+        askew: is_askew(x, y),
+        next: at + 3,
+    }
+}
+
+// A call's list acts in written order.
+pub fn list_net(words: &[i32], from: usize, end: usize) -> Listed
+    requires { ⌜ Written (now words) from end ⌝ }
+    ensures { λ r. ⌜ ((h : Written (now (words .entry)) from end) → IsListed (h .turns) r) ⌝ }
+{
+    let mut net = still();
+    let mut askew = false;
+    let mut at = from;
+    while at < end {
+        let single = single_at(words, at);
+        let one = single.net;
+        net = compose(net, one);
+        askew = or_too(askew, single.askew);
+        at = single.next;
+    }
+    Listed { net, askew }
 }
