@@ -1,3 +1,5 @@
 pub mod Signed
 pub mod Nets
 pub mod Lists
+pub mod Sole
+pub mod Rows

@@ -5,7 +5,7 @@ use mathlib.Core.Bool.{Bool, true, false, cond}
 use Prim.Native.Nat.{ℕ, zero, suc, _+_, _-_, _^_, _≤_, _<_}
 use native.Mathlib.Omega.{arith}
 use lib.Dec.{ltb, eqb}
-use lib.IntN.{ℤ, pos, negsuc, _+ℤ_, negℤ, natAbs, subℕ}
+use lib.IntN.{ℤ, pos, negsuc, _+ℤ_, _-ℤ_, negℤ, natAbs, subℕ, +ℤ-idl}
 use lib.Signed.{mag, ltZ, natAbs-le}
 use borrow.Author.Tests.{ltb-true, ltb-false, lt-ltb, le-ltb, eqb-true, eqb-false, ne-eqb}
 use mir.Syntax.{w32, w64}
@@ -56,8 +56,18 @@ abs-signed false z = refl
 pub sum-fits : (x y : ℤ) → natAbs x ≤ 2 ^ 61 → natAbs y ≤ 2 ^ 61 → SFits w64 (x +ℤ y)
 sum-fits x y hx hy = fits (x +ℤ y) (omega (arith, abs-add x y))
 
-pub difference-fits : (x y : ℤ) → natAbs x ≤ 2 ^ 61 → natAbs y ≤ 2 ^ 61 → SFits w64 (y +ℤ negℤ x)
-difference-fits x y hx hy = sum-fits y (negℤ x) hy (omega (arith, abs-neg x))
+-- code negates a number by taking it from 0
+neg-small : (x : ℤ) → natAbs x ≤ 2 ^ 61 → natAbs (negℤ x) ≤ 2 ^ 61
+neg-small x h = omega (arith, abs-neg x)
+
+pub neg-fits : (x : ℤ) → natAbs x ≤ 2 ^ 61 → SFits w64 (pos 0 -ℤ x)
+neg-fits x h = sum-fits (pos 0) (negℤ x) (omega arith) (neg-small x h)
+
+pub neg-back : (x : ℤ) → natAbs x ≤ 2 ^ 61 → toZ w64 (ofZ w64 (pos 0 -ℤ x)) ≡ negℤ x
+neg-back x h = toZ-ofZ (neg-fits x h) ∙ +ℤ-idl (negℤ x)
+
+pub neg-sum-fits : (x y : ℤ) → natAbs x ≤ 2 ^ 61 → natAbs y ≤ 2 ^ 61 → SFits w64 (negℤ x +ℤ y)
+neg-sum-fits x y hx hy = sum-fits (negℤ x) y (neg-small x hx) hy
 
 -- a number of 32 bits, widened to 64
 pub narrow : (z : ℤ) → SFits w32 z → natAbs z ≤ 2 ^ 31

@@ -35,15 +35,15 @@ unfoldable pub apply : Net → Point ℤ → Point ℤ
 apply n p = point (turned n p .x +ℤ n .tx) (turned n p .y +ℤ n .ty)
 
 -- a or b, and not both
-abbrev pub either : Bool → Bool → Bool
-either a b = if a then not b else b
+abbrev pub differ : Bool → Bool → Bool
+differ a b = if a then not b else b
 
 -- first the inner, then the outer
 unfoldable pub after : Net → Net → Net
 after i o = record {
-  swap = either (i .swap) (o .swap);
-  negx = either (o .negx) (if o .swap then i .negy else i .negx);
-  negy = either (o .negy) (if o .swap then i .negx else i .negy);
+  swap = differ (i .swap) (o .swap);
+  negx = differ (o .negx) (if o .swap then i .negy else i .negx);
+  negy = differ (o .negy) (if o .swap then i .negx else i .negy);
   tx = apply o (point (i .tx) (i .ty)) .x;
   ty = apply o (point (i .tx) (i .ty)) .y;
 }

@@ -13,7 +13,7 @@ ghost use Rattle.definition.specs.Faults.{beyond};
 ghost use Rattle.definition.specs.Turns.{offAxes};
 ghost use Rattle.turns.specs.Words.{turnWords};
 ghost use Rattle.turns.specs.Nets.{asPoint, signed, turned, apply, Carries, Near, Composed};
-ghost use Rattle.turns.specs.Nets.{Begins, Written, IsSingle, IsListed, net, either};
+ghost use Rattle.turns.specs.Nets.{Begins, Written, IsSingle, IsListed, net, differ};
 
 // A point or a direction.
 pub struct Pair {
@@ -44,7 +44,7 @@ pub struct Listed {
 }
 
 fn differ(a: bool, b: bool) -> bool
-    ensures { λ r. ⌜ r ≡ either a b ⌝ }
+    ensures { λ r. ⌜ r ≡ differ a b ⌝ }
 {
     if a { !b } else { b }
 }
@@ -60,7 +60,7 @@ fn stepped(negate: bool, x: i64, by: i64) -> i64
     requires { ⌜ (natAbs x ≤ 2 ^ 61) × (natAbs by ≤ 2 ^ 61) ⌝ }
     ensures { λ r. ⌜ r ≡ signed negate x +ℤ by ⌝ }
 {
-    if negate { by - x } else { x + by }
+    if negate { -x + by } else { x + by }
 }
 
 fn oriented(swap: bool, negx: bool, negy: bool) -> Net
@@ -150,7 +150,7 @@ pub fn is_beyond(p: Pair) -> bool
     is_far(p.y)
 }
 
-fn or_too(a: bool, b: bool) -> bool
+fn either(a: bool, b: bool) -> bool
     ensures { λ r. ⌜ r ≡ (a || b) ⌝ }
 {
     a || b
@@ -244,7 +244,7 @@ pub fn list_net(words: &[i32], from: usize, end: usize) -> Listed
         let single = single_at(words, at);
         let one = single.net;
         net = compose(net, one);
-        askew = or_too(askew, single.askew);
+        askew = either(askew, single.askew);
         at = single.next;
     }
     Listed { net, askew }

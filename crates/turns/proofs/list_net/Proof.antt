@@ -9,7 +9,7 @@ use Rattle.turns.proofs.list_net.Tie as tie
 use Rattle.turns.proofs.list_net.Reads as reads
 use Rattle.turns.proofs.list_net.Lts as lts
 use Rattle.turns.proofs.compose.Reads as compose-reads
-use Rattle.turns.proofs.or_too.Reads as or-too-reads
+use Rattle.turns.proofs.either.Reads as either-reads
 use Rattle.turns.proofs.single_at.Reads as single-at-reads
 use Rattle.turns.proofs.still.Reads as still-reads
 
@@ -36,8 +36,8 @@ compose-requires : tie.Need-compose-requires Inv-loop μ-loop
 compose-requires c κs = (near-more (omega arith) (near-enough (c .before .before .before .loop .inv (c .before .before .before .before .before .pre))), near-more (omega arith) (c .before .single-at .ensures (begins (c .before .before .before .loop .inv (c .before .before .before .before .before .pre)) (c .before .before .loop-test .taken)) .near))
 
 -- src/lib.rt:247:9
-or-too-requires : tie.Need-or-too-requires Inv-loop μ-loop
-or-too-requires c κs = search needs
+either-requires : tie.Need-either-requires Inv-loop μ-loop
+either-requires c κs = search needs
 
 -- src/lib.rt:243:5
 loop-less : tie.Need-loop-less Inv-loop μ-loop
@@ -45,7 +45,7 @@ loop-less c = nearer (c .before .before .before .before .before .loop .inv (c .b
 
 -- src/lib.rt:243:5
 loop-again : tie.Need-loop-again Inv-loop μ-loop
-loop-again c = λ h. further (c .before .before .before .before .before .loop .inv h) (c .before .before .before .before .loop-test .taken) _ (c .before .before .before .single-at .ensures (begins (c .before .before .before .before .before .loop .inv h) (c .before .before .before .before .loop-test .taken))) _ _ (c .before .compose .ensures) (c .or-too .ensures)
+loop-again c = λ h. further (c .before .before .before .before .before .loop .inv h) (c .before .before .before .before .loop-test .taken) _ (c .before .before .before .single-at .ensures (begins (c .before .before .before .before .before .loop .inv h) (c .before .before .before .before .loop-test .taken))) _ _ (c .before .compose .ensures) (c .either .ensures)
 
 -- src/lib.rt:236:1
 returns : tie.Need-returns Inv-loop μ-loop
@@ -61,7 +61,7 @@ list-net-spec =
     loop-holds
     single-at-requires
     compose-requires
-    or-too-requires
+    either-requires
     loop-less
     loop-again
     returns)
