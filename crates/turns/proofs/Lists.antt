@@ -134,8 +134,8 @@ module _ {words : List ℤ} {from end : ℕ} {h : Written words from end} {at : 
         left = ahead .later;
         all = append-assoc (g .done) (ahead .turn ∷ []) (ahead .later) ∙ ap (λ (l : List (Turn ℤ)). g .done ++ l) (sym (ahead .is)) ∙ g .all;
         are =
-          ap (λ (k : ℕ). drop k words) (s .next) ∙ sym (drop-drop (length (turnWords (ahead .turn))) at words)
-          ∙ ap (drop (length (turnWords (ahead .turn)))) (begins .are) ∙ drop-append-seam (turnWords (ahead .turn)) (begins .rest);
+            ap (λ (k : ℕ). drop k words) (s .next) ∙ sym (drop-drop (length (turnWords (ahead .turn))) at words)
+            ∙ ap (drop (length (turnWords (ahead .turn)))) (begins .are) ∙ drop-append-seam (turnWords (ahead .turn)) (begins .rest);
         ends = omega (arith, g .ends, s .next, ap (λ (l : List ℤ). length l) parts, length-append (turnWords (ahead .turn)) (turnsWords (ahead .later)));
         carries = carries-both (g .done) (ahead .turn ∷ []) n (r .net) m (g .carries) (s .carries) both;
         near = near-more (omega (arith, length-append (g .done) (ahead .turn ∷ []))) (both .near (length (g .done) * 2 ^ 31) (2 ^ 31) (g .near) (s .near));

@@ -47,10 +47,10 @@ rows =
     ∷ row ((mirrorX ∷ T (pos 500) (pos 0) ∷ []) ∷ []) (point (pos 497) (pos 5)) (point (negsuc 0) (pos 0))
     ∷ row ((R (pos 0) (pos 1) ∷ []) ∷ (T (pos 10) (pos 0) ∷ []) ∷ []) (point (pos 5) (pos 3)) (point (pos 0) (pos 1))
     ∷ row
-      ((R (pos 0) (pos 7) ∷ []) ∷ (mirrorX ∷ []) ∷ (T (pos 10) (pos 0) ∷ []) ∷ (R (negsuc 2) (pos 0) ∷ [])
-      ∷ (mirrorY ∷ T (pos 0) (pos 4) ∷ []) ∷ (R (pos 0) (negsuc 1) ∷ []) ∷ (mirrorX ∷ R (pos 0) (pos 1) ∷ []) ∷ (T (negsuc 4) (negsuc 4) ∷ [])
-      ∷ (R (pos 9) (pos 0) ∷ []) ∷ (mirrorY ∷ []) ∷ (R (pos 0) (pos 1) ∷ T (pos 1) (pos 1) ∷ []) ∷ (mirrorX ∷ mirrorY ∷ []) ∷ [])
-      (point (pos 11) (pos 19)) (point (pos 1) (pos 0))
+    ((R (pos 0) (pos 7) ∷ []) ∷ (mirrorX ∷ []) ∷ (T (pos 10) (pos 0) ∷ []) ∷ (R (negsuc 2) (pos 0) ∷ [])
+    ∷ (mirrorY ∷ T (pos 0) (pos 4) ∷ []) ∷ (R (pos 0) (negsuc 1) ∷ []) ∷ (mirrorX ∷ R (pos 0) (pos 1) ∷ []) ∷ (T (negsuc 4) (negsuc 4) ∷ [])
+    ∷ (R (pos 9) (pos 0) ∷ []) ∷ (mirrorY ∷ []) ∷ (R (pos 0) (pos 1) ∷ T (pos 1) (pos 1) ∷ []) ∷ (mirrorX ∷ mirrorY ∷ []) ∷ [])
+    (point (pos 11) (pos 19)) (point (pos 1) (pos 0))
     ∷ row (replicate 12 (T (pos 1) (pos 2) ∷ R (pos 0) (pos 1) ∷ [])) (point (pos 3) (pos 5)) (point (pos 1) (pos 0))
     ∷ row (replicate 6 far ++ (replicate 5 back ++ ((back ++ (R (pos 0) (negsuc 0) ∷ [])) ∷ []))) (point (pos 5) (negsuc 2)) (point (pos 0) (negsuc 0))
     ∷ []

@@ -49,7 +49,7 @@ sole n m same =
     let y : n .ty ≡ m .ty = ap (λ (p : Point ℤ). p .y) step in
     let q : Point ℤ = point (pos 1) (pos 2) in
     let t : turned n q ≡ turned m q =
-        unstepped n q ∙ (λ k. point (same q k .x -ℤ x k) (same q k .y -ℤ y k)) ∙ sym (unstepped m q) in
+    unstepped n q ∙ (λ k. point (same q k .x -ℤ x k) (same q k .y -ℤ y k)) ∙ sym (unstepped m q) in
     let a = sym (tells n .0) ∙ ap (λ (p : Point ℤ). eqb (natAbs (p .x)) 2) t ∙ tells m .0 in
     let b = sym (tells n .1) ∙ ap (λ (p : Point ℤ). negative (p .x)) t ∙ tells m .1 in
     let c = sym (tells n .2) ∙ ap (λ (p : Point ℤ). negative (p .y)) t ∙ tells m .2 in

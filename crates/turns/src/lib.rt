@@ -32,9 +32,9 @@ pub struct Net {
 
 // One transformation of a list: what it does, whether it is an R off the axes, and the place after its words.
 struct Single {
-    pub net: Net,
-    pub askew: bool,
-    pub next: usize,
+    net: Net,
+    askew: bool,
+    next: usize,
 }
 
 // A call's list: what it does, and whether an R in it is off the axes.
@@ -43,6 +43,14 @@ pub struct Listed {
     pub askew: bool,
 }
 
+// The letters of a call's words (specs/Words.antt).
+const LETTER_T: i32 = 84;
+
+const LETTER_X: i32 = 88;
+
+const LETTER_Y: i32 = 89;
+
+// Does one of the two hold, and not both?
 fn differ(a: bool, b: bool) -> bool
     ensures { λ r. ⌜ r ≡ differ a b ⌝ }
 {
@@ -63,6 +71,7 @@ fn stepped(negate: bool, x: i64, by: i64) -> i64
     if negate { -x + by } else { x + by }
 }
 
+// A turn or a mirror, with no step.
 fn oriented(swap: bool, negx: bool, negy: bool) -> Net
     ensures { λ r. ⌜ r ≡ net swap negx negy (pos 0) (pos 0) ⌝ }
 {
@@ -93,6 +102,7 @@ fn mirrored(net: Net, x: i64, y: i64) -> Pair
     }
 }
 
+// A point in its place.
 fn placed(net: Net, x: i64, y: i64) -> Pair
     requires { ⌜ Near (2 ^ 61) net × (natAbs x ≤ 2 ^ 61) × (natAbs y ≤ 2 ^ 61) ⌝ }
     ensures { λ r. ⌜ asPoint r ≡ apply net (point x y) ⌝ }
@@ -103,7 +113,7 @@ fn placed(net: Net, x: i64, y: i64) -> Pair
     mirrored(net, x, y)
 }
 
-// A point in its place.
+// A point of a shape's words in its place.
 pub fn place_point(net: Net, x: i32, y: i32) -> Pair
     requires { ⌜ Near (2 ^ 61) net ⌝ }
     ensures { λ r. ⌜ asPoint r ≡ apply net (point x y) ⌝ }
@@ -134,7 +144,8 @@ pub fn compose(inner: Net, outer: Net) -> Net
     }
 }
 
-fn is_far(x: i64) -> bool
+// Is a number beyond the range?
+pub fn is_far(x: i64) -> bool
     ensures { λ r. ⌜ r ≡ beyond x ⌝ }
 {
     x < -16777215 || 16777215 < x
@@ -150,6 +161,7 @@ pub fn is_beyond(p: Pair) -> bool
     is_far(p.y)
 }
 
+// Does one of the two hold?
 fn either(a: bool, b: bool) -> bool
     ensures { λ r. ⌜ r ≡ (a || b) ⌝ }
 {
@@ -188,6 +200,7 @@ fn rotation(x: i32, y: i32) -> Net
     oriented(false, false, false)
 }
 
+// Is it off the axes?
 fn is_askew(x: i32, y: i32) -> bool
     ensures { λ r. ⌜ r ≡ offAxes (rotate (point x y) ∷ []) ⌝ }
 {
@@ -200,14 +213,14 @@ fn single_at(words: &[i32], at: usize) -> Single
     ensures { λ r. ⌜ ((h : Begins (now (words .entry)) at) → IsSingle (h .turn) (at + length (turnWords (h .turn))) r) ⌝ }
 {
     let letter = words[at];
-    if letter == 88 {
+    if letter == LETTER_X {
         return Single {
             net: oriented(false, true, false),
             askew: false,
             next: at + 1,
         };
     }
-    if letter == 89 {
+    if letter == LETTER_Y {
         return Single {
             net: oriented(false, false, true),
             askew: false,
@@ -218,7 +231,7 @@ fn single_at(words: &[i32], at: usize) -> Single
     let j = at + 2;
     let x = words[i];
     let y = words[j];
-    if letter == 84 {
+    if letter == LETTER_T {
         return Single {
             net: translation(x, y),
             askew: false,

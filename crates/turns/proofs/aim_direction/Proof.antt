@@ -1,3 +1,5 @@
+-- `aim_direction` meets its contract: without its step a net transformation does to a point what it does to a direction (`unmoved`).
+-- Assumes nothing.
 use mathlib.Core.Path.{_∙_}
 use native.Mathlib.Omega.{arith}
 use borrow.Author.Needs.{needs}
@@ -6,28 +8,19 @@ use Rattle.turns.proofs.Nets.{unmoved}
 use Rattle.turns.proofs.Signed.{wide, worth, widened}
 use Rattle.turns.proofs.aim_direction.Statement.{statement}
 use Rattle.turns.proofs.aim_direction.Tie as tie
-use Rattle.turns.proofs.aim_direction.Reads as reads
-use Rattle.turns.proofs.aim_direction.Lts as lts
-use Rattle.turns.proofs.oriented.Reads as oriented-reads
-use Rattle.turns.proofs.placed.Reads as placed-reads
 
--- src/lib.rt:117:9
 oriented-requires : tie.Need-oriented-requires
 oriented-requires c κs = search needs
 
--- src/lib.rt:118:19
 cast-placed : tie.Need-cast-placed
 cast-placed c = wide (c .before .args .x) (c .before .fits .x)
 
--- src/lib.rt:118:29
 cast-placed-2 : tie.Need-cast-placed-2
 cast-placed-2 c = wide (c .before .args .y) (c .before .fits .y)
 
--- src/lib.rt:118:5
 placed-requires : tie.Need-placed-requires
 placed-requires c κs = (rw (c .oriented .ensures) (record { across = omega arith; up = omega arith }), widened (c .before .args .x) (c .before .fits .x), widened (c .before .args .y) (c .before .fits .y))
 
--- src/lib.rt:114:1
 returns : tie.Need-returns
 returns c = c .placed .ensures ∙ rw (worth (c .before .before .args .x) (c .before .before .fits .x), worth (c .before .before .args .y) (c .before .before .fits .y), c .before .oriented .ensures) (unmoved (c .before .before .args .net) (point (c .before .before .args .x) (c .before .before .args .y)))
 

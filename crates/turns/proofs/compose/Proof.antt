@@ -1,3 +1,5 @@
+-- `compose` meets its contract: its result is the account's `after` (`composed`), whose step is where the outer list puts the inner step.
+-- Assumes nothing.
 use mathlib.Core.Path.{ap}
 use native.Mathlib.Omega.{arith}
 use lib.IntN.{ℤ}
@@ -8,37 +10,25 @@ use Rattle.turns.proofs.Nets.{composed}
 use Rattle.turns.proofs.Signed.{back, told}
 use Rattle.turns.proofs.compose.Statement.{statement}
 use Rattle.turns.proofs.compose.Tie as tie
-use Rattle.turns.proofs.compose.Reads as reads
-use Rattle.turns.proofs.compose.Lts as lts
-use Rattle.turns.proofs.choose.Reads as choose-reads
-use Rattle.turns.proofs.differ.Reads as differ-reads
-use Rattle.turns.proofs.placed.Reads as placed-reads
 
--- src/lib.rt:126:9
 placed-requires : tie.Need-placed-requires
 placed-requires c κs = search needs
 
--- src/lib.rt:128:15
 differ-requires : tie.Need-differ-requires
 differ-requires c κs = search needs
 
--- src/lib.rt:129:34
 choose-requires : tie.Need-choose-requires
 choose-requires c κs = search needs
 
--- src/lib.rt:129:15
 differ-requires-2 : tie.Need-differ-requires-2
 differ-requires-2 c κs = search needs
 
--- src/lib.rt:130:34
 choose-requires-2 : tie.Need-choose-requires-2
 choose-requires-2 c κs = search needs
 
--- src/lib.rt:130:15
 differ-requires-3 : tie.Need-differ-requires-3
 differ-requires-3 c κs = search needs
 
--- src/lib.rt:122:1
 returns : tie.Need-returns
 unfolding after
 returns c = composed (c .before .before .before .before .before .before .before .before .before .args .inner) (c .before .before .before .before .before .before .before .before .before .args .outer) _ (let e = rw (back (c .before .before .before .before .before .before .before .before .before .args .inner .tx) (omega (arith, c .before .before .before .before .before .before .before .before .before .pre .0 .across)), back (c .before .before .before .before .before .before .before .before .before .args .inner .ty) (omega (arith, c .before .before .before .before .before .before .before .before .before .pre .0 .up))) at (c .before .before .before .before .before .before .placed .ensures) in rw (told (c .before .before .before .before .before .before .placed .result .x) (c .struct-told3 .given .0 .1), told (c .before .before .before .before .before .before .placed .result .y) (c .struct-told3 .given .1 .0 .1), ap (λ (p : Point ℤ). p .x) e, ap (λ (p : Point ℤ). p .y) e, c .before .before .before .before .before .differ .ensures, c .before .before .before .differ2 .ensures, c .before .differ3 .ensures, c .before .before .before .before .choose .ensures, c .before .before .choose2 .ensures))

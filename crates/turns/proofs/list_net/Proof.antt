@@ -1,3 +1,6 @@
+-- `list_net` meets its contract. The invariant holds for every list that the words are those of: a part is done, whose net transformation is kept,
+-- and what is left stands in the words from here on (`Going`).
+-- Assumes nothing.
 use Prim.Native.Nat.{_-_}
 use native.Mathlib.Omega.{arith}
 use borrow.Author.Needs.{needs}
@@ -6,12 +9,6 @@ use Rattle.turns.proofs.Lists.{Going, start, near-enough, begins, neare
 use Rattle.turns.proofs.Nets.{near-more}
 use Rattle.turns.proofs.list_net.Statement.{statement}
 use Rattle.turns.proofs.list_net.Tie as tie
-use Rattle.turns.proofs.list_net.Reads as reads
-use Rattle.turns.proofs.list_net.Lts as lts
-use Rattle.turns.proofs.compose.Reads as compose-reads
-use Rattle.turns.proofs.either.Reads as either-reads
-use Rattle.turns.proofs.single_at.Reads as single-at-reads
-use Rattle.turns.proofs.still.Reads as still-reads
 
 abbrev Inv-loop : tie.InvT-loop
 Inv-loop words from end net₀ off₀ at₀ n off at = (h : Written words from end) → Going words from end h at n off
@@ -19,35 +16,27 @@ Inv-loop words from end net₀ off₀ at₀ n off at = (h : Written words from e
 abbrev μ-loop : tie.MeasureT-loop
 μ-loop words from end net₀ off₀ at₀ n off at = end - at
 
--- src/lib.rt:240:9
 still-requires : tie.Need-still-requires Inv-loop μ-loop
 still-requires c κs = search needs
 
--- src/lib.rt:243:5
 loop-holds : tie.Need-loop-holds Inv-loop μ-loop
 loop-holds c = λ h. start h _ (c .still .ensures .0) (c .still .ensures .1)
 
--- src/lib.rt:244:13
 single-at-requires : tie.Need-single-at-requires Inv-loop μ-loop
 single-at-requires c κs = begins (c .before .loop .inv (c .before .before .before .pre)) (c .loop-test .taken)
 
--- src/lib.rt:246:9
 compose-requires : tie.Need-compose-requires Inv-loop μ-loop
 compose-requires c κs = (near-more (omega arith) (near-enough (c .before .before .before .loop .inv (c .before .before .before .before .before .pre))), near-more (omega arith) (c .before .single-at .ensures (begins (c .before .before .before .loop .inv (c .before .before .before .before .before .pre)) (c .before .before .loop-test .taken)) .near))
 
--- src/lib.rt:247:9
 either-requires : tie.Need-either-requires Inv-loop μ-loop
 either-requires c κs = search needs
 
--- src/lib.rt:243:5
 loop-less : tie.Need-loop-less Inv-loop μ-loop
 loop-less c = nearer (c .before .before .before .before .before .loop .inv (c .before .before .before .before .before .before .before .pre)) (c .before .before .before .before .loop-test .taken) _ (c .before .before .before .single-at .ensures (begins (c .before .before .before .before .before .loop .inv (c .before .before .before .before .before .before .before .pre)) (c .before .before .before .before .loop-test .taken)))
 
--- src/lib.rt:243:5
 loop-again : tie.Need-loop-again Inv-loop μ-loop
 loop-again c = λ h. further (c .before .before .before .before .before .loop .inv h) (c .before .before .before .before .loop-test .taken) _ (c .before .before .before .single-at .ensures (begins (c .before .before .before .before .before .loop .inv h) (c .before .before .before .before .loop-test .taken))) _ _ (c .before .compose .ensures) (c .either .ensures)
 
--- src/lib.rt:236:1
 returns : tie.Need-returns Inv-loop μ-loop
 returns c = λ h. finished (c .before .loop .inv h) (c .loop-test .left)
 

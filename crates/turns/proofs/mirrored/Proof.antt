@@ -1,22 +1,18 @@
+-- `mirrored` meets its contract: two steps, whose numbers come back from the machine's words.
+-- Assumes nothing.
 use native.Mathlib.Omega.{arith}
 use borrow.Author.Needs.{needs}
 use mir.Facts.{toZ-ofZ}
 use Rattle.turns.proofs.Signed.{back, told}
 use Rattle.turns.proofs.mirrored.Statement.{statement}
 use Rattle.turns.proofs.mirrored.Tie as tie
-use Rattle.turns.proofs.mirrored.Reads as reads
-use Rattle.turns.proofs.mirrored.Lts as lts
-use Rattle.turns.proofs.stepped.Reads as stepped-reads
 
--- src/lib.rt:90:12
 stepped-requires : tie.Need-stepped-requires
 stepped-requires c κs = search needs
 
--- src/lib.rt:91:12
 stepped-requires-2 : tie.Need-stepped-requires-2
 stepped-requires-2 c κs = search needs
 
--- src/lib.rt:85:1
 returns : tie.Need-returns
 returns c = rw (told (c .before .before .stepped .result) (c .before .before .stepped .ok), told (c .stepped2 .result) (c .stepped2 .ok), c .before .before .stepped .ensures, c .stepped2 .ensures, toZ-ofZ (c .before .before .before .before .fits .x), toZ-ofZ (c .before .before .before .before .fits .y), back (c .before .before .before .before .args .net .tx) (omega (arith, c .before .before .before .before .pre .0 .across)), back (c .before .before .before .before .args .net .ty) (omega (arith, c .before .before .before .before .pre .0 .up)))
 

@@ -1,3 +1,5 @@
+-- `rotation` meets its contract: each way out has the heading that its tests tell (`rotates`).
+-- Assumes nothing.
 use mathlib.Core.Bool.{true, false}
 use borrow.Author.Needs.{needs}
 use Rattle.definition.specs.Turns.{+x, +y, -x, -y, askew, heading}
@@ -5,51 +7,38 @@ use Rattle.turns.proofs.Nets.{rotates}
 use Rattle.turns.proofs.Signed.{is-zero, not-zero, is-negative}
 use Rattle.turns.proofs.rotation.Statement.{statement}
 use Rattle.turns.proofs.rotation.Tie as tie
-use Rattle.turns.proofs.rotation.Reads as reads
-use Rattle.turns.proofs.rotation.Lts as lts
-use Rattle.turns.proofs.oriented.Reads as oriented-reads
 
--- src/lib.rt:178:13
 oriented-requires : tie.Need-oriented-requires
 oriented-requires c κs = search needs
 
--- src/lib.rt:178:13
 returns : tie.Need-returns
 unfolding heading
 returns c = rotates (c .before .before .before .args .x) (c .before .before .before .args .y) -x _ (rw (is-zero (c .before .before .before .args .y) (c .before .before .before .fits .y) (c .before .before .if1 .taken), is-negative (c .before .before .before .args .x) true (c .before .before .before .fits .x) (c .before .if2 .taken))) (c .oriented .ensures)
 
--- src/lib.rt:180:9
 oriented-requires-2 : tie.Need-oriented-requires-2
 oriented-requires-2 c κs = search needs
 
--- src/lib.rt:180:9
 returns-2 : tie.Need-returns-2
 unfolding heading
 returns-2 c = rotates (c .before .before .before .args .x) (c .before .before .before .args .y) +x _ (rw (is-zero (c .before .before .before .args .y) (c .before .before .before .fits .y) (c .before .before .if1 .taken), is-negative (c .before .before .before .args .x) false (c .before .before .before .fits .x) (c .before .if2 .left))) (c .oriented2 .ensures)
 
--- src/lib.rt:184:13
 oriented-requires-3 : tie.Need-oriented-requires-3
 oriented-requires-3 c κs = search needs
 
--- src/lib.rt:184:13
 returns-3 : tie.Need-returns-3
 unfolding heading
 returns-3 c = rotates (c .before .before .before .before .args .x) (c .before .before .before .before .args .y) -y _ (rw (not-zero (c .before .before .before .before .args .y) (c .before .before .before .if1 .left), is-zero (c .before .before .before .before .args .x) (c .before .before .before .before .fits .x) (c .before .before .if3 .taken), is-negative (c .before .before .before .before .args .y) true (c .before .before .before .before .fits .y) (c .before .if4 .taken))) (c .oriented3 .ensures)
 
--- src/lib.rt:186:9
 oriented-requires-4 : tie.Need-oriented-requires-4
 oriented-requires-4 c κs = search needs
 
--- src/lib.rt:186:9
 returns-4 : tie.Need-returns-4
 unfolding heading
 returns-4 c = rotates (c .before .before .before .before .args .x) (c .before .before .before .before .args .y) +y _ (rw (not-zero (c .before .before .before .before .args .y) (c .before .before .before .if1 .left), is-zero (c .before .before .before .before .args .x) (c .before .before .before .before .fits .x) (c .before .before .if3 .taken), is-negative (c .before .before .before .before .args .y) false (c .before .before .before .before .fits .y) (c .before .if4 .left))) (c .oriented4 .ensures)
 
--- src/lib.rt:188:5
 oriented-requires-5 : tie.Need-oriented-requires-5
 oriented-requires-5 c κs = search needs
 
--- src/lib.rt:173:1
 returns-5 : tie.Need-returns-5
 unfolding heading
 returns-5 c = rotates (c .before .before .before .args .x) (c .before .before .before .args .y) askew _ (rw (not-zero (c .before .before .before .args .y) (c .before .before .if1 .left), not-zero (c .before .before .before .args .x) (c .before .if3 .left))) (c .oriented5 .ensures)

@@ -1,29 +1,24 @@
+-- `stepped` meets its contract: numbers within 2^61 of zero negate and add without a wrap.
+-- Assumes nothing.
 use mir.Facts.{toZ-ofZ}
 use Rattle.turns.specs.Nets.{signed}
 use Rattle.turns.proofs.Signed.{sum-fits, neg-fits, neg-back, neg-sum-fits}
 use Rattle.turns.proofs.stepped.Statement.{statement}
 use Rattle.turns.proofs.stepped.Tie as tie
-use Rattle.turns.proofs.stepped.Reads as reads
-use Rattle.turns.proofs.stepped.Lts as lts
 
--- src/lib.rt:63:17
 sub-result : tie.Need-sub-result
 sub-result c = rw (toZ-ofZ (c .before .fits .x)) (neg-fits (c .before .args .x) (c .before .pre .0))
 
--- src/lib.rt:63:17
 add-result : tie.Need-add-result
 add-result c = rw (toZ-ofZ (c .before .fits .x), toZ-ofZ (c .before .fits .by), neg-back (c .before .args .x) (c .before .pre .0)) (neg-sum-fits (c .before .args .x) (c .before .args .by) (c .before .pre .0) (c .before .pre .1))
 
--- src/lib.rt:63:34
 add-result-2 : tie.Need-add-result-2
 add-result-2 c = rw (toZ-ofZ (c .before .fits .x), toZ-ofZ (c .before .fits .by)) (sum-fits (c .before .args .x) (c .before .args .by) (c .before .pre .0) (c .before .pre .1))
 
--- src/lib.rt:59:1
 returns : tie.Need-returns
 unfolding signed
 returns c = rw (toZ-ofZ (c .before .fits .x), toZ-ofZ (c .before .fits .by), neg-back (c .before .args .x) (c .before .pre .0), toZ-ofZ (neg-sum-fits (c .before .args .x) (c .before .args .by) (c .before .pre .0) (c .before .pre .1)), c .if1 .taken)
 
--- src/lib.rt:59:1
 returns-2 : tie.Need-returns-2
 unfolding signed
 returns-2 c = rw (toZ-ofZ (c .before .fits .x), toZ-ofZ (c .before .fits .by), toZ-ofZ (sum-fits (c .before .args .x) (c .before .args .by) (c .before .pre .0) (c .before .pre .1)), c .if1 .left)

@@ -1,19 +1,16 @@
+-- `translation` meets its contract: two numbers of 32 bits, widened, are the step.
+-- Assumes nothing.
 use Rattle.turns.proofs.Nets.{translates}
 use Rattle.turns.proofs.Signed.{narrow, wide, worth}
 use Rattle.turns.proofs.translation.Statement.{statement}
 use Rattle.turns.proofs.translation.Tie as tie
-use Rattle.turns.proofs.translation.Reads as reads
-use Rattle.turns.proofs.translation.Lts as lts
 
--- src/lib.rt:167:13
 cast-t3 : tie.Need-cast-t3
 cast-t3 c = wide (c .args .x) (c .fits .x)
 
--- src/lib.rt:168:13
 cast-t4 : tie.Need-cast-t4
 cast-t4 c = wide (c .args .y) (c .fits .y)
 
--- src/lib.rt:160:1
 returns : tie.Need-returns
 returns c = translates (c .args .x) (c .args .y) _ (rw (worth (c .args .x) (c .fits .x), worth (c .args .y) (c .fits .y))) (narrow (c .args .x) (c .fits .x)) (narrow (c .args .y) (c .fits .y))
 
