@@ -22,7 +22,7 @@ placed-requires : tie.Need-placed-requires
 placed-requires c κs = (rw (c .oriented .ensures) (record { across = omega arith; up = omega arith }), widened (c .before .args .x) (c .before .fits .x), widened (c .before .args .y) (c .before .fits .y))
 
 returns : tie.Need-returns
-returns c = c .placed .ensures ∙ rw (worth (c .before .before .args .x) (c .before .before .fits .x), worth (c .before .before .args .y) (c .before .before .fits .y), c .before .oriented .ensures) (unmoved (c .before .before .args .net) (point (c .before .before .args .x) (c .before .before .args .y)))
+returns c = let s = c .before .before in c .placed .ensures ∙ rw (worth (s .args .x) (s .fits .x), worth (s .args .y) (s .fits .y), c .before .oriented .ensures) (unmoved (s .args .net) (point (s .args .x) (s .args .y)))
 
 pub aim-direction-spec : {M : Type 1} → statement M
 aim-direction-spec =

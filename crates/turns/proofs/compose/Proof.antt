@@ -31,7 +31,24 @@ differ-requires-3 c κs = search needs
 
 returns : tie.Need-returns
 unfolding after
-returns c = composed (c .before .before .before .before .before .before .before .before .before .args .inner) (c .before .before .before .before .before .before .before .before .before .args .outer) _ (let e = rw (back (c .before .before .before .before .before .before .before .before .before .args .inner .tx) (omega (arith, c .before .before .before .before .before .before .before .before .before .pre .0 .across)), back (c .before .before .before .before .before .before .before .before .before .args .inner .ty) (omega (arith, c .before .before .before .before .before .before .before .before .before .pre .0 .up))) at (c .before .before .before .before .before .before .placed .ensures) in rw (told (c .before .before .before .before .before .before .placed .result .x) (c .struct-told3 .given .0 .1), told (c .before .before .before .before .before .before .placed .result .y) (c .struct-told3 .given .1 .0 .1), ap (λ (p : Point ℤ). p .x) e, ap (λ (p : Point ℤ). p .y) e, c .before .before .before .before .before .differ .ensures, c .before .before .before .differ2 .ensures, c .before .differ3 .ensures, c .before .before .before .before .choose .ensures, c .before .before .choose2 .ensures))
+returns c =
+    let s = c .before .before .before .before .before .before .before .before .before in
+    let p = c .before .before .before .before .before .before .placed in
+    let e =
+    rw (back (s .args .inner .tx) (omega (arith, s .pre .0 .across)), back (s .args .inner .ty) (omega (arith, s .pre .0 .up)))
+    at (p .ensures) in
+    composed (s .args .inner) (s .args .outer) _
+    (rw (
+      told (p .result .x) (c .struct-told3 .given .0 .1),
+      told (p .result .y) (c .struct-told3 .given .1 .0 .1),
+      ap (λ (q : Point ℤ). q .x) e,
+      ap (λ (q : Point ℤ). q .y) e,
+      c .before .before .before .before .before .differ .ensures,
+      c .before .before .before .differ2 .ensures,
+      c .before .differ3 .ensures,
+      c .before .before .before .before .choose .ensures,
+      c .before .before .choose2 .ensures,
+    ))
 
 pub compose-spec : {M : Type 1} → statement M
 compose-spec =

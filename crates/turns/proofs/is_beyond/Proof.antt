@@ -16,7 +16,10 @@ is-far-requires-2 : tie.Need-is-far-requires-2
 is-far-requires-2 c κs = search needs
 
 returns-2 : tie.Need-returns-2
-returns-2 c = rw (sym (rw (told (c .before .before .before .before .before .args .p .x) (c .before .before .before .before .struct-told .given .0 .1)) at (c .before .before .before .is-far .ensures)) ∙ c .before .before .if1 .left) (rw (told (c .before .before .before .before .before .args .p .y) (c .before .struct-told2 .given .1 .0 .1)) at (c .is-far2 .ensures))
+returns-2 c =
+    let p = c .before .before .before .before .before .args .p in
+    let near-x = sym (rw (told (p .x) (c .before .before .before .before .struct-told .given .0 .1)) at (c .before .before .before .is-far .ensures)) ∙ c .before .before .if1 .left in
+    rw near-x (rw (told (p .y) (c .before .struct-told2 .given .1 .0 .1)) at (c .is-far2 .ensures))
 
 pub is-beyond-spec : {M : Type 1} → statement M
 is-beyond-spec = tie.close (tie.spec is-far-requires returns is-far-requires-2 returns-2)

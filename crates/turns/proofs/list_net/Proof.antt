@@ -26,16 +26,26 @@ single-at-requires : tie.Need-single-at-requires Inv-loop μ-loop
 single-at-requires c κs = begins (c .before .loop .inv (c .before .before .before .pre)) (c .loop-test .taken)
 
 compose-requires : tie.Need-compose-requires Inv-loop μ-loop
-compose-requires c κs = (near-more (omega arith) (near-enough (c .before .before .before .loop .inv (c .before .before .before .before .before .pre))), near-more (omega arith) (c .before .single-at .ensures (begins (c .before .before .before .loop .inv (c .before .before .before .before .before .pre)) (c .before .before .loop-test .taken)) .near))
+compose-requires c κs =
+    let s = c .before .before .before .before .before in
+    let g = c .before .before .before .loop .inv (s .pre) in
+    (near-more (omega arith) (near-enough g), near-more (omega arith) (c .before .single-at .ensures (begins g (c .before .before .loop-test .taken)) .near))
 
 either-requires : tie.Need-either-requires Inv-loop μ-loop
 either-requires c κs = search needs
 
 loop-less : tie.Need-loop-less Inv-loop μ-loop
-loop-less c = nearer (c .before .before .before .before .before .loop .inv (c .before .before .before .before .before .before .before .pre)) (c .before .before .before .before .loop-test .taken) _ (c .before .before .before .single-at .ensures (begins (c .before .before .before .before .before .loop .inv (c .before .before .before .before .before .before .before .pre)) (c .before .before .before .before .loop-test .taken)))
+loop-less c =
+    let s = c .before .before .before .before .before .before .before in
+    let g = c .before .before .before .before .before .loop .inv (s .pre) in
+    let lt = c .before .before .before .before .loop-test .taken in
+    nearer g lt _ (c .before .before .before .single-at .ensures (begins g lt))
 
 loop-again : tie.Need-loop-again Inv-loop μ-loop
-loop-again c = λ h. further (c .before .before .before .before .before .loop .inv h) (c .before .before .before .before .loop-test .taken) _ (c .before .before .before .single-at .ensures (begins (c .before .before .before .before .before .loop .inv h) (c .before .before .before .before .loop-test .taken))) _ _ (c .before .compose .ensures) (c .either .ensures)
+loop-again c = λ h.
+    let g = c .before .before .before .before .before .loop .inv h in
+    let lt = c .before .before .before .before .loop-test .taken in
+    further g lt _ (c .before .before .before .single-at .ensures (begins g lt)) _ _ (c .before .compose .ensures) (c .either .ensures)
 
 returns : tie.Need-returns Inv-loop μ-loop
 returns c = λ h. finished (c .before .loop .inv h) (c .loop-test .left)

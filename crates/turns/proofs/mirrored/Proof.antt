@@ -14,7 +14,7 @@ stepped-requires-2 : tie.Need-stepped-requires-2
 stepped-requires-2 c κs = search needs
 
 returns : tie.Need-returns
-returns c = rw (told (c .before .before .stepped .result) (c .before .before .stepped .ok), told (c .stepped2 .result) (c .stepped2 .ok), c .before .before .stepped .ensures, c .stepped2 .ensures, toZ-ofZ (c .before .before .before .before .fits .x), toZ-ofZ (c .before .before .before .before .fits .y), back (c .before .before .before .before .args .net .tx) (omega (arith, c .before .before .before .before .pre .0 .across)), back (c .before .before .before .before .args .net .ty) (omega (arith, c .before .before .before .before .pre .0 .up)))
+returns c = let s = c .before .before .before .before in rw (told (c .before .before .stepped .result) (c .before .before .stepped .ok), told (c .stepped2 .result) (c .stepped2 .ok), c .before .before .stepped .ensures, c .stepped2 .ensures, toZ-ofZ (s .fits .x), toZ-ofZ (s .fits .y), back (s .args .net .tx) (omega (arith, s .pre .0 .across)), back (s .args .net .ty) (omega (arith, s .pre .0 .up)))
 
 pub mirrored-spec : {M : Type 1} → statement M
 mirrored-spec = tie.close (tie.spec stepped-requires stepped-requires-2 returns)

@@ -13,35 +13,35 @@ oriented-requires c κs = search needs
 
 returns : tie.Need-returns
 unfolding heading
-returns c = rotates (c .before .before .before .args .x) (c .before .before .before .args .y) -x _ (rw (is-zero (c .before .before .before .args .y) (c .before .before .before .fits .y) (c .before .before .if1 .taken), is-negative (c .before .before .before .args .x) true (c .before .before .before .fits .x) (c .before .if2 .taken))) (c .oriented .ensures)
+returns c = let s = c .before .before .before in rotates (s .args .x) (s .args .y) -x _ (rw (is-zero (s .args .y) (s .fits .y) (c .before .before .if1 .taken), is-negative (s .args .x) true (s .fits .x) (c .before .if2 .taken))) (c .oriented .ensures)
 
 oriented-requires-2 : tie.Need-oriented-requires-2
 oriented-requires-2 c κs = search needs
 
 returns-2 : tie.Need-returns-2
 unfolding heading
-returns-2 c = rotates (c .before .before .before .args .x) (c .before .before .before .args .y) +x _ (rw (is-zero (c .before .before .before .args .y) (c .before .before .before .fits .y) (c .before .before .if1 .taken), is-negative (c .before .before .before .args .x) false (c .before .before .before .fits .x) (c .before .if2 .left))) (c .oriented2 .ensures)
+returns-2 c = let s = c .before .before .before in rotates (s .args .x) (s .args .y) +x _ (rw (is-zero (s .args .y) (s .fits .y) (c .before .before .if1 .taken), is-negative (s .args .x) false (s .fits .x) (c .before .if2 .left))) (c .oriented2 .ensures)
 
 oriented-requires-3 : tie.Need-oriented-requires-3
 oriented-requires-3 c κs = search needs
 
 returns-3 : tie.Need-returns-3
 unfolding heading
-returns-3 c = rotates (c .before .before .before .before .args .x) (c .before .before .before .before .args .y) -y _ (rw (not-zero (c .before .before .before .before .args .y) (c .before .before .before .if1 .left), is-zero (c .before .before .before .before .args .x) (c .before .before .before .before .fits .x) (c .before .before .if3 .taken), is-negative (c .before .before .before .before .args .y) true (c .before .before .before .before .fits .y) (c .before .if4 .taken))) (c .oriented3 .ensures)
+returns-3 c = let s = c .before .before .before .before in rotates (s .args .x) (s .args .y) -y _ (rw (not-zero (s .args .y) (c .before .before .before .if1 .left), is-zero (s .args .x) (s .fits .x) (c .before .before .if3 .taken), is-negative (s .args .y) true (s .fits .y) (c .before .if4 .taken))) (c .oriented3 .ensures)
 
 oriented-requires-4 : tie.Need-oriented-requires-4
 oriented-requires-4 c κs = search needs
 
 returns-4 : tie.Need-returns-4
 unfolding heading
-returns-4 c = rotates (c .before .before .before .before .args .x) (c .before .before .before .before .args .y) +y _ (rw (not-zero (c .before .before .before .before .args .y) (c .before .before .before .if1 .left), is-zero (c .before .before .before .before .args .x) (c .before .before .before .before .fits .x) (c .before .before .if3 .taken), is-negative (c .before .before .before .before .args .y) false (c .before .before .before .before .fits .y) (c .before .if4 .left))) (c .oriented4 .ensures)
+returns-4 c = let s = c .before .before .before .before in rotates (s .args .x) (s .args .y) +y _ (rw (not-zero (s .args .y) (c .before .before .before .if1 .left), is-zero (s .args .x) (s .fits .x) (c .before .before .if3 .taken), is-negative (s .args .y) false (s .fits .y) (c .before .if4 .left))) (c .oriented4 .ensures)
 
 oriented-requires-5 : tie.Need-oriented-requires-5
 oriented-requires-5 c κs = search needs
 
 returns-5 : tie.Need-returns-5
 unfolding heading
-returns-5 c = rotates (c .before .before .before .args .x) (c .before .before .before .args .y) askew _ (rw (not-zero (c .before .before .before .args .y) (c .before .before .if1 .left), not-zero (c .before .before .before .args .x) (c .before .if3 .left))) (c .oriented5 .ensures)
+returns-5 c = let s = c .before .before .before in rotates (s .args .x) (s .args .y) askew _ (rw (not-zero (s .args .y) (c .before .before .if1 .left), not-zero (s .args .x) (c .before .if3 .left))) (c .oriented5 .ensures)
 
 pub rotation-spec : {M : Type 1} → statement M
 rotation-spec =

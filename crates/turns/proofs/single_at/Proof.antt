@@ -44,7 +44,7 @@ add-i : tie.Need-add-i
 add-i c = omega (arith, room _ _ (c .before .before .before .pre), with-words (c .before .before .before .pre .turn), c .before .before .before .good)
 
 add-j : tie.Need-add-j
-add-j c = omega (arith, room _ _ (c .before .before .before .pre), c .before .before .before .good, long (c .before .before .before .args .words .now) (c .before .before .before .args .at) (c .before .before .before .pre) (c .before .if1 .left) (c .if2 .left))
+add-j c = let s = c .before .before .before in omega (arith, room _ _ (s .pre), s .good, long (s .args .words .now) (s .args .at) (s .pre) (c .before .if1 .left) (c .if2 .left))
 
 mul-x : tie.Need-mul-x
 mul-x c = omega (arith, c .before .before .before .good, long (c .before .before .before .args .words .now) (c .before .before .before .args .at) (c .before .before .before .pre) (c .before .if1 .left) (c .if2 .left))
@@ -53,20 +53,23 @@ shared-slice-copy-out-x : tie.Need-shared-slice-copy-out-x
 shared-slice-copy-out-x c = omega (arith, long (c .before .before .before .args .words .now) (c .before .before .before .args .at) (c .before .before .before .pre) (c .before .if1 .left) (c .if2 .left))
 
 mul-y : tie.Need-mul-y
-mul-y c = omega (arith, c .before .before .before .before .good, long (c .before .before .before .before .args .words .now) (c .before .before .before .before .args .at) (c .before .before .before .before .pre) (c .before .before .if1 .left) (c .before .if2 .left))
+mul-y c = let s = c .before .before .before .before in omega (arith, s .good, long (s .args .words .now) (s .args .at) (s .pre) (c .before .before .if1 .left) (c .before .if2 .left))
 
 shared-slice-copy-out-y : tie.Need-shared-slice-copy-out-y
-shared-slice-copy-out-y c = omega (arith, long (c .before .before .before .before .args .words .now) (c .before .before .before .before .args .at) (c .before .before .before .before .pre) (c .before .before .if1 .left) (c .before .if2 .left))
+shared-slice-copy-out-y c = let s = c .before .before .before .before in omega (arith, long (s .args .words .now) (s .args .at) (s .pre) (c .before .before .if1 .left) (c .before .if2 .left))
 
 translation-requires : tie.Need-translation-requires
 translation-requires c κs = search needs
 
 add-t19 : tie.Need-add-t19
-add-t19 c = omega (arith, c .before .before .before .before .before .before .before .good, long (c .before .before .before .before .before .before .before .args .words .now) (c .before .before .before .before .before .before .before .args .at) (c .before .before .before .before .before .before .before .pre) (c .before .before .before .before .before .if1 .left) (c .before .before .before .before .if2 .left))
+add-t19 c = let s = c .before .before .before .before .before .before .before in omega (arith, s .good, long (s .args .words .now) (s .args .at) (s .pre) (c .before .before .before .before .before .if1 .left) (c .before .before .before .before .if2 .left))
 
 returns-3 : tie.Need-returns-3
 unfolding decode offAxes any bearings turnWords
-returns-3 c = λ h. single-read _ _ h (translate _) 3 _ (rw (c .before .if3 .taken)) (rw (told32 _ (c .before .before .before .x .given), told32 _ (c .before .before .y .given)) at (c .translation .ensures .0)) (c .translation .ensures .1) refl refl refl
+returns-3 c = λ h.
+    let x = c .before .before .before .x .given in
+    let y = c .before .before .y .given in
+    single-read _ _ h (translate _) 3 _ (rw (c .before .if3 .taken)) (rw (told32 _ x, told32 _ y) at (c .translation .ensures .0)) (c .translation .ensures .1) refl refl refl
 
 rotation-requires : tie.Need-rotation-requires
 rotation-requires c κs = search needs
@@ -75,11 +78,17 @@ is-askew-requires : tie.Need-is-askew-requires
 is-askew-requires c κs = search needs
 
 add-t8 : tie.Need-add-t8
-add-t8 c = omega (arith, c .before .before .before .before .before .before .before .before .good, long (c .before .before .before .before .before .before .before .before .args .words .now) (c .before .before .before .before .before .before .before .before .args .at) (c .before .before .before .before .before .before .before .before .pre) (c .before .before .before .before .before .before .if1 .left) (c .before .before .before .before .before .if2 .left))
+add-t8 c = let s = c .before .before .before .before .before .before .before .before in omega (arith, s .good, long (s .args .words .now) (s .args .at) (s .pre) (c .before .before .before .before .before .before .if1 .left) (c .before .before .before .before .before .if2 .left))
 
 returns-4 : tie.Need-returns-4
 unfolding turnWords
-returns-4 c = λ h. single-read _ _ h (rotate _) 3 _ (is-rotation _ _ _ (c .before .before .before .before .before .before .if1 .left) (c .before .before .before .before .before .if2 .left) (c .before .before .if3 .left)) (rw (told32 _ (c .before .before .before .before .x .given), told32 _ (c .before .before .before .y .given)) at (c .before .rotation .ensures .0)) (near-more (omega arith) (c .before .rotation .ensures .1)) (rw (told32 _ (c .before .before .before .before .x .given), told32 _ (c .before .before .before .y .given)) at (c .is-askew .ensures)) refl refl
+returns-4 c = λ h.
+    let x = c .before .before .before .before .x .given in
+    let y = c .before .before .before .y .given in
+    let no-x = c .before .before .before .before .before .before .if1 .left in
+    let no-y = c .before .before .before .before .before .if2 .left in
+    single-read _ _ h (rotate _) 3 _ (is-rotation _ _ _ no-x no-y (c .before .before .if3 .left)) (rw (told32 _ x, told32 _ y) at (c .before .rotation .ensures .0))
+    (near-more (omega arith) (c .before .rotation .ensures .1)) (rw (told32 _ x, told32 _ y) at (c .is-askew .ensures)) refl refl
 
 pub single-at-spec : {M : Type 1} → statement M
 single-at-spec =

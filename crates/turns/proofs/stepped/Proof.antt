@@ -10,14 +10,14 @@ sub-result : tie.Need-sub-result
 sub-result c = rw (toZ-ofZ (c .before .fits .x)) (neg-fits (c .before .args .x) (c .before .pre .0))
 
 add-result : tie.Need-add-result
-add-result c = rw (toZ-ofZ (c .before .fits .x), toZ-ofZ (c .before .fits .by), neg-back (c .before .args .x) (c .before .pre .0)) (neg-sum-fits (c .before .args .x) (c .before .args .by) (c .before .pre .0) (c .before .pre .1))
+add-result c = let s = c .before in rw (toZ-ofZ (s .fits .x), toZ-ofZ (s .fits .by), neg-back (s .args .x) (s .pre .0)) (neg-sum-fits (s .args .x) (s .args .by) (s .pre .0) (s .pre .1))
 
 add-result-2 : tie.Need-add-result-2
 add-result-2 c = rw (toZ-ofZ (c .before .fits .x), toZ-ofZ (c .before .fits .by)) (sum-fits (c .before .args .x) (c .before .args .by) (c .before .pre .0) (c .before .pre .1))
 
 returns : tie.Need-returns
 unfolding signed
-returns c = rw (toZ-ofZ (c .before .fits .x), toZ-ofZ (c .before .fits .by), neg-back (c .before .args .x) (c .before .pre .0), toZ-ofZ (neg-sum-fits (c .before .args .x) (c .before .args .by) (c .before .pre .0) (c .before .pre .1)), c .if1 .taken)
+returns c = let s = c .before in rw (toZ-ofZ (s .fits .x), toZ-ofZ (s .fits .by), neg-back (s .args .x) (s .pre .0), toZ-ofZ (neg-sum-fits (s .args .x) (s .args .by) (s .pre .0) (s .pre .1)), c .if1 .taken)
 
 returns-2 : tie.Need-returns-2
 unfolding signed
