@@ -8,8 +8,8 @@ use lib.Dec.{ltb, eqb}
 use lib.IntN.{ℤ, pos, negsuc, _+ℤ_, _-ℤ_, negℤ, natAbs, subℕ, +ℤ-idl}
 use lib.Signed.{mag, ltZ, natAbs-le}
 use borrow.Author.Tests.{ltb-true, ltb-false, lt-ltb, le-ltb, eqb-true, eqb-false, ne-eqb}
-use mir.Syntax.{w32, w64}
-use mir.Val.{SFits, toZ, ofZ}
+use mir.Syntax.{w32, w64, Width}
+use mir.Val.{SFits, toZ, ofZ, hbits}
 use mir.Facts.{toZ-ofZ}
 use Rattle.definition.specs.Faults.{beyond, zero?}
 use Rattle.definition.specs.Turns.{negative}
@@ -44,8 +44,8 @@ fits z h = record { sfits = omega (arith, mag-le z) }
 pub back : (z : ℤ) → natAbs z < 2 ^ 63 → toZ w64 (ofZ w64 z) ≡ z
 back z h = toZ-ofZ {w = w64} {z = z} (fits z h)
 
-pub told : (z : ℤ) → mag z < 2 ^ 63 → toZ w64 (ofZ w64 z) ≡ z
-told z h = toZ-ofZ {w = w64} {z = z} (record { sfits = h })
+pub told : (w : Width) (z : ℤ) → mag z < 2 ^ hbits w → toZ w (ofZ w z) ≡ z
+told w z h = toZ-ofZ {w = w} {z = z} (record { sfits = h })
 
 pub abs-signed : (n : Bool) (z : ℤ) → natAbs (signed n z) ≡ natAbs z
 unfolding signed
@@ -121,6 +121,3 @@ bits-zero z h = go (eqb (ofZ w32 z) 0) refl
     go : (t : Bool) → eqb (ofZ w32 z) 0 ≡ t → t ≡ zero? z
     go true e = sym (is-zero z h (eqb-true (ofZ w32 z) 0 e))
     go false e = sym (not-zero z (eqb-false (ofZ w32 z) 0 e))
-
-pub told32 : (z : ℤ) → mag z < 2 ^ 31 → toZ w32 (ofZ w32 z) ≡ z
-told32 z h = toZ-ofZ {w = w32} {z = z} (record { sfits = h })

@@ -4,6 +4,7 @@ use mathlib.Core.Path.{ap}
 use native.Mathlib.Omega.{arith}
 use lib.IntN.{ℤ}
 use borrow.Author.Needs.{needs}
+use mir.Syntax.{w64}
 use Rattle.definition.specs.Words.{Point}
 use Rattle.turns.specs.Nets.{after}
 use Rattle.turns.proofs.Nets.{composed}
@@ -39,8 +40,8 @@ returns c =
     at (p .ensures) in
     composed (s .args .inner) (s .args .outer) _
     (rw (
-      told (p .result .x) (c .struct-told3 .given .0 .1),
-      told (p .result .y) (c .struct-told3 .given .1 .0 .1),
+      told w64 (p .result .x) (c .struct-told3 .given .0 .1),
+      told w64 (p .result .y) (c .struct-told3 .given .1 .0 .1),
       ap (λ (q : Point ℤ). q .x) e,
       ap (λ (q : Point ℤ). q .y) e,
       c .before .before .before .before .before .differ .ensures,

@@ -3,6 +3,7 @@
 use mathlib.Core.Path.{refl}
 use native.Mathlib.Omega.{arith}
 use borrow.Author.Needs.{needs}
+use mir.Syntax.{w32}
 use Rattle.definition.specs.Words.{any}
 use Rattle.definition.specs.Commands.{translate, mirrorX, mirrorY, rotate}
 use Rattle.definition.specs.Faults.{bearings}
@@ -10,7 +11,7 @@ use Rattle.definition.specs.Turns.{offAxes}
 use Rattle.turns.specs.Words.{turnWords}
 use Rattle.turns.proofs.Lists.{decode, is-rotation, with-words, room, single-read, long}
 use Rattle.turns.proofs.Nets.{single, one-carried, near-more}
-use Rattle.turns.proofs.Signed.{told32}
+use Rattle.turns.proofs.Signed.{told}
 use Rattle.turns.proofs.single_at.Statement.{statement}
 use Rattle.turns.proofs.single_at.Tie as tie
 
@@ -69,7 +70,7 @@ unfolding decode offAxes any bearings turnWords
 returns-3 c = λ h.
     let x = c .before .before .before .x .given in
     let y = c .before .before .y .given in
-    single-read _ _ h (translate _) 3 _ (rw (c .before .if3 .taken)) (rw (told32 _ x, told32 _ y) at (c .translation .ensures .0)) (c .translation .ensures .1) refl refl refl
+    single-read _ _ h (translate _) 3 _ (rw (c .before .if3 .taken)) (rw (told w32 _ x, told w32 _ y) at (c .translation .ensures .0)) (c .translation .ensures .1) refl refl refl
 
 rotation-requires : tie.Need-rotation-requires
 rotation-requires c κs = search needs
@@ -87,8 +88,8 @@ returns-4 c = λ h.
     let y = c .before .before .before .y .given in
     let no-x = c .before .before .before .before .before .before .if1 .left in
     let no-y = c .before .before .before .before .before .if2 .left in
-    single-read _ _ h (rotate _) 3 _ (is-rotation _ _ _ no-x no-y (c .before .before .if3 .left)) (rw (told32 _ x, told32 _ y) at (c .before .rotation .ensures .0))
-    (near-more (omega arith) (c .before .rotation .ensures .1)) (rw (told32 _ x, told32 _ y) at (c .is-askew .ensures)) refl refl
+    single-read _ _ h (rotate _) 3 _ (is-rotation _ _ _ no-x no-y (c .before .before .if3 .left)) (rw (told w32 _ x, told w32 _ y) at (c .before .rotation .ensures .0))
+    (near-more (omega arith) (c .before .rotation .ensures .1)) (rw (told w32 _ x, told w32 _ y) at (c .is-askew .ensures)) refl refl
 
 pub single-at-spec : {M : Type 1} → statement M
 single-at-spec =
