@@ -14,12 +14,13 @@ use borrow.Author.Tests.{eq-eqb}
 use Rattle.grammar.specs.Notation.{Class, Role, Role-discrete, Letter, Match, has, dec, 'B', 'C', 'D', 'L', 'R', 'S', 'W'}
 use Rattle.grammar.specs.Notation.{skip, head, second, turn, sign, lead, name, stop}
 use Rattle.grammar.specs.Productions.{cifFile}
-use Rattle.grammar.specs.Tables.{stateCount, kindCount, entryCount, roleUnit, stuck, deep, accepting, lparKind, rparKind, foreignKind, samples, table, roles, letter}
+use Rattle.grammar.specs.Tables.{stateCount, kindCount, roleUnit, stuck, deep, accepting, lparKind, rparKind, foreignKind, samples, table, roles, letter}
 use Rattle.grammar.specs.Steps.{choose, kindOf, entryOf, nextOf, modeAfter, entered, within, markOf, roleOf}
-use Rattle.grammar.proofs.Tests.{and-left, and-right, and-both, or-cases, follows, every, every-at, upto, upto-at}
+use Rattle.grammar.proofs.Tests.{and-left, and-right, and-both, or-cases, follows, upto, upto-at}
 use Rattle.grammar.proofs.Items.{dec-sound, final-complete}
 use Rattle.grammar.proofs.Derivatives.{Choice, Items}
-use Rattle.grammar.proofs.Automaton.{Lang, stand, agree, label, deepen-zero, kind-below, table-length, step-role, step-to, start-to, accepts}
+use Rattle.grammar.proofs.Fitting.{everyEntry}
+use Rattle.grammar.proofs.Automaton.{Lang, entry-at, stand, agree, label, deepen-zero, kind-below, step-role, step-to, start-to, accepts}
 use Rattle.grammar.proofs.Verdicts.{final-deep}
 use Rattle.grammar.proofs.Boundaries.{entered-at, within-at, live-next}
 use Rattle.grammar.proofs.Markings.{Below, match-ascii}
@@ -128,14 +129,13 @@ checked q l to t = record {
     brought start-brings h = leb→le 3 (owed to) (follows (l plays second && l is 'S') _ (pick 11) h)
     brought delete-brings h = leb→le 1 (owed to) (follows (l plays second && l is 'D') _ (pick 12) h)
 
--- entry x of the table, at state i / kindCount and kind i % kindCount
-unfoldable passes : ℕ → ℕ → Bool
-passes i x =
+-- entry x of the table, at state q and kind k
+unfoldable passes : ℕ → ℕ → ℕ → Bool
+passes q k x =
     let to = x % roleUnit in
-    eqb to stuck
-    || allTrue (checks (i / kindCount) (getD roles (x / roleUnit) skip) (λ c. has c (stand (i % kindCount))) (choose (ltb to deep) to (to - deep)))
+    eqb to stuck || allTrue (checks q (getD roles (x / roleUnit) skip) (λ c. has c (stand k)) (choose (ltb to deep) to (to - deep)))
 
-table-passes : T (every passes 0 table)
+table-passes : T (everyEntry passes table)
 unfolding passes checks owed room awaits counted dec has stand samples table
 table-passes = tt
 
@@ -159,17 +159,10 @@ module _ (q b : ℕ) (hq : q < stateCount) (hb : b < 256) where
   unfolding passes nextOf entryOf roleOf markOf
   entry-passes n =
       let k = kindOf b in
-      let hk = kind-below b hb in
-      let i = q * kindCount + k in
-      let x = getD table i 0 in
-      let ek : i % kindCount ≡ k = omega arith in
-      let eq : i / kindCount ≡ q = omega arith in
-      let hi : i < entryCount = omega arith in
-      let P : ℕ → (Class → Bool) → Type 0 = λ s h. Passes s (getD roles (x / roleUnit) skip) h (choose (ltb (x % roleUnit) deep) (x % roleUnit) (x % roleUnit - deep)) in
-      let t : T (passes i x) = every-at passes table table-passes i (subst (λ (m : ℕ). i < m) (sym table-length) hi) in
-      let u : P (i / kindCount) (λ c. has c (stand (i % kindCount))) = live (or-cases (eqb (x % roleUnit) stuck) _ t) in
-      let v : P q (λ c. has c (stand k)) = subst (λ (j : ℕ). P q (λ c. has c (stand j))) ek (subst (λ (s : ℕ). P s (λ c. has c (stand (i % kindCount)))) eq u) in
-      subst (λ (h : Class → Bool). P q h) (λ j c. sym (agree b hb c) j) v
+      let x = getD table (q * kindCount + k) 0 in
+      let P : (Class → Bool) → Type 0 = λ h. Passes q (getD roles (x / roleUnit) skip) h (choose (ltb (x % roleUnit) deep) (x % roleUnit) (x % roleUnit - deep)) in
+      let u : P (λ c. has c (stand k)) = live (or-cases (eqb (x % roleUnit) stuck) _ (entry-at passes table-passes q k hq (kind-below b hb))) in
+      subst P (λ j c. sym (agree b hb c) j) u
     where
       live : {B : Type 0} → T (eqb (getD table (q * kindCount + kindOf b) 0 % roleUnit) stuck) ⊎ B → B
       live (inl h) = absurd (n (eqb→eq _ stuck h))

@@ -22,7 +22,7 @@ use Rattle.grammar.proofs.Derivatives.{Choice, Item, end, next, Items, 
 use Rattle.grammar.proofs.Items.{no-items, deriveItems, deriveItem, complete, sound, final, final-sound, part, part-sound}
 use Rattle.grammar.proofs.Roles.{sole, soleSeq, soleItems, soleItems-role}
 use Rattle.grammar.proofs.Tests.{and-left, and-right, and-both, or-right, or-cases, bit-eq, sameBit, every-at, upto-at}
-use Rattle.grammar.proofs.Fitting.{deepen, labels, entry, ranged, fits, table-fits, classes, alike, kindFits, kinds-fit, sampleFits, samples-fit, reach, lastFits, last-fits, labels-first, roleFits, roles-fit}
+use Rattle.grammar.proofs.Fitting.{deepen, labels, entry, ranged, fits, table-fits, classes, alike, kindFits, kinds-fit, sampleFits, samples-fit, reach, lastFits, last-fits, labels-first, roleFits, roles-fit, everyEntry}
 
 -- tests, turned into facts
 alike-at : (cs : List Class) (a b : ℕ) → T (alike cs a b) → (n : ℕ) (d : Class) → n < length cs → has (getD cs n d) a ≡ has (getD cs n d) b
@@ -100,16 +100,20 @@ pub record Row (q k : ℕ) : Type 0 where
 abbrev Tested : ℕ → ℕ → ℕ → ℕ → Role → Type 0
 Tested b q x n ρ = T ((ranged x && ltb n roleCount) && (soleItems b ρ (label q) && (part (deriveItems (letter b ρ) (label q)) (entry labels x) && part (entry labels x) (deriveItems (letter b ρ) (label q)))))
 
+-- what a test of every entry says of the entry at a state and a kind
+pub entry-at : (f : ℕ → ℕ → ℕ → Bool) → T (everyEntry f table) → (q k : ℕ) → q < stateCount → k < kindCount → T (f q k (getD table (q * kindCount + k) 0))
+entry-at f t q k hq hk =
+    let i = q * kindCount + k in
+    let x = getD table i 0 in
+    let hi : i < entryCount = omega arith in
+    let ek : i % kindCount ≡ k = omega arith in
+    let eq : i / kindCount ≡ q = omega arith in
+    let u : T (f (i / kindCount) (i % kindCount) x) = every-at (λ j y. f (j / kindCount) (j % kindCount) y) table t i (subst (λ (n : ℕ). i < n) (sym table-length) hi) in
+    subst (λ (k′ : ℕ). T (f q k′ x)) ek (subst (λ (q′ : ℕ). T (f q′ (i % kindCount) x)) eq u)
+
 row : (q k : ℕ) → q < stateCount → k < kindCount → Row q k
 unfolding nextOf stand label role fits
-row q k hq hk =
-    let ek : (q * kindCount + k) % kindCount ≡ k = omega arith in
-    let eq : (q * kindCount + k) / kindCount ≡ q = omega arith in
-    let hi : q * kindCount + k < entryCount = omega arith in
-    let t : T (fits labels (q * kindCount + k) (getD table (q * kindCount + k) 0)) =
-    every-at (fits labels) table table-fits (q * kindCount + k) (subst (λ (n : ℕ). q * kindCount + k < n) (sym table-length) hi)
-    in
-    go (subst (λ (k′ : ℕ). Tested (stand k′) q (nextOf q k) (getD table (q * kindCount + k) 0 / roleUnit) (role q k)) ek (subst (λ (q′ : ℕ). Tested (stand ((q * kindCount + k) % kindCount)) q′ (nextOf q k) (getD table (q * kindCount + k) 0 / roleUnit) (role q k)) eq t))
+row q k hq hk = go (entry-at (fits labels) table-fits q k hq hk)
   where
     go : Tested (stand k) q (nextOf q k) (getD table (q * kindCount + k) 0 / roleUnit) (role q k) → Row q k
     go t =

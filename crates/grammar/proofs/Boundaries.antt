@@ -11,13 +11,13 @@ use borrow.Author.Tests.{eq-eqb}
 use lib.Dec.{T, ltb, eqb, eqb→eq, eqb·suc-zero}
 use lib.ListN.{getD}
 use Rattle.grammar.specs.Notation.{Role, Letter, has, 'S', 'F', second, stop}
-use Rattle.grammar.specs.Tables.{stateCount, kindCount, entryCount, roleUnit, stuck, deep, lparKind, rparKind, foreignKind, startKind, finishKind, kinds, table, letter, insides}
+use Rattle.grammar.specs.Tables.{stateCount, kindCount, roleUnit, stuck, deep, lparKind, rparKind, foreignKind, startKind, finishKind, kinds, table, letter, insides}
 use Rattle.grammar.specs.Steps.{choose, kindOf, entryOf, nextOf, modeAfter, entered, within, mode, markOf, roleOf, number, inside, marked}
 use Rattle.grammar.specs.Viable.{bytes, Marked}
 use Rattle.grammar.specs.declared.Mode.{Mode}
 use Rattle.grammar.proofs.Tests.{and-left, and-right, or-cases, follows, sameBit, bit-eq, every, every-at}
 use Rattle.grammar.proofs.Fitting.{insideNext, stateBehind, insideFits, insides-fit}
-use Rattle.grammar.proofs.Automaton.{Lang, kind-below, table-length, step-role, step-to, mark-below, mark-number, start-to}
+use Rattle.grammar.proofs.Automaton.{Lang, entry-at, kind-below, step-role, step-to, mark-below, mark-number, start-to}
 use Rattle.grammar.proofs.Markings.{Below, match-ascii, marking}
 
 -- what the table says of an entry that leads somewhere
@@ -35,17 +35,9 @@ yes-is t e = subst T (sym e) tt
 
 crossing : (q k : ℕ) → q < stateCount → k < kindCount → (nextOf q k ≡ stuck → ⊥) → Crossing q k
 unfolding nextOf entryOf insideFits
-crossing q k hq hk n =
-    let i = q * kindCount + k in
-    let x = getD table i 0 in
-    let ek : i % kindCount ≡ k = omega arith in
-    let eq : i / kindCount ≡ q = omega arith in
-    let hi : i < entryCount = omega arith in
-    let t : T (insideFits i x) = every-at insideFits table insides-fit i (subst (λ (m : ℕ). i < m) (sym table-length) hi) in
-    go (subst (λ (k′ : ℕ). Tested x k′ q) ek (subst (λ (q′ : ℕ). Tested x (i % kindCount) q′) eq (live (or-cases (eqb (x % roleUnit) stuck) _ t))))
+crossing q k hq hk n = go (live (or-cases (eqb (getD table (q * kindCount + k) 0 % roleUnit) stuck) _ (entry-at insideFits insides-fit q k hq hk)))
   where
-    live : T (eqb (getD table (q * kindCount + k) 0 % roleUnit) stuck) ⊎ Tested (getD table (q * kindCount + k) 0) ((q * kindCount + k) % kindCount) ((q * kindCount + k) / kindCount)
-        → Tested (getD table (q * kindCount + k) 0) ((q * kindCount + k) % kindCount) ((q * kindCount + k) / kindCount)
+    live : T (eqb (getD table (q * kindCount + k) 0 % roleUnit) stuck) ⊎ Tested (getD table (q * kindCount + k) 0) k q → Tested (getD table (q * kindCount + k) 0) k q
     live (inl h) = absurd (n (eqb→eq _ stuck h))
     live (inr h) = h
 

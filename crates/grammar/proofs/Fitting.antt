@@ -46,18 +46,22 @@ entry ls x = choose (ltb x deep) (getD ls x []) (choose (eqb x stuck) [] (deepen
 abbrev pub ranged : ℕ → Bool
 ranged x = ltb x stateCount || (eqb x stuck || (leb deep x && ltb x (deep + stateCount)))
 
--- entry x stands at state i / kindCount and kind i % kindCount, and is what the grammar has there, and so is the role
-unfoldable pub fits : List Choice → ℕ → ℕ → Bool
+-- a test of the entry x at a state and a kind passes at every entry of the table
+abbrev pub everyEntry : (ℕ → ℕ → ℕ → Bool) → List ℕ → Bool
+everyEntry f xs = every (λ i x. f (i / kindCount) (i % kindCount) x) 0 xs
+
+-- entry x at state q and kind k is what the grammar has there, and so is the role
+unfoldable pub fits : List Choice → ℕ → ℕ → ℕ → Bool
 unfolding part deriveItems soleItems
-fits ls i x =
+fits ls q k x =
     let ρ = getD roles (x / roleUnit) skip in
     let y = x % roleUnit in
-    let b = getD samples (i % kindCount) 0 in
-    let l = getD ls (i / kindCount) [] in
+    let b = getD samples k 0 in
+    let l = getD ls q [] in
     let is = deriveItems (letter b ρ) l in
     (ranged y && ltb (x / roleUnit) roleCount) && (soleItems b ρ l && (part is (entry ls y) && part (entry ls y) is))
 
-pub table-fits : T (every (fits labels) 0 table)
+pub table-fits : T (everyEntry (fits labels) table)
 unfolding fits labels table samples is
 table-fits = tt
 
@@ -117,15 +121,15 @@ insideNext m k i = choose (eqb m (number second)) (choose (eqb k startKind) true
 abbrev pub stateBehind : Bool → ℕ
 stateBehind i = choose i insideState outsideState
 
-unfoldable pub insideFits : ℕ → ℕ → Bool
-insideFits i x =
+unfoldable pub insideFits : ℕ → ℕ → ℕ → Bool
+insideFits q k x =
     let m = x / roleUnit in
     let to = x % roleUnit in
-    let now = inside (i / kindCount) in
+    let now = inside q in
     eqb to stuck
-    || (sameBit (inside (choose (ltb to deep) to (to - deep))) (insideNext m (i % kindCount) now)
+    || (sameBit (inside (choose (ltb to deep) to (to - deep))) (insideNext m k now)
     && (not (eqb m (number stop)) || eqb to (stateBehind now)))
 
-pub insides-fit : T (every insideFits 0 table)
+pub insides-fit : T (everyEntry insideFits table)
 unfolding insideFits inside insides table number
 insides-fit = tt
