@@ -1,20 +1,27 @@
--- A row is a text, a room and an outcome; a row that computes is a row that is promised. Made by tools/rows.py.
+-- A row is a text, a room and what is answered; a row that computes is a row that is promised. So a text's answer is proved by computing it,
+-- over definitions that were not written to be computed. Its `use` lines and one `unfolding` line are written by tools/rows.py.
 -- Assumes nothing.
 use mathlib.Core.Path.{_≡_, refl, sym, subst}
 use mathlib.Core.Bool.{Bool, true, false, _&&_}
 use mathlib.Core.List.{List, [], _∷_, flatMap}
-use Prim.Native.Nat.{ℕ, zero, suc, _<_}
+use Prim.Native.Nat.{ℕ, zero, suc, _<_, _≤_}
 use Prim.Native.String.{String}
+use Prim.Native.String.{[] as ends, _∷_ as _then_}
 use native.Mathlib.Nat.{not-suc-le-zero, le-of-suc-le-suc}
 use native.Mathlib.Omega.{arith}
-use lib.Dec.{T, ltb, eqb, ltb→lt, eqb→eq}
+use lib.Dec.{T, ltb, leb, eqb, ltb→lt, leb→le, eqb→eq}
 use lib.ListN.{length, getD}
-use Rattle.grammar.specs.Notation.{dec, has}
-use Rattle.grammar.specs.Tables.{kinds, table}
-use Rattle.grammar.specs.Steps.{kindOf, entryOf, nextOf, modeAfter, markOf, roleOf, marked, verdictOf}
 use Rattle.grammar.proofs.Tests.{and-left, and-right}
 use Rattle.grammar.proofs.Verdicts.{Bytes}
-use Rattle.definition.specs.Words.{if_then_else_, any, those, first, same, bytesOf}
+use Rattle.definition.specs.Words.{if_then_else_}
+use Rattle.definition.specs.Answer.{Outcome, Answers}
+use Rattle.definition.specs.Listing.{Lists, within}
+use Rattle.definition.proofs.Right.{right}
+-- the names that rows compute through, written by tools/rows.py
+use Rattle.grammar.specs.Notation.{has, dec}
+use Rattle.grammar.specs.Tables.{kinds, table}
+use Rattle.grammar.specs.Steps.{kindOf, entryOf, nextOf, modeAfter, markOf, roleOf, marked, verdictOf}
+use Rattle.definition.specs.Words.{any, those, first, same, bytesOf}
 use Rattle.definition.specs.Commands.{worth, numbers, paired, next, named, turnAt, turns, commandAt, commands}
 use Rattle.definition.specs.Standing.{after, scaled, whole, scaledShape, scaledTurn}
 use Rattle.definition.specs.Faults.{beyond, partsOf, shifts, bearings, distances, numbersOf, zeroScale, least, emptyShape, degenerate, layerless, tooMany, atNumbers, faults, allFaults, firstFault}
@@ -23,10 +30,11 @@ use Rattle.definition.specs.Table.{find, enter, forget}
 use Rattle.definition.specs.Drawing.{stepOf, retained, deedOf, deeds, drawShape, drawStep, drawBody, callFault, unless, drawCall, happens, tableAfter, story}
 use Rattle.definition.specs.Counts.{counted, goOn, ending, shapesOf}
 use Rattle.definition.specs.Flat.{digits, decimal, spaced, letterOf, said, lines, flat}
-use Rattle.definition.specs.Answer.{Outcome, Answers, flatFile, given-back, fitted, drawn, outcomeOf}
+use Rattle.definition.specs.Answer.{flatFile, given-back, fitted, drawn, outcomeOf}
 use Rattle.definition.specs.Listing.{fields, shapeLines, extreme, windowLine, listing}
 use Rattle.definition.specs.Computed.{verdict, answerOf}
-use Rattle.definition.proofs.Right.{right}
+
+-- the end of what tools/rows.py writes here
 
 pub record Row : Type 0 where
   pub text : String
@@ -38,25 +46,48 @@ pub record Row : Type 0 where
   pub redefinitions : ℕ
   pub flat-file : String
 
--- an accepted text, with its counts and flat file, and a refused one, with number and place
+-- an accepted text, with its counts and flat file, and a refused one, with number and place; in a room of n bytes, or else of 32,768
+abbrev pub accepted-in : ℕ → String → ℕ → ℕ → ℕ → String → Row
+accepted-in n t s c r f = record { text = t; room = n; number = 0; place = 0; shapes = s; calls = c; redefinitions = r; flat-file = f }
+
+abbrev pub refused-in : ℕ → String → ℕ → ℕ → Row
+refused-in n t k p = record { text = t; room = n; number = k; place = p; shapes = 0; calls = 0; redefinitions = 0; flat-file = "" }
+
 abbrev pub accepted : String → ℕ → ℕ → ℕ → String → Row
-accepted t s c r f = record { text = t; room = 32768; number = 0; place = 0; shapes = s; calls = c; redefinitions = r; flat-file = f }
+accepted t s c r f = accepted-in 32768 t s c r f
 
 abbrev pub refused-at : String → ℕ → ℕ → Row
-refused-at t n p = record { text = t; room = 32768; number = n; place = p; shapes = 0; calls = 0; redefinitions = 0; flat-file = "" }
+refused-at t k p = refused-in 32768 t k p
 
--- what is given back of it, and its flat file
+-- what a row says of the answer and the flat file, and what an outcome does; the length is the flat file's
 abbrev pub said-of : Row → List ℕ
-said-of r = r .number ∷ r .place ∷ r .shapes ∷ r .calls ∷ r .redefinitions ∷ bytesOf (r .flat-file)
+said-of r = r .number ∷ r .place ∷ length (bytesOf (r .flat-file)) ∷ r .shapes ∷ r .calls ∷ r .redefinitions ∷ bytesOf (r .flat-file)
 
 abbrev pub said-by : Outcome → List ℕ
-said-by o = given-back o .number ∷ given-back o .place ∷ given-back o .shapes ∷ given-back o .calls ∷ given-back o .redefinitions ∷ flatFile o
+said-by o =
+    given-back o .number ∷ given-back o .place ∷ given-back o .length ∷ given-back o .shapes ∷ given-back o .calls ∷ given-back o .redefinitions
+    ∷ flatFile o
 
 -- an outcome that is promised says it
 pub record Holds (r : Row) : Type 0 where
   pub outcome : Outcome
   pub answers : Answers (bytesOf (r .text)) (r .room) outcome
   pub says : said-by outcome ≡ said-of r
+
+-- a text, and the lines that the list program prints of it
+pub record Printout : Type 0 where
+  pub text : String
+  pub printed : String
+
+abbrev pub prints : String → String → Printout
+prints t p = record { text = t; printed = p }
+
+abbrev pub Printed : Printout → Type 0
+Printed r = Lists (bytesOf (r .text)) (bytesOf (r .printed))
+
+-- each of a list
+abbrev pub Each : {A : Type 0} → (A → Type 0) → List A → Type 0
+Each {A} P rs = (i : ℕ) → i < length rs → (d : A) → P (getD rs i d)
 
 small : List ℕ → Bool
 small [] = true
@@ -82,11 +113,22 @@ same-eq (x ∷ a) (y ∷ b) t = go (eqb x y) refl (same-eq a b) t
 row-holds : Row → Bool
 row-holds r = small (bytesOf (r .text)) && same (said-by (answerOf (bytesOf (r .text)) (r .room))) (said-of r)
 
--- the test; what it computes through is named here once
+print-holds : Printout → Bool
+print-holds r =
+    small (bytesOf (r .text)) && (leb (length (bytesOf (r .text))) 32768 && same (listing (answerOf (bytesOf (r .text)) 32768)) (bytesOf (r .printed)))
+
+every : {A : Type 0} → (A → Bool) → List A → Bool
+every test [] = true
+every test (r ∷ rs) = test r && every test rs
+
+-- the test of rows, and that of printouts; what both compute through is named here once
 unfoldable pub all-hold : List Row → Bool
-unfolding row-holds small flatMap dec has kindOf entryOf nextOf markOf roleOf kinds table marked verdictOf modeAfter any those first same bytesOf worth numbers paired next named turnAt turns commandAt commands after scaled whole scaledShape scaledTurn beyond partsOf shifts bearings distances numbersOf zeroScale least emptyShape degenerate layerless tooMany atNumbers faults allFaults firstFault negative heading rotated act aim inOrder moved offAxes find enter forget stepOf retained deedOf deeds drawShape drawStep drawBody callFault unless drawCall happens tableAfter story counted goOn ending shapesOf digits decimal spaced letterOf said lines flat flatFile given-back fitted drawn outcomeOf fields shapeLines extreme windowLine listing verdict answerOf
-all-hold [] = true
-all-hold (r ∷ rs) = row-holds r && all-hold rs
+unfolding row-holds print-holds every small flatMap has dec kinds table kindOf entryOf nextOf modeAfter markOf roleOf marked verdictOf any those first same bytesOf worth numbers paired next named turnAt turns commandAt commands after scaled whole scaledShape scaledTurn beyond partsOf shifts bearings distances numbersOf zeroScale least emptyShape degenerate layerless tooMany atNumbers faults allFaults firstFault negative heading rotated act aim inOrder moved offAxes find enter forget stepOf retained deedOf deeds drawShape drawStep drawBody callFault unless drawCall happens tableAfter story counted goOn ending shapesOf digits decimal spaced letterOf said lines flat flatFile given-back fitted drawn outcomeOf fields shapeLines extreme windowLine listing verdict answerOf
+all-hold rs = every row-holds rs
+
+unfoldable pub all-print : List Printout → Bool
+unfolding all-hold
+all-print rs = every print-holds rs
 
 row-right : (r : Row) → T (row-holds r) → Holds r
 unfolding row-holds
@@ -96,9 +138,37 @@ row-right r t = record {
   says = same-eq _ _ (and-right (small (bytesOf (r .text))) _ t);
 }
 
--- each row of a list that passes the test is as promised
-pub each : (rs : List Row) → T (all-hold rs) → (i : ℕ) → i < length rs → (d : Row) → Holds (getD rs i d)
+print-right : (r : Printout) → T (print-holds r) → Printed r
+unfolding print-holds
+print-right r h =
+    let t : List ℕ = bytesOf (r .text) in
+    let rest : T (leb (length t) 32768 && same (listing (answerOf t 32768)) (bytesOf (r .printed))) = and-right (small t) _ h in
+    subst
+    (Lists t)
+    (same-eq _ _ (and-right (leb (length t) 32768) _ rest))
+    (within (leb→le (length t) 32768 (and-left (leb (length t) 32768) _ rest)) (right t 32768 (small-bytes t (and-left (small t) _ h))))
+
+by-test : {A : Type 0} (test : A → Bool) (P : A → Type 0) → ((r : A) → T (test r) → P r) → (rs : List A) → T (every test rs) → Each P rs
+unfolding every
+by-test test P right [] t i h d = absurd (not-suc-le-zero h)
+by-test test P right (r ∷ rs) t zero h d = right r (and-left (test r) _ t)
+by-test test P right (r ∷ rs) t (suc i) h d = by-test test P right rs (and-right (test r) _ t) i (le-of-suc-le-suc h) d
+
+-- each row of a list that passes the test is as promised; and so is each printout
+pub each : (rs : List Row) → T (all-hold rs) → Each Holds rs
 unfolding all-hold
-each [] t i h d = absurd (not-suc-le-zero h)
-each (r ∷ rs) t zero h d = row-right r (and-left (row-holds r) _ t)
-each (r ∷ rs) t (suc i) h d = each rs (and-right (row-holds r) _ t) i (le-of-suc-le-suc h) d
+each rs t = by-test row-holds Holds row-right rs t
+
+pub each-print : (rs : List Printout) → T (all-print rs) → Each Printed rs
+unfolding all-print
+each-print rs t = by-test print-holds Printed print-right rs t
+
+-- a text before another, and n times before it: for texts too long to write out
+unfoldable pub before : String → String → String
+before ends s = s
+before (c then r) s = c then (before r s)
+
+unfoldable pub times : ℕ → String → String → String
+unfolding before
+times zero r s = s
+times (suc n) r s = before r (times n r s)
