@@ -6,7 +6,6 @@ use mathlib.Core.Bool.{Bool, true, false, _&&_}
 use mathlib.Core.List.{List, [], _∷_, flatMap}
 use Prim.Native.Nat.{ℕ, zero, suc, _<_, _≤_}
 use Prim.Native.String.{String}
-use Prim.Native.String.{[] as ends, _∷_ as _then_}
 use native.Mathlib.Nat.{not-suc-le-zero, le-of-suc-le-suc}
 use native.Mathlib.Omega.{arith}
 use lib.Dec.{T, ltb, leb, eqb, ltb→lt, leb→le, eqb→eq}
@@ -37,21 +36,28 @@ use Rattle.definition.specs.Computed.{verdict, answerOf}
 -- the end of what tools/rows.py writes here
 
 pub record Row : Type 0 where
-  pub text : String
+  pub text : List ℕ
   pub room : ℕ
   pub number : ℕ
   pub place : ℕ
   pub shapes : ℕ
   pub calls : ℕ
   pub redefinitions : ℕ
-  pub flat-file : String
+  pub flat-file : List ℕ
 
--- an accepted text, with its counts and flat file, and a refused one, with number and place; in a room of n bytes, or else of 32,768
+-- a text that is accepted in a room of this size, with its shapes, calls, redefinitions and flat file; and one that is refused, with number and place
+abbrev pub accepting : ℕ → List ℕ → ℕ → ℕ → ℕ → List ℕ → Row
+accepting n t s c r f = record { text = t; room = n; number = 0; place = 0; shapes = s; calls = c; redefinitions = r; flat-file = f }
+
+abbrev pub refusing : ℕ → List ℕ → ℕ → ℕ → Row
+refusing n t k p = record { text = t; room = n; number = k; place = p; shapes = 0; calls = 0; redefinitions = 0; flat-file = [] }
+
+-- the same of texts that are written out, and in the list program's room
 abbrev pub accepted-in : ℕ → String → ℕ → ℕ → ℕ → String → Row
-accepted-in n t s c r f = record { text = t; room = n; number = 0; place = 0; shapes = s; calls = c; redefinitions = r; flat-file = f }
+accepted-in n t s c r f = accepting n (bytesOf t) s c r (bytesOf f)
 
 abbrev pub refused-in : ℕ → String → ℕ → ℕ → Row
-refused-in n t k p = record { text = t; room = n; number = k; place = p; shapes = 0; calls = 0; redefinitions = 0; flat-file = "" }
+refused-in n t k p = refusing n (bytesOf t) k p
 
 abbrev pub accepted : String → ℕ → ℕ → ℕ → String → Row
 accepted t s c r f = accepted-in 32768 t s c r f
@@ -61,7 +67,7 @@ refused-at t k p = refused-in 32768 t k p
 
 -- what a row says of the answer and the flat file, and what an outcome does; the length is the flat file's
 abbrev pub said-of : Row → List ℕ
-said-of r = r .number ∷ r .place ∷ length (bytesOf (r .flat-file)) ∷ r .shapes ∷ r .calls ∷ r .redefinitions ∷ bytesOf (r .flat-file)
+said-of r = r .number ∷ r .place ∷ length (r .flat-file) ∷ r .shapes ∷ r .calls ∷ r .redefinitions ∷ r .flat-file
 
 abbrev pub said-by : Outcome → List ℕ
 said-by o =
@@ -71,7 +77,7 @@ said-by o =
 -- an outcome that is promised says it
 pub record Holds (r : Row) : Type 0 where
   pub outcome : Outcome
-  pub answers : Answers (bytesOf (r .text)) (r .room) outcome
+  pub answers : Answers (r .text) (r .room) outcome
   pub says : said-by outcome ≡ said-of r
 
 -- a text, and the lines that the list program prints of it
@@ -111,7 +117,7 @@ same-eq (x ∷ a) (y ∷ b) t = go (eqb x y) refl (same-eq a b) t
     go false e f h = absurd h
 
 row-holds : Row → Bool
-row-holds r = small (bytesOf (r .text)) && same (said-by (answerOf (bytesOf (r .text)) (r .room))) (said-of r)
+row-holds r = small (r .text) && same (said-by (answerOf (r .text) (r .room))) (said-of r)
 
 print-holds : Printout → Bool
 print-holds r =
@@ -133,9 +139,9 @@ all-print rs = every print-holds rs
 row-right : (r : Row) → T (row-holds r) → Holds r
 unfolding row-holds
 row-right r t = record {
-  outcome = answerOf (bytesOf (r .text)) (r .room);
-  answers = right (bytesOf (r .text)) (r .room) (small-bytes _ (and-left (small (bytesOf (r .text))) _ t));
-  says = same-eq _ _ (and-right (small (bytesOf (r .text))) _ t);
+  outcome = answerOf (r .text) (r .room);
+  answers = right (r .text) (r .room) (small-bytes _ (and-left (small (r .text)) _ t));
+  says = same-eq _ _ (and-right (small (r .text)) _ t);
 }
 
 print-right : (r : Printout) → T (print-holds r) → Printed r
@@ -162,13 +168,3 @@ each rs t = by-test row-holds Holds row-right rs t
 pub each-print : (rs : List Printout) → T (all-print rs) → Each Printed rs
 unfolding all-print
 each-print rs t = by-test print-holds Printed print-right rs t
-
--- a text before another, and n times before it: for texts too long to write out
-unfoldable pub before : String → String → String
-before ends s = s
-before (c then r) s = c then (before r s)
-
-unfoldable pub times : ℕ → String → String → String
-unfolding before
-times zero r s = s
-times (suc n) r s = before r (times n r s)

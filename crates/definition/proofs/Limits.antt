@@ -1,0 +1,140 @@
+-- The limits of 01, each from both sides: what still passes, and what one more does. Laws and not rows, since a text that reaches most of
+-- them is too long to compute; so a definition whose limit is one off is refused here, whatever its size.
+-- Assumes nothing.
+use mathlib.Core.Path.{_≡_, refl, subst}
+use mathlib.Core.Bool.{Bool, true, false, _&&_}
+use mathlib.Core.List.{List, [], _∷_, _++_}
+use Prim.Native.Nat.{ℕ, zero, suc, _+_, _≤_, _<_}
+use native.Mathlib.Omega.{arith}
+use lib.Dec.{leb}
+use lib.IntN.{ℤ, pos, natAbs}
+use lib.ListN.{length}
+use borrow.Author.Tests.{lt-ltb, le-ltb, le-leb, lt-leb}
+use Rattle.grammar.specs.Steps.{verdictOf}
+use Rattle.grammar.proofs.Verdicts.{Bytes}
+use Rattle.definition.specs.Words.{if_then_else_, any, bytesOf}
+use Rattle.definition.specs.Commands.{Number, Shape, Turn, draw, call}
+use Rattle.definition.specs.Faults.{beyond, partsOf, tooMany}
+use Rattle.definition.specs.Table.{Definition, Table, enter}
+use Rattle.definition.specs.Drawing.{Chain, Drawn, Event, called, drew, entered, refused, define, happens}
+use Rattle.definition.specs.Counts.{Counts, counts, finished, stopped, counted, shapesOf}
+use Rattle.definition.specs.Flat.{decimal, flat}
+use Rattle.definition.specs.Answer.{Outcome, accepted, rejected, fitted, Answers, too-long, not-cif, read}
+use Rattle.definition.specs.Listing.{listing, Lists, over, within}
+use Rattle.definition.specs.Computed.{verdict, answerOf}
+use Rattle.definition.proofs.Right.{right}
+use Rattle.definition.proofs.Rows.{Row, accepting, refusing, Holds, Each, all-hold, each}
+
+-- 3, 6 and 16: 16,777,215
+pub range-reached : (z : ℤ) → natAbs z ≤ 16777215 → beyond z ≡ false
+unfolding beyond
+range-reached z h = le-ltb 16777215 (natAbs z) h
+
+pub range-passed : (z : ℤ) → 16777215 < natAbs z → beyond z ≡ true
+unfolding beyond
+range-passed z h = lt-ltb 16777215 (natAbs z) h
+
+-- 9: 1,024 points and 32 transformations
+pub points-reached : (k : Shape Number) → length (k .points) ≤ 1024 → tooMany (draw k) ≡ false
+unfolding tooMany partsOf any
+points-reached k h = rw (le-ltb 1024 (length (k .points)) h)
+
+pub points-passed : (k : Shape Number) → 1024 < length (k .points) → tooMany (draw k) ≡ true
+unfolding tooMany partsOf any
+points-passed k h = rw (lt-ltb 1024 (length (k .points)) h)
+
+pub turns-reached : (n : Number) (ts : List (Turn Number)) → length ts ≤ 32 → tooMany (call n ts) ≡ false
+unfolding tooMany partsOf any
+turns-reached n ts h = le-ltb 32 (length ts) h
+
+pub turns-passed : (n : Number) (ts : List (Turn Number)) → 32 < length ts → tooMany (call n ts) ≡ true
+unfolding tooMany partsOf any
+turns-passed n ts h = lt-ltb 32 (length ts) h
+
+-- 10: 512 live definitions
+pub table-reached : (t : Table) (d : Definition) → length (enter d t) ≤ 512 → happens t (define d) ≡ entered d t ∷ []
+unfolding happens
+table-reached t d h = rw (le-ltb 512 (length (enter d t)) h)
+
+pub table-passed : (t : Table) (d : Definition) → 512 < length (enter d t) → happens t (define d) ≡ refused 10 (d .place) [] ∷ []
+unfolding happens
+table-passed t d h = rw (lt-ltb 512 (length (enter d t)) h)
+
+-- 15 and 17: 1,048,576 calls and shapes, counted before this one
+module _ (c : Counts) where
+  pub calls-reached : (p : ℕ) (chain : Chain) (d : Definition) → c .calls < 1048576
+      → counted c (called p chain d) ≡ finished (counts (c .calls + 1) (c .shapes) (c .redefinitions))
+  unfolding counted
+  calls-reached p chain d h = rw (lt-ltb (c .calls) 1048576 h)
+
+  pub calls-passed : (p : ℕ) (chain : Chain) (d : Definition) → 1048576 ≤ c .calls → counted c (called p chain d) ≡ stopped 15 p chain
+  unfolding counted
+  calls-passed p chain d h = rw (le-ltb (c .calls) 1048576 h)
+
+  pub shapes-reached : (d : Drawn) → c .shapes < 1048576 → counted c (drew d) ≡ finished (counts (c .calls) (c .shapes + 1) (c .redefinitions))
+  unfolding counted
+  shapes-reached d h = rw (lt-ltb (c .shapes) 1048576 h)
+
+  pub shapes-passed : (d : Drawn) → 1048576 ≤ c .shapes → counted c (drew d) ≡ stopped 17 (d .place) (d .chain)
+  unfolding counted
+  shapes-passed d h = rw (le-ltb (c .shapes) 1048576 h)
+
+-- 18: a flat file of 16,777,216 bytes, in a room that holds it
+module _ (c : Counts) (es : List Event) (room : ℕ) where
+  pub file-reached : length (flat (shapesOf es)) ≤ room → length (flat (shapesOf es)) ≤ 16777216 → fitted (finished c) es room ≡ accepted c es
+  unfolding fitted
+  file-reached h g = rw (le-leb (length (flat (shapesOf es))) room h) (rw (le-leb (length (flat (shapesOf es))) 16777216 g))
+
+  pub room-passed : room < length (flat (shapesOf es)) → fitted (finished c) es room ≡ rejected 18 0 []
+  unfolding fitted
+  room-passed h = rw (lt-leb (length (flat (shapesOf es))) room h)
+
+  pub file-passed : 16777216 < length (flat (shapesOf es)) → fitted (finished c) es room ≡ rejected 18 0 []
+  unfolding fitted
+  file-passed h = rw (lt-leb (length (flat (shapesOf es))) 16777216 h) (neither (leb (length (flat (shapesOf es))) room))
+    where
+      neither : (b : Bool) → (if b && false then accepted c es else rejected 18 0 []) ≡ rejected 18 0 []
+      neither true = refl
+      neither false = refl
+
+-- 1: a text of 16,777,216 bytes is still judged by the grammar, and a longer one has this refusal and no other
+pub text-reached : (t : List ℕ) (room : ℕ) → Bytes t → length t ≤ 16777216 → Answers t room (verdict (verdictOf 0 0 0 t) t room)
+unfolding answerOf
+text-reached t room b h = subst (Answers t room) judged-so (right t room b)
+  where
+    judged-so : answerOf t room ≡ verdict (verdictOf 0 0 0 t) t room
+    judged-so = rw (le-ltb 16777216 (length t) h)
+
+pub text-passed : (t : List ℕ) (room : ℕ) {o : Outcome} → 16777216 < length t → Answers t room o → o ≡ rejected 1 0 []
+text-passed t room h (too-long g) = refl
+text-passed t room h (not-cif g x y) = absurd (omega (arith, h, g))
+text-passed t room h (read g m) = absurd (omega (arith, h, g))
+
+-- and for the list program 32,768 bytes
+pub list-reached : (t : List ℕ) {o : Outcome} → length t ≤ 32768 → Answers t 32768 o → Lists t (listing o)
+list-reached t h a = within h a
+
+pub list-passed : (t : List ℕ) {p : List ℕ} → 32768 < length t → Lists t p → p ≡ listing (rejected 1 0 [])
+list-passed t h (over g) = refl
+list-passed t h (within g a) = absurd (omega (arith, h, g))
+
+-- 14: depth 33, by texts, which are short. The symbols n, n - 1 .. 1 each call the one below: 8 bytes and the digits of two numbers for a symbol
+ladder : ℕ → List ℕ → List ℕ
+unfolding bytesOf decimal
+ladder zero rest = rest
+ladder (suc n) rest = bytesOf "DS" ++ (decimal (pos (suc n)) ++ (bytesOf ";C" ++ (decimal (pos n) ++ (bytesOf ";DF;" ++ ladder n rest))))
+
+-- a ladder of 32 ends at byte 365, and its last call, of symbol 0, stands at 359. At depth 33 the refusals 11, 12 and 13 come before 14
+pub levels : List Row
+unfolding bytesOf ladder
+levels =
+    accepting 2 (ladder 31 (bytesOf "DS0;DF;C31;E")) 0 32 0 (bytesOf "E\n")
+    ∷ refusing 2 (ladder 32 (bytesOf "DS0;DF;C32;E")) 14 359
+    ∷ refusing 2 (ladder 32 (bytesOf "DS1;C0R1 1;DF;C32;E")) 11 369
+    ∷ refusing 2 (ladder 32 (bytesOf "C32;E")) 12 359
+    ∷ refusing 2 (ladder 32 (bytesOf "DS1;C32;DF;C32;E")) 13 369
+    ∷ []
+
+pub levels-hold : Each Holds levels
+unfolding all-hold levels ladder
+levels-hold = each levels tt
