@@ -1,0 +1,51 @@
+#!/usr/bin/env python3
+"""Makes rows of test vectors: tools/vectors.py [FILE], run at the top of the repository; FILE is tests/base.tsv if left out.
+
+FILE has one vector a line, fields parted by tabs: name, size of the room, the text in hex, number, place, length, shapes, calls,
+redefinitions, the flat file in hex; a line that begins with # is passed over. This writes crates/vectors/proofs/Base.antt, where each is
+a row that is proved by computing: the definitions are held to answers that were worked out apart from them. `rt fmt` after it.
+"""
+import sys
+
+SOURCE = sys.argv[1] if len(sys.argv) > 1 else "tests/base.tsv"
+OUT = "crates/vectors/proofs/Base.antt"
+BATCH = 20  # rows of one proof: where one does not compute, its batch is named
+HEAD = """-- The vectors of tests/base.tsv, made into rows by tools/vectors.py: answers that were worked out apart from the definitions.
+-- A trailing comment is the vector's name. They stand in batches, so that a row that does not compute is found.
+-- Assumes nothing.
+use mathlib.Core.List.{List, [], _∷_}
+use Rattle.definition.proofs.Rows.{Row, accepted-in, refused-in, Holds, Each, all-hold, each}
+"""
+
+
+def quoted(data):
+    named = {ord('"'): '\\"', ord("\\"): "\\\\", 10: "\\n"}
+    return '"' + "".join(named.get(c) or (chr(c) if 32 <= c < 127 else "\\u{%x}" % c) for c in data) + '"'
+
+
+def row(line):
+    name, room, text, number, place, length, shapes, calls, again, flat = line.rstrip("\n").split("\t")
+    text, flat = bytes.fromhex(text), bytes.fromhex(flat)
+    if len(flat) != int(length):
+        raise SystemExit(f"vector {name}: the length {length} is not that of its flat file")
+    if number == "0":
+        return f"accepted-in {room} {quoted(text)} {shapes} {calls} {again} {quoted(flat)}", name
+    if (length, shapes, calls, again) != ("0", "0", "0", "0"):
+        raise SystemExit(f"vector {name}: refused, and yet has a length or counts")
+    return f"refused-in {room} {quoted(text)} {number} {place}", name
+
+
+def main():
+    with open(SOURCE, encoding="utf-8") as file:
+        rows = [row(line) for line in file if not line.startswith("#")]
+    out = HEAD
+    for n, k in enumerate(range(0, len(rows), BATCH), 1):
+        listed = "\n    ∷ ".join(f"{text}  -- {name}" for text, name in rows[k:k + BATCH])
+        out += f"\npub rows-{n} : List Row\nrows-{n} =\n    {listed}\n    ∷ []\n"
+        out += f"\npub hold-{n} : Each Holds rows-{n}\nunfolding all-hold rows-{n}\nhold-{n} = each rows-{n} tt\n"
+    with open(OUT, "w", encoding="utf-8") as file:
+        file.write(out)
+    print(f"{OUT}: {len(rows)} rows")
+
+
+main()
