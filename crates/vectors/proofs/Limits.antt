@@ -6,6 +6,7 @@ use mathlib.Core.List.{List, [], _∷_, _++_}
 use Prim.Native.Nat.{ℕ, zero, suc, _+_, _≤_, _<_}
 use Prim.Native.String.{String}
 use native.Mathlib.Omega.{arith}
+use lib.Dec.{lit≤}
 use lib.IntN.{pos}
 use lib.ListN.{length}
 use Rattle.definition.specs.Words.{bytesOf}
@@ -20,7 +21,7 @@ use Rattle.definition.proofs.Limits.{calls-reached, calls-passed, shapes-reache
 use Rattle.definition.proofs.Rows.{Row, accepting, refusing, accepted, refused-at, accepted-in, refused-in, Holds, Each, all-hold, each}
 
 -- n times a text, before another
-times : ℕ → String → List ℕ → List ℕ
+unfoldable pub times : ℕ → String → List ℕ → List ℕ
 unfolding bytesOf
 times zero s rest = rest
 times (suc n) s rest = bytesOf s ++ times n s rest
@@ -31,7 +32,7 @@ unfolding bytesOf decimal
 symbols zero rest = rest
 symbols (suc n) rest = bytesOf "DS" ++ (decimal (pos (suc n)) ++ (bytesOf ";DF;" ++ symbols n rest))
 
-text : String → ℕ → String → String → List ℕ
+unfoldable pub text : String → ℕ → String → String → List ℕ
 unfolding bytesOf
 text before n s behind = bytesOf before ++ times n s (bytesOf behind)
 
@@ -116,3 +117,46 @@ rooms =
 pub rooms-hold : Each Holds rooms
 unfolding all-hold rooms
 rooms-hold = each rooms tt
+
+-- 15 and 17: a drawing that went well so far, and one event more. A text that gets there draws a million times, which is too long to compute
+next-event : (es rest : List Event) (e : Event) {c : Counts} → ending (counts 0 0 0) es ≡ finished c
+    → ending (counts 0 0 0) (es ++ (e ∷ rest)) ≡ goOn (counted c e) (λ c′. ending c′ rest)
+unfolding ending goOn
+next-event es rest e {c} so-far = ending-++ (counts 0 0 0) es (e ∷ rest) ∙ ap (λ (x : End). goOn x (λ c′. ending c′ (e ∷ rest))) so-far
+
+module _ (es rest : List Event) {s r : ℕ} (p : ℕ) (chain : Chain) (d : Definition) where
+  pub call-1048576 : ending (counts 0 0 0) es ≡ finished (counts 1048575 s r)
+      → ending (counts 0 0 0) (es ++ (called p chain d ∷ [])) ≡ finished (counts 1048576 s r)
+  unfolding ending goOn
+  call-1048576 h =
+      next-event es [] (called p chain d) h
+      ∙ ap (λ (x : End). goOn x (λ c′. finished c′)) (calls-reached (counts 1048575 s r) p chain d (omega arith))
+
+  pub call-1048577 : ending (counts 0 0 0) es ≡ finished (counts 1048576 s r)
+      → ending (counts 0 0 0) (es ++ (called p chain d ∷ rest)) ≡ stopped 15 p chain
+  unfolding goOn
+  call-1048577 h =
+      next-event es rest (called p chain d) h
+      ∙ ap (λ (x : End). goOn x (λ c′. ending c′ rest)) (calls-passed (counts 1048576 s r) p chain d (omega arith))
+
+module _ (es rest : List Event) {c r : ℕ} (d : Drawn) where
+  pub shape-1048576 : ending (counts 0 0 0) es ≡ finished (counts c 1048575 r)
+      → ending (counts 0 0 0) (es ++ (drew d ∷ [])) ≡ finished (counts c 1048576 r)
+  unfolding ending goOn
+  shape-1048576 h =
+      next-event es [] (drew d) h ∙ ap (λ (x : End). goOn x (λ c′. finished c′)) (shapes-reached (counts c 1048575 r) d (omega arith))
+
+  pub shape-1048577 : ending (counts 0 0 0) es ≡ finished (counts c 1048576 r)
+      → ending (counts 0 0 0) (es ++ (drew d ∷ rest)) ≡ stopped 17 (d .place) (d .chain)
+  unfolding goOn
+  shape-1048577 h =
+      next-event es rest (drew d) h
+      ∙ ap (λ (x : End). goOn x (λ c′. ending c′ rest)) (shapes-passed (counts c 1048576 r) d (omega arith))
+
+-- 1: whatever the bytes of a longer text are, and for the list program those of one over 32,768
+pub text-too-long : (t : List ℕ) (room : ℕ) → length t ≡ 16777217 → Answers t room (rejected 1 0 [])
+text-too-long t room h = too-long (omega (arith, h))
+
+pub list-too-long : Lists (times 32769 ";" []) (bytesOf "refused\t1\t0\n")
+unfolding all-hold times
+list-too-long = over (lit≤ tt)
