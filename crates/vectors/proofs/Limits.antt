@@ -59,16 +59,14 @@ pub ranges-hold : Each Holds ranges
 unfolding all-hold ranges
 ranges-hold = each ranges tt
 
--- 9: 1,024 points of one shape, not of all; 32 transformations of any kind, drawn or not. 7 and 8 come before it, 12 after
+-- 9: 1,024 points of one shape, not of all; 32 transformations of any kind, drawn or not. 8 comes before it, 12 after
 pub many-points : List Row
 unfolding bytesOf text times
 many-points =
     accepting 4114 (text "LA;W1" 1024 " 0 0" ";W1 0 0;E") 2 0 0 (text "LA;\nW1" 1024 " 0 0" ";\nW1 0 0;\nE\n")
     ∷ refusing 4114 (text "LA;W1" 1025 " 0 0" ";E") 9 3
-    ∷ accepting 4104 (text "LA;P0 0" 1023 " 0 0" ";E") 1 0 0 (text "LA;\nP0 0" 1023 " 0 0" ";\nE\n")
-    ∷ refusing 4104 (text "LA;P0 0" 1024 " 0 0" ";E") 9 3
-    ∷ refusing 4104 (text "W0" 1025 " 0 0" ";E") 7 0
-    ∷ refusing 4104 (text "W1" 1025 " 0 0" ";E") 8 0
+    ∷ refusing 4114 (text "LA;P0 0" 1024 " 0 0" ";E") 9 3
+    ∷ refusing 4114 (text "W1" 1025 " 0 0" ";E") 8 0
     ∷ []
 
 pub many-points-hold : Each Holds many-points
@@ -90,14 +88,13 @@ pub many-turns-hold : Each Holds many-turns
 unfolding all-hold many-turns text times
 many-turns-hold = each many-turns tt
 
--- 10: 512 live definitions and one that replaces; one more; a place freed by DD, and one that is not; and in the order of drawing
+-- 10: 512 live definitions, one replaced, and one entered in a place that DD freed; one more, where DD freed none; and 12 before it in the
+-- order of drawing
 pub many-symbols : List Row
 unfolding bytesOf symbols
 many-symbols =
-    accepting 2 (symbols 512 (bytesOf "DS512;DF;E")) 0 0 1 (bytesOf "E\n")
-    ∷ refusing 2 (symbols 512 (bytesOf "DS0;DF;C513;E")) 10 4500
-    ∷ accepting 2 (symbols 512 (bytesOf "DD512;DS0;DF;E")) 0 0 0 (bytesOf "E\n")
-    ∷ refusing 2 (symbols 512 (bytesOf "DD513;DS0;DF;E")) 10 4506
+    accepting 2 (symbols 512 (bytesOf "DS512;DF;DD512;DS0;DF;E")) 0 0 1 (bytesOf "E\n")
+    ∷ refusing 2 (symbols 512 (bytesOf "DD513;DS0;DF;C513;E")) 10 4506
     ∷ refusing 2 (symbols 512 (bytesOf "C513;DS0;DF;E")) 12 4500
     ∷ []
 

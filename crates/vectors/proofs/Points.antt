@@ -44,7 +44,7 @@ grammar =
     ∷ refused-at "LA;R1 0016777216 0;E" 3 6
     ∷ refused-at "LA;R1 X 0016777216 0;E" 3 8
     -- B10: digits without limit; only the value counts
-    ∷ accepting 21 (text "LA;R1 " 5000 "0" "16777215 0;E") 1 0 0 (bytesOf "LA;\nR1 16777215 0;\nE\n")
+    ∷ accepting 21 (text "LA;R1 " 1000 "0" "16777215 0;E") 1 0 0 (bytesOf "LA;\nR1 16777215 0;\nE\n")
     ∷ []
 
 pub grammar-hold : Each Holds grammar
