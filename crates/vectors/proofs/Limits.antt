@@ -3,7 +3,7 @@
 -- Assumes nothing.
 use mathlib.Core.Path.{_≡_, ap, _∙_}
 use mathlib.Core.List.{List, [], _∷_, _++_}
-use Prim.Native.Nat.{ℕ, zero, suc, _+_, _≤_, _<_}
+use Prim.Native.Nat.{ℕ, zero, suc}
 use Prim.Native.String.{String}
 use native.Mathlib.Omega.{arith}
 use lib.Dec.{lit≤}
@@ -14,8 +14,8 @@ use Rattle.definition.specs.Table.{Definition}
 use Rattle.definition.specs.Drawing.{Chain, Drawn, Event, called, drew}
 use Rattle.definition.specs.Counts.{Counts, counts, End, finished, stopped, counted, goOn, ending}
 use Rattle.definition.specs.Flat.{decimal}
-use Rattle.definition.specs.Answer.{Outcome, rejected, Answers, too-long}
-use Rattle.definition.specs.Listing.{Lists, over, listing}
+use Rattle.definition.specs.Answer.{rejected, Answers, too-long}
+use Rattle.definition.specs.Listing.{Lists, over}
 use Rattle.definition.proofs.Joined.{ending-++}
 use Rattle.definition.proofs.Limits.{calls-reached, calls-passed, shapes-reached, shapes-passed}
 use Rattle.definition.proofs.Rows.{Row, accepting, refusing, accepted, refused-at, accepted-in, refused-in, Holds, Each, all-hold, each}
