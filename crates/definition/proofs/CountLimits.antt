@@ -3,9 +3,8 @@
 -- Assumes nothing.
 use mathlib.Core.Path.{_≡_, refl, ap, _∙_}
 use mathlib.Core.List.{List, [], _∷_, _++_}
-use Prim.Native.Nat.{ℕ, _+_, _≤_, _<_}
+use Prim.Native.Nat.{ℕ, _+_, _≤_}
 use native.Mathlib.Omega.{arith}
-use borrow.Author.Tests.{lt-ltb, le-ltb}
 use lib.ListN.{length}
 use Rattle.definition.specs.Words.{if_then_else_, Placed, none?}
 use Rattle.definition.specs.Table.{Definition, Table, find}
@@ -14,25 +13,7 @@ use Rattle.definition.specs.Counts.{Counts, counts, End, finished, stopp
 use Rattle.definition.proofs.Range.{All}
 use Rattle.definition.proofs.Joined.{ending-++}
 use Rattle.definition.proofs.Counting.{callsOf, redefinitionsOf, drawing-counts}
-
-pub few-calls : (c : Counts) (p : ℕ) (chain : Chain) (d : Definition) → c .calls < 1048576
-    → counted c (called p chain d) ≡ finished (counts (c .calls + 1) (c .shapes) (c .redefinitions))
-unfolding counted
-few-calls c p chain d h = rw (lt-ltb (c .calls) 1048576 h)
-
--- one call more than 1,048,576
-pub call-too-many : (c : Counts) (p : ℕ) (chain : Chain) (d : Definition) → 1048576 ≤ c .calls → counted c (called p chain d) ≡ stopped 15 p chain
-unfolding counted
-call-too-many c p chain d h = rw (le-ltb (c .calls) 1048576 h)
-
-pub few-shapes : (c : Counts) (d : Drawn) → c .shapes < 1048576 → counted c (drew d) ≡ finished (counts (c .calls) (c .shapes + 1) (c .redefinitions))
-unfolding counted
-few-shapes c d h = rw (lt-ltb (c .shapes) 1048576 h)
-
--- one shape more than 1,048,576
-pub shape-too-many : (c : Counts) (d : Drawn) → 1048576 ≤ c .shapes → counted c (drew d) ≡ stopped 17 (d .place) (d .chain)
-unfolding counted
-shape-too-many c d h = rw (le-ltb (c .shapes) 1048576 h)
+use Rattle.definition.proofs.Limits.{calls-reached, calls-passed, shapes-reached, shapes-passed}
 
 -- no refusal of another rule
 unfoldable pub Allowed : Event → Type 0
@@ -56,9 +37,9 @@ finishes-from : (c : Counts) (es : List Event) → All Allowed es → c .calls +
 unfolding All Allowed ending goOn callsOf shapesOf
 finishes-from c [] x a b = (c, refl)
 finishes-from c (called p chain d ∷ es) x a b =
-    rw (few-calls c p chain d (omega arith)) (finishes-from (counts (c .calls + 1) (c .shapes) (c .redefinitions)) es (x .1) (omega arith) b)
+    rw (calls-reached c p chain d (omega arith)) (finishes-from (counts (c .calls + 1) (c .shapes) (c .redefinitions)) es (x .1) (omega arith) b)
 finishes-from c (drew d ∷ es) x a b =
-    rw (few-shapes c d (omega arith)) (finishes-from (counts (c .calls) (c .shapes + 1) (c .redefinitions)) es (x .1) a (omega arith))
+    rw (shapes-reached c d (omega arith)) (finishes-from (counts (c .calls) (c .shapes + 1) (c .redefinitions)) es (x .1) a (omega arith))
 finishes-from c (entered d before ∷ es) x a b =
     rw (entered-counted c d before)
     (finishes-from (counts (c .calls) (c .shapes) (if none? (find (d .symbol) before) then c .redefinitions else c .redefinitions + 1)) es (x .1) a b)
@@ -85,9 +66,9 @@ stops-then before e after number place chain x a b h =
 pub call-1048577 : (before : List Event) (p : ℕ) (chain : Chain) (d : Definition) (after : List Event) → All Allowed before
     → length (callsOf before) ≡ 1048576 → length (shapesOf before) ≤ 1048576 → ending (counts 0 0 0) (before ++ (called p chain d ∷ after)) ≡ stopped 15 p chain
 call-1048577 before p chain d after x a b =
-    stops-then before (called p chain d) after 15 p chain x (omega arith) b (call-too-many _ p chain d (omega arith))
+    stops-then before (called p chain d) after 15 p chain x (omega arith) b (calls-passed _ p chain d (omega arith))
 
 pub shape-1048577 : (before : List Event) (d : Drawn) (after : List Event) → All Allowed before
     → length (callsOf before) ≤ 1048576 → length (shapesOf before) ≡ 1048576 → ending (counts 0 0 0) (before ++ (drew d ∷ after)) ≡ stopped 17 (d .place) (d .chain)
 shape-1048577 before d after x a b =
-    stops-then before (drew d) after 17 (d .place) (d .chain) x a (omega arith) (shape-too-many _ d (omega arith))
+    stops-then before (drew d) after 17 (d .place) (d .chain) x a (omega arith) (shapes-passed _ d (omega arith))

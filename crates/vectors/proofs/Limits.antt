@@ -1,7 +1,7 @@
--- Texts on both sides of every limit that computes, and for the two that do not, 15 and 17, what one call or shape more does to a drawing.
--- Depth 32 and 33, and the law for texts over 16,777,216 bytes, stand in the definitions' own proofs/Limits.antt.
+-- Texts on both sides of every limit that computes. Depth 32 and 33 and the laws of each limit stand in the definition's own proofs/Limits.antt; a
+-- million calls or shapes are too long to compute, and what one more does to such a drawing is shown by its proofs/CountLimits.antt.
 -- Assumes nothing.
-use mathlib.Core.Path.{_≡_, ap, _∙_}
+use mathlib.Core.Path.{_≡_}
 use mathlib.Core.List.{List, [], _∷_, _++_}
 use Prim.Native.Nat.{ℕ, zero, suc}
 use Prim.Native.String.{String}
@@ -10,14 +10,9 @@ use lib.Dec.{lit≤}
 use lib.IntN.{pos}
 use lib.ListN.{length}
 use Rattle.definition.specs.Words.{bytesOf}
-use Rattle.definition.specs.Table.{Definition}
-use Rattle.definition.specs.Drawing.{Chain, Drawn, Event, called, drew}
-use Rattle.definition.specs.Counts.{Counts, counts, End, finished, stopped, counted, goOn, ending}
 use Rattle.definition.specs.Flat.{decimal}
 use Rattle.definition.specs.Answer.{rejected, Answers, too-long}
 use Rattle.definition.specs.Listing.{Lists, over}
-use Rattle.definition.proofs.Joined.{ending-++}
-use Rattle.definition.proofs.Limits.{calls-reached, calls-passed, shapes-reached, shapes-passed}
 use Rattle.definition.proofs.Rows.{Row, accepting, refusing, accepted, refused-at, accepted-in, refused-in, Holds, Each, all-hold, each}
 
 -- n times a text, before another
@@ -114,41 +109,6 @@ rooms =
 pub rooms-hold : Each Holds rooms
 unfolding all-hold rooms
 rooms-hold = each rooms tt
-
--- 15 and 17: a drawing that went well so far, and one event more. A text that gets there draws a million times, which is too long to compute
-next-event : (es rest : List Event) (e : Event) {c : Counts} → ending (counts 0 0 0) es ≡ finished c
-    → ending (counts 0 0 0) (es ++ (e ∷ rest)) ≡ goOn (counted c e) (λ c′. ending c′ rest)
-unfolding ending goOn
-next-event es rest e {c} so-far = ending-++ (counts 0 0 0) es (e ∷ rest) ∙ ap (λ (x : End). goOn x (λ c′. ending c′ (e ∷ rest))) so-far
-
-module _ (es rest : List Event) {s r : ℕ} (p : ℕ) (chain : Chain) (d : Definition) where
-  pub call-1048576 : ending (counts 0 0 0) es ≡ finished (counts 1048575 s r)
-      → ending (counts 0 0 0) (es ++ (called p chain d ∷ [])) ≡ finished (counts 1048576 s r)
-  unfolding ending goOn
-  call-1048576 h =
-      next-event es [] (called p chain d) h
-      ∙ ap (λ (x : End). goOn x (λ c′. finished c′)) (calls-reached (counts 1048575 s r) p chain d (omega arith))
-
-  pub call-1048577 : ending (counts 0 0 0) es ≡ finished (counts 1048576 s r)
-      → ending (counts 0 0 0) (es ++ (called p chain d ∷ rest)) ≡ stopped 15 p chain
-  unfolding goOn
-  call-1048577 h =
-      next-event es rest (called p chain d) h
-      ∙ ap (λ (x : End). goOn x (λ c′. ending c′ rest)) (calls-passed (counts 1048576 s r) p chain d (omega arith))
-
-module _ (es rest : List Event) {c r : ℕ} (d : Drawn) where
-  pub shape-1048576 : ending (counts 0 0 0) es ≡ finished (counts c 1048575 r)
-      → ending (counts 0 0 0) (es ++ (drew d ∷ [])) ≡ finished (counts c 1048576 r)
-  unfolding ending goOn
-  shape-1048576 h =
-      next-event es [] (drew d) h ∙ ap (λ (x : End). goOn x (λ c′. finished c′)) (shapes-reached (counts c 1048575 r) d (omega arith))
-
-  pub shape-1048577 : ending (counts 0 0 0) es ≡ finished (counts c 1048576 r)
-      → ending (counts 0 0 0) (es ++ (drew d ∷ rest)) ≡ stopped 17 (d .place) (d .chain)
-  unfolding goOn
-  shape-1048577 h =
-      next-event es rest (drew d) h
-      ∙ ap (λ (x : End). goOn x (λ c′. ending c′ rest)) (shapes-passed (counts c 1048576 r) d (omega arith))
 
 -- 1: whatever the bytes of a longer text are, and for the list program those of one over 32,768
 pub text-too-long : (t : List ℕ) (room : ℕ) → length t ≡ 16777217 → Answers t room (rejected 1 0 [])
