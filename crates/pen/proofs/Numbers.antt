@@ -1,0 +1,44 @@
+-- The numbers of a line, one by one: a space before each but the first.
+-- Assumes nothing.
+use mathlib.Core.Path.{_≡_, refl, sym, ap, _∙_}
+use mathlib.Core.Bool.{Bool, true, false}
+use mathlib.Core.List.{List, [], _∷_, _++_, append-nil}
+use Prim.Native.Nat.{ℕ, suc, _+_, _≤_, _<_}
+use native.Mathlib.Numerals.{add-one}
+use native.Mathlib.Omega.{arith}
+use borrow.Author.Tests.{ne-eqb}
+use lib.Dec.{eqb}
+use lib.IntN.{ℤ, pos, natAbs}
+use lib.ListN.{length, getD, drop, drop-of-length-le}
+use lib.Seq.{drop-cons}
+use Rattle.definition.specs.Flat.{decimal, spaced}
+use Rattle.pen.specs.Writes.{number}
+use Rattle.pen.proofs.Digits.{decimal-64}
+
+-- the numbers, of which the first is a line's first or not
+unfoldable pub numbersBy : Bool → List ℤ → List ℕ
+numbersBy first [] = []
+numbersBy first (z ∷ zs) = number first z ++ numbersBy false zs
+
+pub spaced-is : (zs : List ℤ) → spaced zs ≡ numbersBy true zs
+unfolding spaced numbersBy
+spaced-is [] = refl
+spaced-is (z ∷ []) = sym (append-nil (decimal z))
+spaced-is (z ∷ y ∷ zs) = ap (λ (l : List ℕ). decimal z ++ l) (others y zs)
+  where
+    others : (y : ℤ) (zs : List ℤ) → 32 ∷ spaced (y ∷ zs) ≡ numbersBy false (y ∷ zs)
+    others y [] = ap (λ (l : List ℕ). 32 ∷ l) (sym (append-nil (decimal y)))
+    others y (x ∷ zs) = ap (λ (l : List ℕ). 32 ∷ (decimal y ++ l)) (others x zs)
+
+-- one more, as a loop over a lent run comes to it
+pub next-number : (zs : List ℤ) (i : ℕ) → i < length zs → numbersBy (eqb i 0) (drop i zs) ≡ number (eqb i 0) (getD zs i (pos 0)) ++ numbersBy (eqb (i + 1) 0) (drop (i + 1) zs)
+unfolding numbersBy
+next-number zs i h = rw (ne-eqb (i + 1) 0 (λ e. omega (arith, e)), drop-cons zs i (pos 0), add-one)
+
+pub no-number : (zs : List ℤ) (i : ℕ) → length zs ≤ i → numbersBy (eqb i 0) (drop i zs) ≡ []
+unfolding numbersBy
+no-number zs i h = rw (drop-of-length-le zs h)
+
+pub number-64 : (first : Bool) (z : ℤ) → natAbs z ≤ 9223372036854775808 → length (number first z) ≤ 21
+number-64 true z h = let q = decimal-64 z h in omega (arith, q)
+number-64 false z h = let q = decimal-64 z h in omega (arith, q)

@@ -1,0 +1,73 @@
+-- Numbers of 64 bits as the code takes their signs apart. A signed value comes wrapped, as its bits read again; here it is unwrapped once.
+-- Assumes nothing.
+use mathlib.Core.Path.{_≡_, refl, sym, ap, _∙_, subst}
+use mathlib.Core.Bool.{Bool, true, false, cond}
+use mathlib.Core.List.{List, _∷_}
+use Prim.Native.Nat.{ℕ, zero, suc, _+_, _≤_, _<_}
+use native.Mathlib.Numerals.{add-one}
+use native.Mathlib.Omega.{arith}
+use borrow.Author.Tests.{ltb-true}
+use lib.IntN.{ℤ, pos, negsuc, natAbs, _+ℤ_, _-ℤ_, +ℤ-idl, +ℤ-one}
+use lib.Signed.{ltZ, mag}
+use mir.Facts.{toZ-ofZ}
+use mir.Syntax.{w64}
+use mir.Val.{SFits, toZ, ofZ}
+use Rattle.definition.specs.Flat.{shortest, decimal}
+
+abbrev pub wrap : ℤ → ℤ
+wrap z = toZ w64 (ofZ w64 z)
+
+-- one is added, the sign is turned, and what comes back is the size less one
+abbrev pub turn : ℤ → ℤ
+turn z = pos 0 -ℤ wrap (wrap z +ℤ pos 1)
+
+pub record Negative (z : ℤ) : Type 0 where
+  pub lower : ℕ
+  pub is : z ≡ negsuc lower
+  pub small : lower < 9223372036854775808
+  pub up-fits : SFits w64 (wrap z +ℤ pos 1)
+  pub turn-fits : SFits w64 (turn z)
+  pub turned : wrap (turn z) ≡ pos lower
+
+pub record Positive (z : ℤ) : Type 0 where
+  pub size : ℕ
+  pub is : z ≡ pos size
+  pub small : size < 9223372036854775808
+
+opposite : (n : ℕ) → pos 0 -ℤ (negsuc n +ℤ pos 1) ≡ pos n
+opposite zero = refl
+opposite (suc n) = rw (+ℤ-one (negsuc (suc n))) (+ℤ-idl (pos (suc n)))
+
+up-small : (n : ℕ) → mag (negsuc n +ℤ pos 1) ≤ n
+up-small zero = omega arith
+up-small (suc n) = rw (+ℤ-one (negsuc (suc n))) (omega arith)
+
+pub negative : (z : ℤ) → SFits w64 z → ltZ (wrap z) (pos 0) ≡ true → Negative z
+negative (pos n) f e = absurd (let t = rw (toZ-ofZ f) at e in omega (arith, ltb-true n 0 t))
+negative (negsuc n) f e =
+    let small : n < 9223372036854775808 = f .sfits in
+    let same : wrap (negsuc n) ≡ negsuc n = toZ-ofZ f in
+    let up : SFits w64 (negsuc n +ℤ pos 1) = record { sfits = omega (arith, up-small n) } in
+    let turned : turn (negsuc n) ≡ pos n = ap (λ (y : ℤ). pos 0 -ℤ wrap (y +ℤ pos 1)) same ∙ ap (λ (y : ℤ). pos 0 -ℤ y) (toZ-ofZ up) ∙ opposite n in
+    let n-fits : SFits w64 (pos n) = record { sfits = omega arith } in
+    record {
+      lower = n;
+      is = refl;
+      small = small;
+      up-fits = subst (λ (y : ℤ). SFits w64 (y +ℤ pos 1)) (sym same) up;
+      turn-fits = subst (SFits w64) (sym turned) n-fits;
+      turned = ap wrap turned ∙ toZ-ofZ n-fits;
+    }
+
+pub positive : (z : ℤ) → SFits w64 z → ltZ (wrap z) (pos 0) ≡ false → Positive z
+positive (pos n) f e = record { size = n; is = refl; small = f .sfits }
+positive (negsuc n) f e = absurd (let t : true ≡ false = rw (toZ-ofZ f) at e in subst (λ (b : Bool). cond b (Unit {0}) ⊥) t tt)
+
+-- the bytes that are written
+pub with-sign : (z : ℤ) (h : Negative z) → 45 ∷ shortest (natAbs (wrap (turn z)) + 1) ≡ decimal z
+unfolding decimal
+with-sign z h = rw (h .turned, h .is, add-one)
+
+pub without-sign : (z : ℤ) → SFits w64 z → (h : Positive z) → shortest (natAbs (wrap z)) ≡ decimal z
+unfolding decimal
+without-sign z f h = rw (toZ-ofZ f, h .is)
