@@ -3,3 +3,4 @@ pub mod Digits
 pub mod Signs
 pub mod Numbers
 pub mod Names
+pub mod Lines

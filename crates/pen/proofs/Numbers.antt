@@ -1,9 +1,9 @@
 -- The numbers of a line, one by one: a space before each but the first.
 -- Assumes nothing.
-use mathlib.Core.Path.{_≡_, refl, sym, ap, _∙_}
+use mathlib.Core.Path.{_≡_, refl, sym, ap, subst}
 use mathlib.Core.Bool.{Bool, true, false}
 use mathlib.Core.List.{List, [], _∷_, _++_, append-nil}
-use Prim.Native.Nat.{ℕ, suc, _+_, _≤_, _<_}
+use Prim.Native.Nat.{ℕ, _+_, _*_, _≤_, _<_}
 use native.Mathlib.Numerals.{add-one}
 use native.Mathlib.Omega.{arith}
 use borrow.Author.Tests.{ne-eqb}
@@ -12,7 +12,8 @@ use lib.IntN.{ℤ, pos, natAbs}
 use lib.ListN.{length, getD, drop, drop-of-length-le}
 use lib.Seq.{drop-cons}
 use Rattle.definition.specs.Flat.{decimal, spaced}
-use Rattle.pen.specs.Writes.{number}
+use Rattle.pen.specs.Writes.{Writes, number}
+use Rattle.pen.proofs.Writing.{Going, begun, goes-on, over}
 use Rattle.pen.proofs.Digits.{decimal-64}
 
 -- the numbers, of which the first is a line's first or not
@@ -42,3 +43,25 @@ no-number zs i h = rw (drop-of-length-le zs h)
 pub number-64 : (first : Bool) (z : ℤ) → natAbs z ≤ 9223372036854775808 → length (number first z) ≤ 21
 number-64 true z h = let q = decimal-64 z h in omega (arith, q)
 number-64 false z h = let q = decimal-64 z h in omega (arith, q)
+
+-- ---- the loop over a run of numbers
+
+-- i of them are written
+pub record Along (old new : List ℕ) (start at : ℕ) (zs : List ℤ) (i : ℕ) : Type 0 where
+  pub within : i ≤ length zs
+  pub short : at ≤ start + 21 * i
+  pub going : Going old new start at (spaced zs) (numbersBy (eqb i 0) (drop i zs))
+
+pub first-along : (room : List ℕ) (start : ℕ) (zs : List ℤ) → Along room room start start zs 0
+first-along room start zs = record { within = omega arith; short = omega arith; going = subst (Going room room start start (spaced zs)) (spaced-is zs) (begun room start (spaced zs)) }
+
+pub next-along : {r₀ r₁ r₂ : List ℕ} {start at next : ℕ} {zs : List ℤ} {i : ℕ} → Along r₀ r₁ start at zs i → i < length zs
+    → natAbs (getD zs i (pos 0)) ≤ 9223372036854775808 → Writes r₁ r₂ at next (number (eqb i 0) (getD zs i (pos 0))) → Along r₀ r₂ start next zs (i + 1)
+next-along {zs = zs} {i} a h n w = record {
+  within = omega arith;
+  short = omega (arith, a .short, w .ends, number-64 (eqb i 0) (getD zs i (pos 0)) n);
+  going = goes-on (number (eqb i 0) (getD zs i (pos 0))) (a .going) (next-number zs i h) w;
+}
+
+pub all-along : {old new : List ℕ} {start at : ℕ} {zs : List ℤ} {i : ℕ} → Along old new start at zs i → length zs ≤ i → Writes old new start at (spaced zs)
+all-along {zs = zs} {i} a h = over (a .going) (no-number zs i h)

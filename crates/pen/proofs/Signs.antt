@@ -8,7 +8,7 @@ use native.Mathlib.Numerals.{add-one}
 use native.Mathlib.Omega.{arith}
 use borrow.Author.Tests.{ltb-true}
 use lib.IntN.{ℤ, pos, negsuc, natAbs, _+ℤ_, _-ℤ_, +ℤ-idl, +ℤ-one}
-use lib.Signed.{ltZ, mag}
+use lib.Signed.{ltZ, mag, natAbs-le}
 use mir.Facts.{toZ-ofZ}
 use mir.Syntax.{w64}
 use mir.Val.{SFits, toZ, ofZ}
@@ -71,3 +71,7 @@ with-sign z h = rw (h .turned, h .is, add-one)
 pub without-sign : (z : ℤ) → SFits w64 z → (h : Positive z) → shortest (natAbs (wrap z)) ≡ decimal z
 unfolding decimal
 without-sign z f h = rw (toZ-ofZ f, h .is)
+
+-- an element of a lent run
+pub lent : (z : ℤ) → mag z < 9223372036854775808 → (wrap z ≡ z) × (natAbs z ≤ 9223372036854775808)
+lent z h = (toZ-ofZ {w = w64} {z = z} (record { sfits = h }), natAbs-le z h)
