@@ -13,10 +13,12 @@ use lib.ListN.{length}
 use Rattle.grammar.specs.Notation.{has, Digit, Upper}
 use Rattle.grammar.proofs.Tests.{and-left, and-right}
 use Rattle.definition.specs.Words.{if_then_else_, same}
+use Rattle.definition.specs.Drawing.{Drawn}
 use Rattle.definition.specs.Flat.{line}
 use Rattle.definition.proofs.Range.{All, all-to}
 use Rattle.definition.proofs.Rows.{same-eq}
 use Rattle.definition.proofs.Spelling.{NameChar}
+use Rattle.definition.proofs.Sound.{Sound}
 use Rattle.pen.specs.Writes.{layerLine}
 use Rattle.pen.specs.Names.{packed, behind, unpacked, nameOf, earlier}
 
@@ -43,6 +45,9 @@ char-byte a (inr h) = within 65 90 a (omega arith) (omega arith) h
 
 pub a-name : (l : List ℕ) → length l ≤ 4 → All NameChar l → Name l
 a-name l h cs = record { short = h; bytes = all-to NameChar NameByte char-byte l cs }
+
+pub sound-name : (d : Drawn) → Sound d → Name (d .layer-of)
+sound-name d s = a-name (d .layer-of) (s .short-name) (s .name-chars)
 
 -- ---- unpacking, byte by byte
 

@@ -31,6 +31,10 @@ both {r₀} {r₁} {r₂} {i} {j} {k} {a} {b} v w =
 pub same-bytes : {old new : List ℕ} {at next : ℕ} {a b : List ℕ} → a ≡ b → Writes old new at next a → Writes old new at next b
 same-bytes {old} {new} {at} {next} e w = subst (Writes old new at next) e w
 
+-- what is written settles the room and the next place
+pub one-outcome : {old new new′ bytes : List ℕ} {at next next′ : ℕ} → Writes old new at next bytes → Writes old new′ at next′ bytes → (new ≡ new′) × (next ≡ next′)
+one-outcome v w = (v .laid ∙ sym (w .laid), v .ends ∙ sym (w .ends))
+
 -- a room that holds what is written from its start on, begins with it and is else as it was
 pub begins : {old new bytes : List ℕ} {next : ℕ} → Writes old new 0 next bytes → length bytes ≤ length old → new ≡ bytes ++ drop (length bytes) old
 begins {old} {new} {bytes} w h =

@@ -120,6 +120,6 @@ pub fn put_end(room: &mut [u8], at: usize) -> usize
     requires { ⌜ at ≤ 2 ^ 60 ⌝ }
     ensures { λ r. ⌜ Writes (now (room .entry)) (now (room .exit)) at r (69 ∷ 10 ∷ []) ⌝ }
 {
-    let next = put(room, at, b'E');
-    put(room, next, 10)
+    let last = put(room, at, b'E');
+    put(room, last, 10)
 }

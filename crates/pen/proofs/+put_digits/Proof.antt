@@ -35,7 +35,7 @@ put-digits-cast-last : (t : ℕ) → put-digits-lts.Need-cast-last (claims t) (p
 put-digits-cast-last t c = omega arith
 
 put-digits-put-requires : (t : ℕ) → put-digits-lts.Need-put-requires (claims t) (put-digits-at t) put-digits.Post
-put-digits-put-requires t c κs = omega (arith, c .before .before .before .pre .1)
+put-digits-put-requires t c κs = omega arith
 
 put-digits-same-length : (t : ℕ) → put-digits-lts.Need-same-length (claims t) (put-digits-at t) put-digits.Post
 put-digits-same-length t c = c .before .before .put .ensures .kept
@@ -44,10 +44,10 @@ put-digits-returns : (t : ℕ) → put-digits-lts.Need-returns (claims t) (put-d
 put-digits-returns t c = same-bytes (sym (one-digit (c .before .before .before .before .before .before .args .n) (c .before .before .before .before .if1 .taken))) (c .before .before .put .ensures)
 
 put-digits-put-digits-requires : (t : ℕ) → put-digits-lts.Need-put-digits-requires (claims t) (put-digits-at t) put-digits.Post
-put-digits-put-digits-requires t c κs = (omega (arith, c .before .before .before .pre .0, c .before .if1 .left), c .before .before .before .pre .1)
+put-digits-put-digits-requires t c κs = (omega arith, c .before .before .before .pre .1)
 
 put-digits-put-requires-2 : (t : ℕ) → put-digits-lts.Need-put-requires-2 (claims t) (put-digits-at t) put-digits.Post
-put-digits-put-requires-2 t c κs = omega (arith, c .before .before .before .put-digits .ensures .ends, digits-64 (c .before .before .before .before .before .before .before .args .n / 10) (omega (arith, c .before .before .before .before .before .before .before .fits .n)), c .before .before .before .before .before .before .before .pre .1)
+put-digits-put-requires-2 t c κs = omega (arith, digits-64 (c .before .before .before .before .before .before .before .args .n / 10) (omega arith))
 
 put-digits-same-length-2 : (t : ℕ) → put-digits-lts.Need-same-length-2 (claims t) (put-digits-at t) put-digits.Post
 put-digits-same-length-2 t c = c .before .before .put2 .ensures .kept ∙ c .before .before .before .before .before .before .put-digits .ensures .kept

@@ -4,23 +4,16 @@ use Rattle.pen.proofs.Writing.{both}
 use borrow.Author.Needs.{needs}
 use Rattle.pen.proofs.put_end.Statement.{statement}
 use Rattle.pen.proofs.put_end.Tie as tie
-use Rattle.pen.proofs.put_end.Reads as reads
-use Rattle.pen.proofs.put_end.Lts as lts
-use Rattle.pen.proofs.put.Reads as put-reads
 
--- src/lib.rt:123:9
 put-requires : tie.Need-put-requires
 put-requires c κs = search needs
 
--- src/lib.rt:124:5
 put-requires-2 : tie.Need-put-requires-2
 put-requires-2 c κs = search needs
 
--- src/lib.rt:119:1
 same-length : tie.Need-same-length
 same-length c = search needs
 
--- src/lib.rt:119:1
 returns : tie.Need-returns
 returns c = both (c .before .before .before .before .before .before .put .ensures) (c .before .before .put2 .ensures)
 

@@ -7,35 +7,24 @@ use Rattle.pen.proofs.Names.{name-length, no-line, a-line}
 use borrow.Author.Needs.{needs}
 use Rattle.pen.proofs.put_layer_line.Statement.{statement}
 use Rattle.pen.proofs.put_layer_line.Tie as tie
-use Rattle.pen.proofs.put_layer_line.Reads as reads
-use Rattle.pen.proofs.put_layer_line.Lts as lts
-use Rattle.pen.proofs.put.Reads as put-reads
-use Rattle.pen.proofs.put_end_of_line.Reads as put-end-of-line-reads
-use Rattle.pen.proofs.put_name.Reads as put-name-reads
 
--- src/lib.rt:111:9
 returns : tie.Need-returns
 returns c = same-bytes (sym (no-line (c .before .before .args .before) (c .before .before .args .layer) (c .if1 .taken))) (nothing _ _)
 
--- src/lib.rt:113:9
 put-requires : tie.Need-put-requires
 put-requires c κs = search needs
 
--- src/lib.rt:114:9
 put-name-requires : tie.Need-put-name-requires
 put-name-requires c κs = search needs
 
--- src/lib.rt:115:5
 put-end-of-line-requires : tie.Need-put-end-of-line-requires
-put-end-of-line-requires c κs = omega (arith, c .before .before .before .before .before .before .before .put .ensures .ends, c .before .before .before .put-name .ensures .ends, name-length (c .before .before .before .before .before .before .before .before .before .before .before .args .layer), c .before .before .before .before .before .before .before .before .before .before .before .pre)
+put-end-of-line-requires c κs = omega (arith, name-length (c .before .before .before .before .before .before .before .before .before .before .before .args .layer))
 
--- src/lib.rt:106:1
 same-length : tie.Need-same-length
 same-length c = search needs
 
--- src/lib.rt:106:1
 returns-2 : tie.Need-returns-2
-returns-2 c = same-bytes (sym (a-line (c .before .before .before .before .before .before .before .before .before .before .before .before .before .before .args .before) (c .before .before .before .before .before .before .before .before .before .before .before .before .before .before .args .layer) (omega (arith, c .before .before .before .before .before .before .before .before .before .before .before .before .before .before .fits .before)) (omega (arith, c .before .before .before .before .before .before .before .before .before .before .before .before .before .before .fits .layer)) (c .before .before .before .before .before .before .before .before .before .before .before .before .if1 .left))) (both (c .before .before .before .before .before .before .before .before .before .before .put .ensures) (both (c .before .before .before .before .before .before .put-name .ensures) (c .before .before .put-end-of-line .ensures)))
+returns-2 c = same-bytes (sym (a-line (c .before .before .before .before .before .before .before .before .before .before .before .before .before .before .args .before) (c .before .before .before .before .before .before .before .before .before .before .before .before .before .before .args .layer) (omega arith) (omega arith) (c .before .before .before .before .before .before .before .before .before .before .before .before .if1 .left))) (both (c .before .before .before .before .before .before .before .before .before .before .put .ensures) (both (c .before .before .before .before .before .before .put-name .ensures) (c .before .before .put-end-of-line .ensures)))
 
 pub put-layer-line-spec : {M : Type 1} → statement M
 put-layer-line-spec =

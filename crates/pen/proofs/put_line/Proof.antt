@@ -4,29 +4,19 @@ use Rattle.pen.proofs.Writing.{both}
 use borrow.Author.Needs.{needs}
 use Rattle.pen.proofs.put_line.Statement.{statement}
 use Rattle.pen.proofs.put_line.Tie as tie
-use Rattle.pen.proofs.put_line.Reads as reads
-use Rattle.pen.proofs.put_line.Lts as lts
-use Rattle.pen.proofs.put.Reads as put-reads
-use Rattle.pen.proofs.put_end_of_line.Reads as put-end-of-line-reads
-use Rattle.pen.proofs.put_numbers.Reads as put-numbers-reads
 
--- src/lib.rt:86:9
 put-requires : tie.Need-put-requires
 put-requires c κs = search needs
 
--- src/lib.rt:87:9
 put-numbers-requires : tie.Need-put-numbers-requires
 put-numbers-requires c κs = search needs
 
--- src/lib.rt:88:5
 put-end-of-line-requires : tie.Need-put-end-of-line-requires
 put-end-of-line-requires c κs = search needs
 
--- src/lib.rt:82:1
 same-length : tie.Need-same-length
 same-length c = search needs
 
--- src/lib.rt:82:1
 returns : tie.Need-returns
 returns c = both (c .before .before .before .before .before .before .before .before .before .before .put .ensures) (both (c .before .before .before .before .before .before .put-numbers .ensures .0) (c .before .before .put-end-of-line .ensures))
 

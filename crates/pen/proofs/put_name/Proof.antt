@@ -9,9 +9,6 @@ use Rattle.pen.proofs.Writing.{Going, begun, goes-on, over, reaches}
 use Rattle.pen.proofs.Names.{name-bytes, name-length, no-name}
 use Rattle.pen.proofs.put_name.Statement.{statement}
 use Rattle.pen.proofs.put_name.Tie as tie
-use Rattle.pen.proofs.put_name.Reads as reads
-use Rattle.pen.proofs.put_name.Lts as lts
-use Rattle.pen.proofs.put.Reads as put-reads
 
 abbrev Inv-loop : tie.InvT-loop
 Inv-loop room₀ start name at₀ rest₀ room at rest = Going room₀ room start at (nameOf name) (nameOf rest) × (rest < 4294967296)
@@ -19,35 +16,27 @@ Inv-loop room₀ start name at₀ rest₀ room at rest = Going room₀ room star
 abbrev μ-loop : tie.MeasureT-loop
 μ-loop room₀ start name at₀ rest₀ room at rest = length (nameOf rest)
 
--- src/lib.rt:98:5
 loop-holds : tie.Need-loop-holds Inv-loop μ-loop
-loop-holds c = (begun _ _ _, omega (arith, c .before .fits .name))
+loop-holds c = (begun _ _ _, omega arith)
 
--- src/lib.rt:99:28
 cast-put : tie.Need-cast-put Inv-loop μ-loop
-cast-put c = omega (arith, c .before .before .loop .inv .1)
+cast-put c = omega arith
 
--- src/lib.rt:99:9
 put-requires : tie.Need-put-requires Inv-loop μ-loop
-put-requires c κs = omega (arith, reaches (c .before .before .loop .inv .0), name-length (c .before .before .before .before .args .name), c .before .before .before .before .pre)
+put-requires c κs = omega (arith, reaches (c .before .before .loop .inv .0), name-length (c .before .before .before .before .args .name))
 
--- src/lib.rt:100:16
 mul-rest : tie.Need-mul-rest Inv-loop μ-loop
 mul-rest c = omega arith
 
--- src/lib.rt:98:5
 loop-less : tie.Need-loop-less Inv-loop μ-loop
 loop-less c = let e = ap length (name-bytes (c .before .before .before .before .before .loop .rest) (c .before .before .before .before .loop-test .taken)) in omega (arith, e)
 
--- src/lib.rt:98:5
 loop-again : tie.Need-loop-again Inv-loop μ-loop
 loop-again c = (goes-on _ (c .before .before .before .before .before .loop .inv .0) (name-bytes (c .before .before .before .before .before .loop .rest) (c .before .before .before .before .loop-test .taken)) (c .before .before .put .ensures), omega arith)
 
--- src/lib.rt:92:1
 same-length : tie.Need-same-length Inv-loop μ-loop
 same-length c = c .before .loop .inv .0 .writes .kept
 
--- src/lib.rt:92:1
 returns : tie.Need-returns Inv-loop μ-loop
 returns c = over (c .before .loop .inv .0) (no-name (c .before .loop .rest) (c .loop-test .left))
 

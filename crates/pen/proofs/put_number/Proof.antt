@@ -6,36 +6,25 @@ use Rattle.pen.proofs.Writing.{both, same-bytes}
 use borrow.Author.Needs.{needs}
 use Rattle.pen.proofs.put_number.Statement.{statement}
 use Rattle.pen.proofs.put_number.Tie as tie
-use Rattle.pen.proofs.put_number.Reads as reads
-use Rattle.pen.proofs.put_number.Lts as lts
-use Rattle.pen.proofs.put.Reads as put-reads
-use Rattle.pen.proofs.put_decimal.Reads as put-decimal-reads
 
--- src/lib.rt:53:9
 put-decimal-requires : tie.Need-put-decimal-requires
 put-decimal-requires c κs = search needs
 
--- src/lib.rt:53:9
 same-length : tie.Need-same-length
 same-length c = search needs
 
--- src/lib.rt:53:9
 returns : tie.Need-returns
 returns c = same-bytes (rw (c .before .before .before .before .if1 .taken)) (rw (toZ-ofZ (c .before .before .before .before .before .before .fits .z)) at (c .before .before .put-decimal .ensures))
 
--- src/lib.rt:55:9
 put-requires : tie.Need-put-requires
 put-requires c κs = search needs
 
--- src/lib.rt:56:5
 put-decimal-requires-2 : tie.Need-put-decimal-requires-2
 put-decimal-requires-2 c κs = search needs
 
--- src/lib.rt:48:1
 same-length-2 : tie.Need-same-length-2
 same-length-2 c = search needs
 
--- src/lib.rt:48:1
 returns-2 : tie.Need-returns-2
 returns-2 c = same-bytes (rw (c .before .before .before .before .before .before .before .before .if1 .left)) (both (c .before .before .before .before .before .before .put .ensures) (rw (toZ-ofZ (c .before .before .before .before .before .before .before .before .before .before .fits .z)) at (c .before .before .put-decimal2 .ensures)))
 

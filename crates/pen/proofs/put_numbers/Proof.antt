@@ -8,9 +8,6 @@ use Rattle.pen.proofs.Signs.{lent}
 use Rattle.pen.proofs.Numbers.{Along, first-along, next-along, all-along}
 use Rattle.pen.proofs.put_numbers.Statement.{statement}
 use Rattle.pen.proofs.put_numbers.Tie as tie
-use Rattle.pen.proofs.put_numbers.Reads as reads
-use Rattle.pen.proofs.put_numbers.Lts as lts
-use Rattle.pen.proofs.put_number.Reads as put-number-reads
 
 abbrev Inv-loop : tie.InvT-loop
 Inv-loop room₀ start numbers at₀ i₀ room at i = Along room₀ room start at numbers i
@@ -18,41 +15,32 @@ Inv-loop room₀ start numbers at₀ i₀ room at i = Along room₀ room start a
 abbrev μ-loop : tie.MeasureT-loop
 μ-loop room₀ start numbers at₀ i₀ room at i = length numbers - i
 
--- src/lib.rt:66:5
 loop-holds : tie.Need-loop-holds Inv-loop μ-loop
 loop-holds c = first-along _ _ _
 
--- src/lib.rt:67:43
 mul-put-number : tie.Need-mul-put-number Inv-loop μ-loop
-mul-put-number c = omega (arith, c .before .loop-test .taken, c .before .before .before .before .pre .1)
+mul-put-number c = omega arith
 
--- src/lib.rt:67:43
 shared-slice-copy-out-put-number : tie.Need-shared-slice-copy-out-put-number Inv-loop μ-loop
-shared-slice-copy-out-put-number c = c .before .loop-test .taken
+shared-slice-copy-out-put-number c = omega arith
 
--- src/lib.rt:67:9
 put-number-requires : tie.Need-put-number-requires Inv-loop μ-loop
-put-number-requires c κs = omega (arith, c .before .before .before .loop .inv .short, c .before .before .before .loop .inv .within, c .before .before .before .before .before .pre .0, c .before .before .before .before .before .pre .1)
+put-number-requires c κs = omega arith
 
--- src/lib.rt:68:9
 add-i : tie.Need-add-i Inv-loop μ-loop
-add-i c = omega (arith, c .before .before .before .before .before .loop-test .taken, c .before .before .before .before .before .before .before .before .pre .1)
+add-i c = omega arith
 
--- src/lib.rt:66:5
 loop-less : tie.Need-loop-less Inv-loop μ-loop
-loop-less c = omega (arith, c .before .before .before .before .before .loop-test .taken)
+loop-less c = omega arith
 
--- src/lib.rt:66:5
 loop-again : tie.Need-loop-again Inv-loop μ-loop
 loop-again c = let z = lent (getD (c .before .before .before .before .before .before .before .before .args .numbers .now) (c .before .before .before .before .before .before .loop .i) (pos 0)) (c .before .before .before .put-number-arg2 .given) in next-along (c .before .before .before .before .before .before .loop .inv) (c .before .before .before .before .before .loop-test .taken) (z .1) (rw (z .0) at (c .before .before .put-number .ensures))
 
--- src/lib.rt:59:1
 same-length : tie.Need-same-length Inv-loop μ-loop
 same-length c = c .before .loop .inv .going .writes .kept
 
--- src/lib.rt:59:1
 returns : tie.Need-returns Inv-loop μ-loop
-returns c = (all-along (c .before .loop .inv) (c .loop-test .left), omega (arith, c .before .loop .inv .short, c .before .loop .inv .within))
+returns c = (all-along (c .before .loop .inv) (c .loop-test .left), omega arith)
 
 pub put-numbers-spec : {M : Type 1} → statement M
 put-numbers-spec =
