@@ -13,9 +13,9 @@ use Rattle.definition.proofs.Lengths.{tens, shortest-length}
 
 -- ---- one digit, and more
 
-pub one-digit : (n : ℕ) → n < 10 → shortest n ≡ (48 + n % 10) ∷ []
+pub one-digit : (n : ℕ) → n < 10 → shortest n ≡ (48 + n) ∷ []
 unfolding digits
-one-digit n h = rw (lt-ltb n 10 h)
+one-digit n h = rw (lt-ltb n 10 h) (ap (λ (k : ℕ). (48 + k) ∷ []) (omega (arith, h)))
 
 -- `shortest` allows more digits than there are: how many does not matter
 any-digits : (n d : ℕ) → n < d → shortest n ≡ digits d n

@@ -24,12 +24,11 @@ pub fn put_digits(room: &mut [u8], at: usize, n: u64) -> usize
     requires { ⌜ at ≤ 2 ^ 62 ⌝ }
     ensures { λ r. ⌜ Writes (now (room .entry)) (now (room .exit)) at r (shortest n) ⌝ }
 {
-    let last = (48 + n % 10) as u8;
     if n < 10 {
-        return put(room, at, last);
+        return put(room, at, (48 + n) as u8);
     }
     let next = put_digits(room, at, n / 10);
-    put(room, next, last)
+    put(room, next, (48 + n % 10) as u8)
 }
 
 // The lowest number of 64 bits has no positive of its own, so one is added before the sign is turned, and again behind.
@@ -84,8 +83,8 @@ pub fn put_line(room: &mut [u8], at: usize, letter: u8, numbers: &[i64]) -> usiz
     ensures { λ r. ⌜ Writes (now (room .entry)) (now (room .exit)) at r (line letter (spaced (now (numbers .entry)))) ⌝ }
 {
     let first = put(room, at, letter);
-    let last = put_numbers(room, first, numbers);
-    put_end_of_line(room, last)
+    let next = put_numbers(room, first, numbers);
+    put_end_of_line(room, next)
 }
 
 // A packed name's bytes, from the highest on until only zeros are left.

@@ -28,11 +28,11 @@ put-digits-below t =
 abbrev claims : ℕ → put-digits-lts.Claims
 claims t = (put-reads.Asked, put-reads.Learnt, put-digits-below t, put-digits.Post)
 
-put-digits-add-last : (t : ℕ) → put-digits-lts.Need-add-last (claims t) (put-digits-at t) put-digits.Post
-put-digits-add-last t c = omega arith
+put-digits-add-put : (t : ℕ) → put-digits-lts.Need-add-put (claims t) (put-digits-at t) put-digits.Post
+put-digits-add-put t c = omega arith
 
-put-digits-cast-last : (t : ℕ) → put-digits-lts.Need-cast-last (claims t) (put-digits-at t) put-digits.Post
-put-digits-cast-last t c = omega arith
+put-digits-cast-put : (t : ℕ) → put-digits-lts.Need-cast-put (claims t) (put-digits-at t) put-digits.Post
+put-digits-cast-put t c = omega arith
 
 put-digits-put-requires : (t : ℕ) → put-digits-lts.Need-put-requires (claims t) (put-digits-at t) put-digits.Post
 put-digits-put-requires t c κs = omega arith
@@ -45,6 +45,12 @@ put-digits-returns t c = same-bytes (sym (one-digit (c .before .before .before .
 
 put-digits-put-digits-requires : (t : ℕ) → put-digits-lts.Need-put-digits-requires (claims t) (put-digits-at t) put-digits.Post
 put-digits-put-digits-requires t c κs = (omega arith, c .before .before .before .pre .1)
+
+put-digits-add-put-2 : (t : ℕ) → put-digits-lts.Need-add-put-2 (claims t) (put-digits-at t) put-digits.Post
+put-digits-add-put-2 t c = omega arith
+
+put-digits-cast-put-2 : (t : ℕ) → put-digits-lts.Need-cast-put-2 (claims t) (put-digits-at t) put-digits.Post
+put-digits-cast-put-2 t c = omega arith
 
 put-digits-put-requires-2 : (t : ℕ) → put-digits-lts.Need-put-requires-2 (claims t) (put-digits-at t) put-digits.Post
 put-digits-put-requires-2 t c κs = omega (arith, digits-64 (c .before .before .before .before .before .before .before .args .n / 10) (omega arith))
@@ -59,12 +65,14 @@ pub +put-digits-spec : {M : Type 1} → statement M
 +put-digits-spec = close μ-put-digits λ t. put-digits-lts.spec (claims t)
     (put-digits-at t)
     put-digits.Post
-    (put-digits-add-last t)
-    (put-digits-cast-last t)
+    (put-digits-add-put t)
+    (put-digits-cast-put t)
     (put-digits-put-requires t)
     (put-digits-same-length t)
     (put-digits-returns t)
     (put-digits-put-digits-requires t)
+    (put-digits-add-put-2 t)
+    (put-digits-cast-put-2 t)
     (put-digits-put-requires-2 t)
     (put-digits-same-length-2 t)
     (put-digits-returns-2 t)

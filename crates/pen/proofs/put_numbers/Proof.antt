@@ -34,7 +34,7 @@ loop-less : tie.Need-loop-less Inv-loop μ-loop
 loop-less c = omega arith
 
 loop-again : tie.Need-loop-again Inv-loop μ-loop
-loop-again c = let z = lent (getD (c .before .before .before .before .before .before .before .before .args .numbers .now) (c .before .before .before .before .before .before .loop .i) (pos 0)) (c .before .before .before .put-number-arg2 .given) in next-along (c .before .before .before .before .before .before .loop .inv) (c .before .before .before .before .before .loop-test .taken) (z .1) (rw (z .0) at (c .before .before .put-number .ensures))
+loop-again c = let z = lent (getD (c .before .before .before .before .before .before .before .before .args .numbers .now) (c .before .before .before .before .before .before .loop .i) (pos 0)) (c .before .before .before .put-number-arg2 .given) in next-along (c .before .before .before .before .before .before .loop .inv) (omega arith) (z .1) (rw (z .0) at (c .before .before .put-number .ensures))
 
 same-length : tie.Need-same-length Inv-loop μ-loop
 same-length c = c .before .loop .inv .going .writes .kept
