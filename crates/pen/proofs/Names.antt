@@ -22,6 +22,11 @@ use Rattle.definition.proofs.Sound.{Sound}
 use Rattle.pen.specs.Writes.{layerLine}
 use Rattle.pen.specs.Names.{packed, behind, unpacked, nameOf, earlier}
 
+-- CM is the bytes 67 and 77, and two of zero
+cm : packed (67 ∷ 77 ∷ []) ≡ ((67 * 256 + 77) * 256 + 0) * 256 + 0
+unfolding packed
+cm = refl
+
 -- ---- a name's bytes
 
 abbrev pub NameByte : ℕ → Type 0

@@ -1,8 +1,8 @@
 -- The numbers of a line, one by one: a space before each but the first.
 -- Assumes nothing.
-use mathlib.Core.Path.{_≡_, refl, sym, ap, subst}
+use mathlib.Core.Path.{_≡_, refl, sym, ap, _∙_, subst}
 use mathlib.Core.Bool.{Bool, true, false}
-use mathlib.Core.List.{List, [], _∷_, _++_, append-nil}
+use mathlib.Core.List.{List, [], _∷_, _++_, append-assoc, append-nil}
 use Prim.Native.Nat.{ℕ, _+_, _*_, _≤_, _<_}
 use native.Mathlib.Numerals.{add-one}
 use native.Mathlib.Omega.{arith}
@@ -11,7 +11,7 @@ use lib.Dec.{eqb}
 use lib.IntN.{ℤ, pos, natAbs}
 use lib.ListN.{length, getD, drop, drop-of-length-le}
 use lib.Seq.{drop-cons}
-use Rattle.definition.specs.Flat.{decimal, spaced}
+use Rattle.definition.specs.Flat.{decimal, spaced, line}
 use Rattle.pen.specs.Writes.{Writes, number}
 use Rattle.pen.proofs.Writing.{Going, begun, goes-on, over}
 use Rattle.pen.proofs.Digits.{decimal-64}
@@ -30,6 +30,18 @@ spaced-is (z ∷ y ∷ zs) = ap (λ (l : List ℕ). decimal z ++ l) (others y zs
     others : (y : ℤ) (zs : List ℤ) → 32 ∷ spaced (y ∷ zs) ≡ numbersBy false (y ∷ zs)
     others y [] = ap (λ (l : List ℕ). 32 ∷ l) (sym (append-nil (decimal y)))
     others y (x ∷ zs) = ap (λ (l : List ℕ). 32 ∷ (decimal y ++ l)) (others x zs)
+
+-- numbers that are written in several runs
+pub numbers-++ : (first : Bool) (z : ℤ) (zs ys : List ℤ) → numbersBy first (z ∷ zs ++ ys) ≡ numbersBy first (z ∷ zs) ++ numbersBy false ys
+unfolding numbersBy
+numbers-++ first z [] ys = ap (λ (l : List ℕ). l ++ numbersBy false ys) (sym (append-nil (number first z)))
+numbers-++ first z (y ∷ zs) ys =
+    ap (λ (l : List ℕ). number first z ++ l) (numbers-++ false y zs ys)
+    ∙ sym (append-assoc (number first z) (numbersBy false (y ∷ zs)) (numbersBy false ys))
+
+-- a line number by number
+pub line-is : (letter : ℕ) (zs : List ℤ) → line letter (spaced zs) ≡ letter ∷ (numbersBy true zs ++ (59 ∷ 10 ∷ []))
+line-is letter zs = ap (line letter) (spaced-is zs)
 
 -- one more, as a loop over a lent run comes to it
 pub next-number : (zs : List ℤ) (i : ℕ) → i < length zs → numbersBy (eqb i 0) (drop i zs) ≡ number (eqb i 0) (getD zs i (pos 0)) ++ numbersBy (eqb (i + 1) 0) (drop (i + 1) zs)
