@@ -1,6 +1,6 @@
 -- Decimals as the code writes them: the digits of a tenth and then the last, behind a minus sign; and how many bytes numbers of 64 bits have.
 -- Assumes nothing.
-use mathlib.Core.Path.{_≡_, refl, sym, ap, _∙_}
+use mathlib.Core.Path.{_≡_, sym, ap}
 use mathlib.Core.List.{List, [], _∷_, _++_}
 use Prim.Native.Nat.{ℕ, zero, suc, _+_, _/_, _%_, _≤_, _<_}
 use native.Mathlib.Omega.{arith}
@@ -9,7 +9,7 @@ use lib.IntN.{ℤ, pos, negsuc, natAbs}
 use lib.ListN.{length}
 use Rattle.definition.specs.Flat.{digits, shortest, decimal}
 use Rattle.definition.proofs.Decimals.{by-shortest}
-use Rattle.definition.proofs.Lengths.{tens, shortest-length}
+use Rattle.definition.proofs.Lengths.{shortest-length}
 
 -- ---- one digit, and more
 

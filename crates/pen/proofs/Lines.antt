@@ -1,10 +1,10 @@
 -- From single writes to the flat file: an L line where the layer differs and a shape's line are what `said` says, those of all shapes drawn are `lines`,
 -- and with the last line behind them the room begins with `flat`. The drawing's loop keeps `Penned`.
 -- Assumes nothing.
-use mathlib.Core.Path.{_≡_, refl, sym, ap, _∙_, subst}
+use mathlib.Core.Path.{_≡_, refl, sym, ap, _∙_}
 use mathlib.Core.Bool.{Bool, true, false}
 use mathlib.Core.List.{List, [], _∷_, _++_, append-nil}
-use Prim.Native.Nat.{ℕ, _+_, _≤_}
+use Prim.Native.Nat.{ℕ, _≤_}
 use native.Mathlib.Omega.{arith}
 use lib.IntN.{ℤ}
 use lib.ListN.{length, drop, length-append}
@@ -77,11 +77,12 @@ penned-limit {done = done} p s n = omega (arith, p .writes .ends, lines-length [
 
 -- ---- the file
 
-pub all-penned : {r₀ r₁ r₂ : List ℕ} {i k layer : ℕ} {ds : List Drawn} → Penned r₀ r₁ i layer ds → Writes r₁ r₂ i k (69 ∷ 10 ∷ []) → Writes r₀ r₂ 0 k (flat ds)
+pub all-penned : {r₀ r₁ r₂ : List ℕ} {i k layer : ℕ} {ds : List Drawn} → Penned r₀ r₁ i layer ds → Writes r₁ r₂ i k (69 ∷ 10 ∷ [])
+    → Writes r₀ r₂ 0 k (flat ds)
 unfolding flat
 all-penned p w = both (p .writes) w
 
 -- a room that holds the flat file begins with it and is else as it was
-pub flat-room : {old new : List ℕ} {next : ℕ} (ds : List Drawn) → Writes old new 0 next (flat ds) → length (flat ds) ≤ length old
-    → new ≡ flat ds ++ drop (length (flat ds)) old
-flat-room ds w h = begins w h
+pub flat-room : {r₀ r₁ r₂ : List ℕ} {i k layer : ℕ} {ds : List Drawn} → Penned r₀ r₁ i layer ds → Writes r₁ r₂ i k (69 ∷ 10 ∷ [])
+    → length (flat ds) ≤ length r₀ → r₂ ≡ flat ds ++ drop (length (flat ds)) r₀
+flat-room p w h = begins (all-penned p w) h

@@ -10,7 +10,7 @@ use native.Mathlib.Omega.{arith}
 use borrow.Author.Tests.{eq-eqb, ne-eqb, eqb-true, eqb-false, lt-ltb, le-ltb, ltb-true, ltb-false}
 use lib.Dec.{T, eqb, ltb, leb, leb→le}
 use lib.ListN.{length}
-use Rattle.grammar.specs.Notation.{has, Digit, Upper}
+use Rattle.grammar.specs.Notation.{has}
 use Rattle.grammar.proofs.Tests.{and-left, and-right}
 use Rattle.definition.specs.Words.{if_then_else_, same}
 use Rattle.definition.specs.Drawing.{Drawn}
@@ -122,8 +122,8 @@ unpacks (suc k) (a ∷ l) h i b =
 pub name-back : (l : List ℕ) → Name l → nameOf (packed l) ≡ l
 name-back l h = unpacks 4 l (h .short) (omega arith) (h .bytes)
 
-pub packed-differ : (l m : List ℕ) → Name l → Name m → packed l ≡ packed m → l ≡ m
-packed-differ l m h i e = sym (name-back l h) ∙ ap nameOf e ∙ name-back m i
+pub packed-same : (l m : List ℕ) → Name l → Name m → packed l ≡ packed m → l ≡ m
+packed-same l m h i e = sym (name-back l h) ∙ ap nameOf e ∙ name-back m i
 
 packs : (k n : ℕ) → packed (unpacked k (behind n)) ≡ behind n → packed (unpacked (suc k) n) ≡ n
 unfolding packed unpacked

@@ -1,6 +1,5 @@
 -- `pen::put_number` meets its contract: the space or none, and the decimal.
 -- Assumes nothing.
-use mathlib.Core.Path.{sym, refl}
 use mir.Facts.{toZ-ofZ}
 use Rattle.pen.proofs.Writing.{both, same-bytes}
 use borrow.Author.Needs.{needs}
