@@ -12,8 +12,7 @@ use lib.Seq.{take-at, drop-at}
 use Rattle.grammar.specs.Notation.{Letter, dec, has, head, skip, stop}
 use Rattle.grammar.specs.Viable.{bytes, Marked}
 use Rattle.grammar.specs.Tables.{letter}
-use Rattle.grammar.proofs.Markings.{match-ascii, one-marking}
-use Rattle.grammar.proofs.Verdicts.{Bytes}
+use Rattle.grammar.proofs.Markings.{one-marking}
 use Rattle.definition.specs.declared.Answer.{Answer}
 use Rattle.definition.specs.Words.{if_then_else_, Placed, at, same}
 use Rattle.definition.specs.Commands.{Kind, box, flash, wire, polygon, Command, draw, layer, call, start, finish, delete, nothing, commandAt, commands, _plays_}
@@ -185,10 +184,6 @@ pub record Demand3 (room : ℕ) (c : Counts) (ds : List Drawn) : Type 0 where
   pub settled : (before left : List ℕ) (r : Answer) → length (flat ds) ≤ length before → Promised (flat ds) before r left
       → (r ≡ answer 0 0 (length (flat ds)) (counts 0 (c .shapes) 0)) × (left ≡ flat ds ++ drop (length (flat ds)) before)
 
--- a grammatical text is ASCII
-marked-bytes : {t : List ℕ} {m : List Letter} → Marked t m → Bytes t
-marked-bytes {t} {m} k = subst Bytes (k .reads) (λ i. let h = match-ascii (k .rule) i in omega arith)
-
 pub demand3 : {t : List ℕ} {room : ℕ} {c : Counts} {es : List Event} → Answers t room (accepted c es) → Demand3 room c (shapesOf es)
 demand3 {t} {room} {c} {es} k = record {
   letters = flatLetters (shapesOf es);
@@ -205,7 +200,7 @@ demand3 {t} {room} {c} {es} k = record {
   same-shapes = again .same-shapes;
   same-bytes = again .same-bytes;
   promised = promised;
-  settled = λ before left r h p. one-answer (flat (shapesOf es)) before (marked-bytes (again .grammatical)) p (promised before h);
+  settled = λ before left r h p. one-answer p (promised before h);
 }
   where
     text : Reading t room c es

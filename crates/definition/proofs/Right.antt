@@ -4,6 +4,7 @@ use mathlib.Core.Path.{_≡_, refl, sym, ap, _∙_, subst}
 use mathlib.Core.Bool.{Bool, true, false, not}
 use mathlib.Core.List.{List, []}
 use Prim.Native.Nat.{ℕ, _≤_}
+use native.Mathlib.Omega.{arith}
 use lib.Dec.{T, ltb, ltb→lt, nltb→le}
 use lib.ListN.{length}
 use Rattle.grammar.specs.Notation.{Letter}
@@ -11,9 +12,10 @@ use Rattle.grammar.specs.Steps.{verdictOf}
 use Rattle.grammar.specs.Viable
 use Rattle.grammar.specs.declared.Verdict.{Verdict}
 use Rattle.grammar.specs.declared.Verdict.the-variants.{InGrammar, StuckAt}
-use Rattle.grammar.proofs.Markings.{marking-is}
+use Rattle.grammar.proofs.Markings.{marking-is, one-marking}
 use Rattle.grammar.proofs.Verdicts.{Bytes, judged}
 use Rattle.grammar.proofs.Unique
+use Rattle.grammar.proofs.Unique.{one-length}
 use borrow.Author.Tests.{lt-ltb, le-ltb}
 use Rattle.definition.specs.Words.{if_then_else_}
 use Rattle.definition.specs.declared.Answer.{Answer}
@@ -50,12 +52,20 @@ settled t room b (read {m} h k) =
     ap (λ (x : List Letter). outcomeOf x room) (marking-is k)
     ∙ sym (to-verdict t room InGrammar h (Unique.one-verdict t (verdictOf 0 0 0 t) InGrammar (judged t b) (m, k)))
 
--- two outcomes that are promised are one
-pub unique : (t : List ℕ) (room : ℕ) → Bytes t → {o p : Outcome} → Answers t room o → Answers t room p → o ≡ p
-unique t room b x y = settled t room b x ∙ sym (settled t room b y)
+-- two outcomes that are allowed are one, whatever the text is
+pub unique : {t : List ℕ} {room : ℕ} {o p : Outcome} → Answers t room o → Answers t room p → o ≡ p
+unique (too-long h) (too-long k) = refl
+unique (too-long h) (not-cif k g l) = absurd (omega arith)
+unique (too-long h) (read k m) = absurd (omega arith)
+unique (not-cif h g l) (too-long k) = absurd (omega arith)
+unique (not-cif h g l) (not-cif k e m) = ap (λ (n : ℕ). rejected 2 n []) (one-length l m)
+unique (not-cif h g l) (read {m} k e) = absurd (g (m, e))
+unique (read h m) (too-long k) = absurd (omega arith)
+unique (read {m} h e) (not-cif k g l) = absurd (g (m, e))
+unique {room = room} (read h m) (read k n) = ap (λ (x : List Letter). outcomeOf x room) (one-marking m n)
 
 -- so the contract settles the answer and the room
-pub one-answer : (t room : List ℕ) → Bytes t → {r r′ : Answer} {left left′ : List ℕ} → Promised t room r left → Promised t room r′ left′ → (r ≡ r′) × (left ≡ left′)
-one-answer t room b p q =
-    let e : p .outcome ≡ q .outcome = unique t (length room) b (p .answers) (q .answers) in
+pub one-answer : {t room : List ℕ} {r r′ : Answer} {left left′ : List ℕ} → Promised t room r left → Promised t room r′ left′ → (r ≡ r′) × (left ≡ left′)
+one-answer {room = room} p q =
+    let e : p .outcome ≡ q .outcome = unique (p .answers) (q .answers) in
     (p .given ∙ ap (λ (o : Outcome). given-back o) e ∙ sym (q .given), p .kept ∙ ap (λ (o : Outcome). roomAfter o room) e ∙ sym (q .kept))

@@ -25,6 +25,10 @@ unfoldable pub nextOf : ℕ → ℕ → ℕ
 unfolding entryOf
 nextOf q k = entryOf q k % roleUnit
 
+-- more comments than this cannot be open, since each takes a byte of the text
+abbrev pub depthLimit : ℕ
+depthLimit = 9223372036854775808
+
 abbrev pub mode : ℕ → ℕ → Mode
 mode q d = record { state = q; depth = d }
 

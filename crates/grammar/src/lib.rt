@@ -3,7 +3,7 @@
 ghost use mathlib.Core.Path.{_≡_};
 ghost use Prim.Native.Nat.{_<_, _/_, _%_};
 ghost use Rattle.grammar.specs.Tables.{stateCount, kindCount, roleUnit};
-ghost use Rattle.grammar.specs.Steps.{kindOf, entryOf, nextOf, mode, entered, within, Moved, KindsLent, NextLent};
+ghost use Rattle.grammar.specs.Steps.{kindOf, entryOf, nextOf, depthLimit, mode, entered, within, Moved, KindsLent, NextLent};
 ghost use Rattle.grammar.specs.Viable.{Judged};
 ghost use Rattle.grammar.specs.Host.{Told};
 
@@ -72,7 +72,7 @@ fn enter(e: usize) -> Move
 
 // Within d comments, before the state q: where a byte of kind k leads to. All of a comment is skipped.
 fn nest(q: usize, d: usize, k: usize) -> Move
-    requires { ⌜ (0 < d) × (d < 9223372036854775808) ⌝ }
+    requires { ⌜ (0 < d) × (d < depthLimit) ⌝ }
     ensures { λ r. ⌜ (mode (r .state) (r .depth) ≡ within q d k) × (r .mark ≡ 0) ⌝ }
 {
     if k == tables::LPAR_KIND {
@@ -106,7 +106,7 @@ fn nest(q: usize, d: usize, k: usize) -> Move
 // One byte further from state q with d comments open.
 pub fn step(kinds: &[u8; 256], next: &[u16; tables::ENTRY_COUNT], q: usize, d: usize, b: u8) -> Move
     requires { ⌜ KindsLent (now kinds) × NextLent (now next) ⌝ }
-    requires { ⌜ (q < stateCount) × (d < 9223372036854775808) ⌝ }
+    requires { ⌜ (q < stateCount) × (d < depthLimit) ⌝ }
     ensures { λ r. ⌜ Moved q d b r ⌝ }
 {
     let k = kind(kinds, b);

@@ -1,6 +1,6 @@
--- Points of 01 that can be read in more than one way, each with a text that tells the readings apart and the answer of the reading chosen.
--- B0 to B33 number these points. Missing are those without a text of their own (B11, B18, B26, B32) and those whose texts stand elsewhere:
--- B12, B19, B22, B25 and B29 in the two files Limits, B33 among the printouts of the definitions' Texts.
+-- The points that the documents leave open, as rows with the choice that docs/DECISIONS.md gives under the number named. Missing are decisions without
+-- a text of their own (12, 19, 33) and those whose texts stand elsewhere: 13, 20, 22, 25 and 28 in the two files Limits, 31 among the printouts
+-- of the definition's Texts.
 -- Assumes nothing.
 use mathlib.Core.List.{List, [], _∷_}
 use Rattle.definition.specs.Words.{bytesOf}
@@ -10,40 +10,40 @@ use Rattle.vectors.proofs.Limits.{text, times}
 pub grammar : List Row
 unfolding bytesOf text times
 grammar =
-    -- B1: a text that is only unfinished is itself the longest prefix that can be completed
+    -- decision 2: a text that is only unfinished is itself the longest prefix that can be completed
     refused-at "LA" 2 2
     ∷ refused-at "(()" 2 3
     ∷ refused-at "DS1;" 2 4
-    -- B2: behind a complete list an upper-case letter is a separator, and commits to more numbers
+    -- decision 3: behind a complete list an upper-case letter is a separator, and commits to more numbers
     ∷ refused-at "LA;B1 2 3 4 X;E" 2 13
     ∷ accepted "LA;B1 2 3 4 X5 6;E" 1 0 0 "LA;\nB1 2 3 4 5 6;\nE\n"
     ∷ refused-at "DS1X;DF;E" 2 4
     ∷ refused-at "DS1DF;E" 2 5
-    -- B3: a minus sign starts no unsigned number, and touches its first digit
+    -- decision 4: a minus sign starts no unsigned number, and touches its first digit
     ∷ refused-at "B1 -2 3 4" 2 3
     ∷ refused-at "LA;B1 2 3 - 4;E" 2 11
-    -- B4: before a layer name stand blanks only
+    -- decision 5: before a layer name stand blanks only
     ∷ refused-at "LX A;E" 2 3
-    -- B5: and before a transformation; behind T and R letters are separators again
+    -- decision 6: and before a transformation; behind T and R letters are separators again
     ∷ refused-at "C1 A;E" 2 3
     ∷ accepted "DS1;DF;C1 then T1 1;E" 0 1 0 "E\n"
     ∷ accepted "DS1;LA;R1 1 1;DF;C1TMX5 0;E" 1 1 0 "LA;\nR1 6 1;\nE\n"
-    -- B6: any semicolon lets blanks stand before E
+    -- decision 7: any semicolon lets blanks stand before E
     ∷ accepted " ;E" 0 0 0 "E\n"
     ∷ accepted "; E" 0 0 0 "E\n"
-    -- B7: control bytes are blanks; bytes from 128 up fit nowhere
+    -- decision 8: control bytes are blanks; bytes from 128 up fit nowhere
     ∷ accepted "(\0\u{7f});9\u{1};\u{1f}E\0\u{7f}" 0 0 0 "E\n"
     ∷ refused-at "E\u{80}" 2 1
     ∷ refused-at "(ÿ);E" 2 1
     ∷ refused-at "9\u{80};E" 2 1
-    -- B8: what a definition may not hold is a matter of grammar
+    -- decision 9: what a definition may not hold is a matter of grammar
     ∷ refused-at "DS1;E" 2 4
     ∷ refused-at "DS1;DD2;DF;E" 2 5
     ∷ refused-at "DS1;DS2;DF;E" 2 5
-    -- B9: a leading zero is the first digit, a leading separator is not
+    -- decision 10: a leading zero is the first digit, a leading separator is not
     ∷ refused-at "LA;R1 0016777216 0;E" 3 6
     ∷ refused-at "LA;R1 X 0016777216 0;E" 3 8
-    -- B10: digits without limit; only the value counts
+    -- decision 11: digits without limit; only the value counts
     ∷ accepting 21 (text "LA;R1 " 1000 "0" "16777215 0;E") 1 0 0 (bytesOf "LA;\nR1 16777215 0;\nE\n")
     ∷ []
 
@@ -53,30 +53,30 @@ grammar-hold = each grammar tt
 
 pub commands : List Row
 commands =
-    -- B0: DS, each command in a definition, and DF are commands of their own
+    -- decision 1: DS, each command in a definition, and DF are commands of their own
     refused-at "DS1;R0 0 0;R99999999 0 0;DF;E" 7 4
-    -- B13: within a command by refusal number, whatever the places
+    -- decision 14: within a command by refusal number, whatever the places
     ∷ refused-at "DS1 3 2;C1T16777214 1;DF;E" 5 20
-    -- B14: a distance that is neither whole nor within the range is 5
+    -- decision 15: a distance that is neither whole nor within the range is 5
     ∷ refused-at "DS1 3 2;LA;R2 16777213 1;DF;E" 5 14
-    -- B15: 3 is for every number, drawn or not
+    -- decision 16: 3 is for every number, drawn or not
     ∷ refused-at "DD16777216;E" 3 2
     ∷ refused-at "DS16777216;DF;E" 3 2
     ∷ refused-at "DS1;C16777216;DF;E" 3 5
     ∷ refused-at "C1R0 16777216;E" 3 5
-    -- B16: and before 4
+    -- decision 17: and before 4
     ∷ refused-at "DS1 16777216 0;DF;E" 3 4
-    -- B17: 7 is also for an R of a call that is never drawn, or of an undefined symbol
+    -- decision 18: 7 is also for an R of a call that is never drawn, or of an undefined symbol
     ∷ refused-at "DS1;C9R0 0;DF;E" 7 4
     ∷ refused-at "C9R0 0;E" 7 0
-    -- B20: 7 before 8, for a zero width of a wire too; a wire of one point is accepted, a polygon of two is not
+    -- decision 32: 7 before 8, for a zero width of a wire too; a wire of one point is accepted, a polygon of two is not
     ∷ refused-at "W0 0 0;E" 7 0
     ∷ accepted "LA;W5 1 2;E" 1 0 0 "LA;\nW5 1 2;\nE\n"
     ∷ refused-at "LA;P0 0 1 1;E" 7 3
     ∷ accepted "LA;P0 0 1 1 0 0;E" 1 0 0 "LA;\nP0 0 1 1 0 0;\nE\n"
-    -- B21: no layer is set again where none was before the DS
+    -- decision 21: no layer is set again where none was before the DS
     ∷ refused-at "DS1;LA;DF;R1 0 0;E" 8 10
-    -- B28: -0 is 0
+    -- decision 27: -0 is 0
     ∷ accepted "LA;R1 -0 -0;E" 1 0 0 "LA;\nR1 0 0;\nE\n"
     ∷ refused-at "LA;B1 1 0 0 -0 0;E" 7 3
     ∷ []
@@ -87,15 +87,15 @@ commands-hold = each commands tt
 
 pub drawing : List Row
 drawing =
-    -- B23: 11 looks at each R by itself
+    -- decision 23: 11 looks at each R by itself
     refused-at "DS1;DF;C1R1 1R1 1;E" 11 7
-    -- B24: 13 goes by symbol number, at any distance
+    -- decision 24: 13 goes by symbol number, at any distance
     ∷ refused-at "DS1;C2;DF;DS2;C1;DF;C1;E" 13 14
-    -- B27: 16 looks at points, and not at how far a shape reaches
+    -- decision 26: 16 looks at points, and not at how far a shape reaches
     ∷ accepted "LA;R16777215 16777215 0;E" 1 0 0 "LA;\nR16777215 16777215 0;\nE\n"
-    -- B30: a direction along x is written as given
+    -- decision 29: a direction along x is written as given
     ∷ accepted "LA;B1 2 3 4 2 0;E" 1 0 0 "LA;\nB1 2 3 4 2 0;\nE\n"
-    -- B31: a symbol number is a number, and not its digits
+    -- decision 30: a symbol number is a number, and not its digits
     ∷ accepted "DS01;DF;DS1;LA;R1 0 0;DF;C001;E" 1 1 1 "LA;\nR1 0 0;\nE\n"
     ∷ []
 
