@@ -1,4 +1,4 @@
--- What the function `answerOf` computes is what is promised; and only one outcome is.
+-- What the function `answerOf` computes is allowed, so that every text of bytes has an outcome; and only one outcome is.
 -- Assumes nothing.
 use mathlib.Core.Path.{_≡_, refl, sym, ap, _∙_, subst}
 use mathlib.Core.Bool.{Bool, true, false, not}
@@ -16,7 +16,6 @@ use Rattle.grammar.proofs.Markings.{marking-is, one-marking}
 use Rattle.grammar.proofs.Verdicts.{Bytes, judged}
 use Rattle.grammar.proofs.Unique
 use Rattle.grammar.proofs.Unique.{one-length}
-use borrow.Author.Tests.{lt-ltb, le-ltb}
 use Rattle.definition.specs.Words.{if_then_else_}
 use Rattle.definition.specs.declared.Answer.{Answer}
 use Rattle.definition.specs.Answer.{Outcome, rejected, given-back, roomAfter, outcomeOf, Answers, too-long, not-cif, read, Promised}
@@ -37,20 +36,6 @@ by-length t room b false e =
 pub right : (t : List ℕ) (room : ℕ) → Bytes t → Answers t room (answerOf t room)
 unfolding answerOf
 right t room b = by-length t room b (ltb 16777216 (length t)) refl
-
--- whatever is promised is what the function computes
-to-verdict : (t : List ℕ) (room : ℕ) (v : Verdict) → length t ≤ 16777216 → verdictOf 0 0 0 t ≡ v → answerOf t room ≡ verdict v t room
-unfolding answerOf
-to-verdict t room v h e = rw (le-ltb 16777216 (length t) h) (ap (λ (x : Verdict). verdict x t room) e)
-
-pub settled : (t : List ℕ) (room : ℕ) → Bytes t → {o : Outcome} → Answers t room o → o ≡ answerOf t room
-unfolding answerOf verdict
-settled t room b (too-long h) = rw (lt-ltb 16777216 (length t) h)
-settled t room b (not-cif {n} h g l) =
-    sym (to-verdict t room (StuckAt n) h (Unique.one-verdict t (verdictOf 0 0 0 t) (StuckAt n) (judged t b) (g, l)))
-settled t room b (read {m} h k) =
-    ap (λ (x : List Letter). outcomeOf x room) (marking-is k)
-    ∙ sym (to-verdict t room InGrammar h (Unique.one-verdict t (verdictOf 0 0 0 t) InGrammar (judged t b) (m, k)))
 
 -- two outcomes that are allowed are one, whatever the text is
 pub unique : {t : List ℕ} {room : ℕ} {o p : Outcome} → Answers t room o → Answers t room p → o ≡ p
