@@ -1,0 +1,51 @@
+-- The letters and the limits that the account names.
+-- Assumes nothing.
+use Prim.Native.Nat.{ℕ}
+use Rattle.pieces.specs.Pieces.{letterS, letterF}
+
+-- first letters of commands
+abbrev pub letterB : ℕ
+letterB = 66
+
+abbrev pub letterC : ℕ
+letterC = 67
+
+abbrev pub letterD : ℕ
+letterD = 68
+
+abbrev pub letterL : ℕ
+letterL = 76
+
+abbrev pub letterP : ℕ
+letterP = 80
+
+abbrev pub letterR : ℕ
+letterR = 82
+
+abbrev pub letterW : ℕ
+letterW = 87
+
+-- those of transformations; R is above
+abbrev pub letterT : ℕ
+letterT = 84
+
+abbrev pub letterM : ℕ
+letterM = 77
+
+-- 01, refusal 9: over 1,024 points or 32 transformations; refusal 7: polygon under 3 points
+abbrev pub mostPoints : ℕ
+mostPoints = 1024
+
+abbrev pub mostTurns : ℕ
+mostTurns = 32
+
+abbrev pub leastPoints : ℕ
+leastPoints = 3
+
+-- above the numbers of the refusals that a command can meet: no refusal
+abbrev pub noRefusal : ℕ
+noRefusal = 10
+
+-- what the first of four letters of a layer's name counts, where the last counts 1
+abbrev pub firstUnit : ℕ
+firstUnit = 16777216

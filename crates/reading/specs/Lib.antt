@@ -1,0 +1,4 @@
+pub mod Letters
+pub mod Written
+pub mod Account
+pub mod Refusal
