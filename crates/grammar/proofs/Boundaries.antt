@@ -125,7 +125,7 @@ unfolding insideBy
 insideAfter i [] = i
 insideAfter i (l ∷ m) = insideAfter (insideBy l i) m
 
-by-letter : (a : ℕ) (i : Bool) (m : ℕ) → a < 256
+pub by-letter : (a : ℕ) (i : Bool) (m : ℕ) → a < 256
     → insideNext m (kindOf a) i ≡ choose (eqb m (number second)) (choose (has 'S' a) true (choose (has 'F' a) false i)) i
 unfolding letterFits
 by-letter a i m h =

@@ -1,0 +1,3 @@
+-- What crates above cite: the laws of capped sizes.
+pub mod Capped
+pub mod Lexing
