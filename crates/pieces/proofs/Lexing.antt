@@ -297,3 +297,7 @@ module _ (t : List ℕ) (q₀ d₀ i₀ q d i p : ℕ) (g : PieceGoing t q₀ d�
                 ∙ ap (λ (x : ℕ). pieces (i + 1) x rest) (ap (λ (k : ℕ). nextPlace k i) ρ ∙ sym ep);
             same = still-inside t q d i hi hb r mv (g .fit) n n₄ ∙ g .same;
           }
+
+-- a piece that a match has told
+pub by-piece : {t : List ℕ} {s : Spot} {x y : Piece} {to : Spot} → x ≡ y → Step t s x to → Step t s y to
+by-piece {t} {s} {x} {y} {to} e k = subst (λ (z : Piece). Step t s z to) e k

@@ -1,9 +1,8 @@
 -- The letters and the limits that the account names.
 -- Assumes nothing.
 use Prim.Native.Nat.{ℕ}
-use Rattle.pieces.specs.Pieces.{letterS, letterF}
 
--- first letters of commands
+-- first letters of commands; the S and the F of DS and DF are in crates/pieces
 abbrev pub letterB : ℕ
 letterB = 66
 
@@ -46,6 +45,13 @@ leastPoints = 3
 abbrev pub noRefusal : ℕ
 noRefusal = 10
 
--- what the first of four letters of a layer's name counts, where the last counts 1
+-- a layer's name as one number: a letter counts 256 times the next, and the last of four counts 1
+abbrev pub byteUnit : ℕ
+byteUnit = 256
+
 abbrev pub firstUnit : ℕ
 firstUnit = 16777216
+
+-- the largest number that a word holds
+abbrev pub widest : ℕ
+widest = 2147483647

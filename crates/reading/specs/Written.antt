@@ -9,7 +9,7 @@ use Rattle.definition.specs.Words.{if_then_else_}
 use Rattle.pieces.specs.Pieces.{insideAfter}
 use Rattle.pieces.specs.declared.Piece.{Piece}
 use Rattle.pieces.specs.declared.Piece.the-variants.{First, Second, Number, Word, Stop}
-use Rattle.reading.specs.Letters.{letterT, letterM, letterR}
+use Rattle.reading.specs.Letters.{letterT, letterM, letterR, byteUnit}
 
 -- a command: its place, its first letter, its other pieces, and whether a semicolon ends it
 pub record Written : Type 0 where
@@ -92,10 +92,10 @@ lastOf w (b ∷ bs) = lastOf b bs
 abbrev pub lastLetter : Written → ℕ
 lastLetter c = lastOf 0 (letters (c .items))
 
--- letters as one number: the first counts u, and each behind it 256 times less
+-- letters as one number: the first counts u, and each behind it 256 times less than the one before
 unfoldable pub packedBy : ℕ → List ℕ → ℕ
 packedBy u [] = 0
-packedBy u (b ∷ bs) = b * u + packedBy (u / 256) bs
+packedBy u (b ∷ bs) = b * u + packedBy (u / byteUnit) bs
 
 -- how many letters begin a transformation
 abbrev pub turning : ℕ → Bool

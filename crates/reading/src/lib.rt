@@ -1,4 +1,33 @@
-// The commands of a CIF text: the first of refusals 2 to 9, and one command decoded to words.
+// The commands of a CIF text: `check` finds the first of refusals 3 to 9 in one pass, `refusal` the first of 2 to 9, and `read_command` decodes one
+// command to words. All take any bytes: where a text leaves the grammar it has no more pieces, and so no more commands.
+ghost use mathlib.Core.Path.{_≡_};
+ghost use mathlib.Core.Bool.{true, false};
+ghost use mathlib.Core.List.{[], _∷_};
+ghost use Prim.Native.Nat.{_+_, _*_, _/_, _<_, _≤_};
+ghost use Rattle.grammar.specs.Steps.{KindsLent, NextLent};
+ghost use Rattle.definition.specs.Words.{if_then_else_};
+ghost use Rattle.pieces.specs.Pieces.{tooLarge, stream, start, Fit};
+ghost use Rattle.reading.specs.Letters.{byteUnit, firstUnit};
+ghost use Rattle.reading.specs.Written.{turning, one};
+ghost use Rattle.reading.specs.Account.{shapely, distance, vital, scaleless, few, bare, pointsOf, many, layerOf, atStart, Checked};
+ghost use Rattle.reading.specs.Along.{emptyNo, numberNo, wholeNo, lower, blamed, kept, begun, idle, counted, worded, afterDoing, finished, runs, Fair, Sane};
+ghost use Rattle.reading.specs.Refusal.{Refuses};
+ghost use Rattle.reading.specs.Words.{held, word, valueOf, letterWords, closing, kindBy, Writes, Lined, lineNumber, lineLetter, Closed, ReadsCommand, ReadsItems};
+
+// 01, refusals 7 and 9.
+const LEAST_POINTS: usize = 3;
+
+const MOST_POINTS: usize = 1024;
+
+const MOST_TURNS: usize = 32;
+// Above the refusals that a command can meet: none.
+const NO_REFUSAL: usize = 10;
+// A layer's name is one number: its first letter counts FIRST_UNIT, and each behind it BYTE_UNIT times less.
+const BYTE_UNIT: usize = 256;
+
+const FIRST_UNIT: usize = 16_777_216;
+// The largest number that a word holds.
+const WIDEST: usize = 2_147_483_647;
 
 // What stands between commands: whether a definition is open, its scale, and the layers set outside and inside, packed, 0 for none.
 pub struct Scope {
@@ -13,4 +42,537 @@ pub struct Scope {
 pub enum Fault {
     Clear,
     Refused(usize, usize),
+}
+
+// The command that is being checked: its place and first letter, its last letter, how many numbers it has had and whether the last was 0, its
+// transformations, what its next letter counts in its name, its second and third number, its name, and its lowest refusal so far with the place.
+pub struct Doing {
+    pub busy: bool,
+    pub place: usize,
+    pub letter: u8,
+    pub word: u8,
+    pub count: usize,
+    pub zero: bool,
+    pub turns: usize,
+    pub unit: usize,
+    pub a: usize,
+    pub b: usize,
+    pub name: usize,
+    pub no: usize,
+    pub at: usize,
+}
+
+// How a command ends: what stands then, or its refusal and the place.
+pub enum Ended {
+    Then(Scope),
+    Broken(usize, usize),
+}
+
+// The command that is being decoded: where its next word goes, its last letter, how many numbers it has had, what its next letter counts in its
+// name, and its name.
+pub struct Line {
+    pub at: usize,
+    pub word: u8,
+    pub count: usize,
+    pub unit: usize,
+    pub name: usize,
+}
+
+// A decoded command: its kind, its place, how many words it has, and where the next begins; or that no command is left.
+pub enum Read {
+    Decoded(u8, usize, usize, pieces::Spot),
+    Nothing,
+}
+
+fn wide(b: u8) -> usize
+    ensures { λ r. ⌜ r ≡ b ⌝ }
+{
+    b as usize
+}
+
+fn is_shape(letter: u8) -> bool
+    ensures { λ r. ⌜ r ≡ shapely letter ⌝ }
+{
+    if letter == b'B' {
+        return true;
+    }
+    if letter == b'P' {
+        return true;
+    }
+    if letter == b'R' {
+        return true;
+    }
+    letter == b'W'
+}
+
+// What is scaled: all but symbol numbers, a and b, and the directions of boxes and of R.
+fn is_distance(letter: u8, word: u8, index: usize) -> bool
+    ensures { λ r. ⌜ r ≡ distance letter word index ⌝ }
+{
+    if letter == b'B' {
+        return index < 4;
+    }
+    if letter == b'C' {
+        return word == b'T';
+    }
+    is_shape(letter)
+}
+
+// What may not be 0: a length, a width, a diameter, or the second number of a direction whose first is 0.
+fn is_vital(letter: u8, word: u8, index: usize, zero: bool) -> bool
+    ensures { λ r. ⌜ r ≡ vital letter word index zero ⌝ }
+{
+    if letter == b'B' {
+        if index < 2 {
+            return true;
+        }
+        if index == 5 {
+            return zero;
+        }
+        return false;
+    }
+    if letter == b'C' {
+        if word == b'R' {
+            if index % 2 == 0 {
+                return zero;
+            }
+            return false;
+        }
+        return false;
+    }
+    if index == 0 {
+        if letter == b'R' {
+            return true;
+        }
+        return letter == b'W';
+    }
+    false
+}
+
+fn empty_no(letter: u8, word: u8, index: usize, zero: bool, n: usize) -> usize
+    ensures { λ r. ⌜ r ≡ emptyNo letter word index zero n ⌝ }
+{
+    if n == 0 {
+        if is_vital(letter, word, index, zero) {
+            return 7;
+        }
+        return NO_REFUSAL;
+    }
+    NO_REFUSAL
+}
+
+// The lowest refusal that a number meets. At a scale of a = b, and so outside definitions, nothing is divided; elsewhere once.
+fn number_no(a: usize, b: usize, letter: u8, word: u8, index: usize, zero: bool, n: usize) -> usize
+    requires { ⌜ (a ≤ tooLarge) × (1 ≤ b) ⌝ }
+    ensures { λ r. ⌜ r ≡ numberNo a b letter word index zero n ⌝ }
+{
+    if pieces::LARGEST < n {
+        return 3;
+    }
+    if a == b {
+        return empty_no(letter, word, index, zero, n);
+    }
+    if is_distance(letter, word, index) {
+        let x = a * n;
+        let scaled = x / b;
+        if scaled * b == x {
+            if pieces::LARGEST < scaled {
+                return 6;
+            }
+            return empty_no(letter, word, index, zero, n);
+        }
+        return 5;
+    }
+    empty_no(letter, word, index, zero, n)
+}
+
+fn is_scaleless(letter: u8, word: u8, a: usize, b: usize) -> bool
+    ensures { λ r. ⌜ r ≡ scaleless letter word a b ⌝ }
+{
+    if letter == b'D' {
+        if word == b'S' {
+            if a == 0 {
+                return true;
+            }
+            return b == 0;
+        }
+        return false;
+    }
+    false
+}
+
+fn is_few(letter: u8, count: usize) -> bool
+    ensures { λ r. ⌜ r ≡ few letter count ⌝ }
+{
+    if letter == b'P' {
+        return count / 2 < LEAST_POINTS;
+    }
+    false
+}
+
+fn is_bare(letter: u8, layer: usize) -> bool
+    ensures { λ r. ⌜ r ≡ bare letter layer ⌝ }
+{
+    if is_shape(letter) {
+        return layer == 0;
+    }
+    false
+}
+
+fn points_of(letter: u8, count: usize) -> usize
+    ensures { λ r. ⌜ r ≡ pointsOf letter count ⌝ }
+{
+    if letter == b'P' {
+        return count / 2;
+    }
+    if letter == b'W' {
+        if count == 0 {
+            return 0;
+        }
+        return (count - 1) / 2;
+    }
+    0
+}
+
+fn is_many(letter: u8, count: usize, turns: usize) -> bool
+    ensures { λ r. ⌜ r ≡ many letter count turns ⌝ }
+{
+    if letter == b'C' {
+        return MOST_TURNS < turns;
+    }
+    let n = points_of(letter, count);
+    MOST_POINTS < n
+}
+
+// The lowest refusal that a whole command meets.
+fn whole_no(
+    letter: u8,
+    word: u8,
+    count: usize,
+    turns: usize,
+    a: usize,
+    b: usize,
+    layer: usize,
+) -> usize
+    ensures { λ r. ⌜ r ≡ wholeNo letter word count turns a b layer ⌝ }
+{
+    if is_scaleless(letter, word, a, b) {
+        return 4;
+    }
+    if is_few(letter, count) {
+        return 7;
+    }
+    if is_bare(letter, layer) {
+        return 8;
+    }
+    if is_many(letter, count, turns) {
+        return 9;
+    }
+    NO_REFUSAL
+}
+
+fn lower_of(k: usize, n: usize) -> usize
+    ensures { λ r. ⌜ r ≡ lower k n ⌝ }
+{
+    if k < n {
+        return k;
+    }
+    n
+}
+
+// Where the lower of two refusals is placed: 7 at the command, any other at its number.
+fn blamed_at(k: usize, n: usize, here: usize, place: usize, at: usize) -> usize
+    ensures { λ r. ⌜ r ≡ blamed k n here place at ⌝ }
+{
+    if k < n {
+        if k == 7 {
+            return place;
+        }
+        return here;
+    }
+    at
+}
+
+fn keep(i: usize, k: usize, n: usize, old: usize) -> usize
+    ensures { λ r. ⌜ r ≡ kept i k n old ⌝ }
+{
+    if i == k {
+        return n;
+    }
+    old
+}
+
+fn is_turning(b: u8) -> bool
+    ensures { λ r. ⌜ r ≡ turning b ⌝ }
+{
+    if b == b'T' {
+        return true;
+    }
+    if b == b'M' {
+        return true;
+    }
+    b == b'R'
+}
+
+fn more_turns(turns: usize, b: u8) -> usize
+    requires { ⌜ turns ≤ 9223372036854775808 ⌝ }
+    ensures { λ r. ⌜ r ≡ turns + one (turning b) ⌝ }
+{
+    if is_turning(b) {
+        return turns + 1;
+    }
+    turns
+}
+
+fn begin(place: usize, letter: u8) -> Doing
+    ensures { λ r. ⌜ r ≡ begun place letter ⌝ }
+{
+    Doing {
+        busy: true,
+        place,
+        letter,
+        word: 0,
+        count: 0,
+        zero: false,
+        turns: 0,
+        unit: FIRST_UNIT,
+        a: 1,
+        b: 1,
+        name: 0,
+        no: NO_REFUSAL,
+        at: 0,
+    }
+}
+
+fn rest() -> Doing
+    ensures { λ r. ⌜ r ≡ idle ⌝ }
+{
+    Doing {
+        busy: false,
+        place: 0,
+        letter: 0,
+        word: 0,
+        count: 0,
+        zero: false,
+        turns: 0,
+        unit: FIRST_UNIT,
+        a: 1,
+        b: 1,
+        name: 0,
+        no: NO_REFUSAL,
+        at: 0,
+    }
+}
+
+fn add_number(s: Scope, c: Doing, p: usize, n: usize) -> Doing
+    requires { ⌜ Fair s × Sane 9223372036854775808 c ⌝ }
+    ensures { λ r. ⌜ r ≡ counted s c p n ⌝ }
+{
+    let k = number_no(s.a, s.b, c.letter, c.word, c.count, c.zero, n);
+    let a = keep(c.count, 1, n, c.a);
+    let b = keep(c.count, 2, n, c.b);
+    let no = lower_of(k, c.no);
+    let at = blamed_at(k, c.no, p, c.place, c.at);
+    Doing {
+        busy: c.busy,
+        place: c.place,
+        letter: c.letter,
+        word: c.word,
+        count: c.count + 1,
+        zero: n == 0,
+        turns: c.turns,
+        unit: c.unit,
+        a,
+        b,
+        name: c.name,
+        no,
+        at,
+    }
+}
+
+fn add_letter(c: Doing, w: u8) -> Doing
+    requires { ⌜ Sane 9223372036854775808 c ⌝ }
+    ensures { λ r. ⌜ r ≡ worded c w ⌝ }
+{
+    let turns = more_turns(c.turns, w);
+    Doing {
+        busy: c.busy,
+        place: c.place,
+        letter: c.letter,
+        word: w,
+        count: c.count,
+        zero: c.zero,
+        turns,
+        unit: c.unit / BYTE_UNIT,
+        a: c.a,
+        b: c.b,
+        name: c.name + wide(w) * c.unit,
+        no: c.no,
+        at: c.at,
+    }
+}
+
+fn layer_now(s: Scope) -> usize
+    ensures { λ r. ⌜ r ≡ layerOf s ⌝ }
+{
+    let i = s.inside;
+    if i {
+        return s.inner;
+    }
+    s.outer
+}
+
+fn after_command(s: Scope, c: Doing) -> Scope
+    ensures { λ r. ⌜ r ≡ afterDoing s c ⌝ }
+{
+    let l = c.letter;
+    let w = c.word;
+    let i = s.inside;
+    if l == b'D' {
+        if w == b'S' {
+            return Scope {
+                inside: true,
+                a: c.a,
+                b: c.b,
+                outer: s.outer,
+                inner: 0,
+            };
+        }
+        if w == b'F' {
+            return Scope {
+                inside: false,
+                a: 1,
+                b: 1,
+                outer: s.outer,
+                inner: 0,
+            };
+        }
+        return s;
+    }
+    if l == b'L' {
+        if i {
+            return Scope {
+                inside: true,
+                a: s.a,
+                b: s.b,
+                outer: s.outer,
+                inner: c.name,
+            };
+        }
+        return Scope {
+            inside: false,
+            a: s.a,
+            b: s.b,
+            outer: c.name,
+            inner: s.inner,
+        };
+    }
+    s
+}
+
+fn finish(s: Scope, c: Doing) -> Ended
+    ensures { λ r. ⌜ r ≡ finished s c ⌝ }
+{
+    let busy = c.busy;
+    if busy {
+        let layer = layer_now(s);
+        let k = whole_no(c.letter, c.word, c.count, c.turns, c.a, c.b, layer);
+        let no = c.no;
+        if k < no {
+            return Ended::Broken(k, c.place);
+        }
+        if no < NO_REFUSAL {
+            return Ended::Broken(no, c.at);
+        }
+        return Ended::Then(after_command(s, c));
+    }
+    Ended::Then(s)
+}
+
+fn at_end(s: Scope, c: Doing) -> Fault
+    ensures { λ r. ⌜ r ≡ runs [] s c ⌝ }
+{
+    match finish(s, c) {
+        Ended::Then(_) => Fault::Clear,
+        Ended::Broken(no, at) => Fault::Refused(no, at),
+    }
+}
+
+fn checked(text: &[u8], kinds: &[u8; 256], next: &[u16; grammar::tables::ENTRY_COUNT]) -> Fault
+    requires { ⌜ KindsLent (now kinds) × NextLent (now next) ⌝ }
+    ensures { λ r. ⌜ r ≡ runs (stream (now (text .entry)) start) atStart idle ⌝ }
+{
+    let mut spot = pieces::Spot {
+        at: 0,
+        state: 0,
+        depth: 0,
+    };
+    let mut s = Scope {
+        inside: false,
+        a: 1,
+        b: 1,
+        outer: 0,
+        inner: 0,
+    };
+    let mut c = rest();
+    loop {
+        match pieces::next_piece(text, kinds, next, spot) {
+            pieces::Found::End => {
+                return at_end(s, c);
+            }
+            pieces::Found::Got(x, to) => match x {
+                pieces::Piece::Number(p, _, n) => {
+                    c = add_number(s, c, p, n);
+                    spot = to;
+                }
+                pieces::Piece::First(p, l) => match finish(s, c) {
+                    Ended::Then(t) => {
+                        s = t;
+                        c = begin(p, l);
+                        spot = to;
+                    }
+                    Ended::Broken(no, at) => {
+                        return Fault::Refused(no, at);
+                    }
+                },
+                pieces::Piece::Second(w) => {
+                    c = add_letter(c, w);
+                    spot = to;
+                }
+                pieces::Piece::Word(w) => {
+                    c = add_letter(c, w);
+                    spot = to;
+                }
+                pieces::Piece::Stop => match finish(s, c) {
+                    Ended::Then(t) => {
+                        s = t;
+                        c = rest();
+                        spot = to;
+                    }
+                    Ended::Broken(no, at) => {
+                        return Fault::Refused(no, at);
+                    }
+                },
+            },
+        }
+    }
+}
+
+// The first of refusals 3 to 9, if the text is one of the grammar.
+pub fn check(text: &[u8]) -> Fault
+    ensures { λ r. ⌜ Checked (now (text .entry)) r ⌝ }
+{
+    let kinds = grammar::tables::KINDS;
+    let next = grammar::tables::NEXT;
+    checked(text, &kinds, &next)
+}
+
+// The first of refusals 2 to 9.
+pub fn refusal(text: &[u8]) -> Fault
+    ensures { λ r. ⌜ Refuses (now (text .entry)) r ⌝ }
+{
+    match grammar::recognise(text) {
+        grammar::Verdict::StuckAt(n) => Fault::Refused(2, n),
+        grammar::Verdict::InGrammar => check(text),
+    }
 }

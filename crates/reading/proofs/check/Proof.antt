@@ -1,0 +1,23 @@
+-- `check` meets its contract: the marking that the code reads is the only one, and what it keeps comes to the account.
+-- Assumes nothing.
+use mathlib.Core.Path.{sym, ap, _∙_}
+use borrow.Author.Needs.{needs}
+use mathlib.Core.List.{List}
+use Rattle.grammar.specs.Notation.{Letter}
+use Rattle.grammar.specs.Tables.{kinds, table}
+use Rattle.grammar.proofs.Markings.{marking-is}
+use Rattle.pieces.specs.Pieces.{stream, start}
+use Rattle.reading.specs.Account.{atStart, faultOf}
+use Rattle.reading.proofs.Meaning.{runs-first}
+use Rattle.reading.proofs.check.Statement.{statement}
+use Rattle.reading.proofs.check.Tie as tie
+
+checked-requires : tie.Need-checked-requires
+unfolding kinds table
+checked-requires c κs = search needs
+
+returns : tie.Need-returns
+returns c = record { is = λ m k. c .checked .ensures ∙ runs-first (stream (c .before .before .before .before .args .text .now) start) atStart ∙ ap (λ (l : List Letter). faultOf l) (sym (marking-is k)) }
+
+pub check-spec : {M : Type 1} → statement M
+check-spec = tie.close (tie.spec checked-requires returns)
