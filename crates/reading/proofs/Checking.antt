@@ -18,7 +18,7 @@ use Rattle.pieces.specs.declared.Piece.the-variants.{First, Second, Number, Wor
 use Rattle.reading.specs.Letters.{letterD, letterL, noRefusal, byteUnit, firstUnit}
 use Rattle.pieces.specs.Pieces.{letterS, letterF}
 use Rattle.reading.specs.Written.{one, turning}
-use Rattle.reading.specs.Account.{scaleless, few, bare, many, layerOf, atStart}
+use Rattle.reading.specs.Account.{scaleless, few, bare, many, layerOf, scope, atStart}
 use Rattle.reading.specs.Along.{numberNo, wholeNo, lower, blamed, kept, begun, idle, counted, worded, afterDoing, finished, onward, runs, Fair, Sane}
 use Rattle.reading.specs.declared.Scope.{Scope}
 use Rattle.reading.specs.declared.Doing.{Doing}
@@ -73,8 +73,8 @@ fair-after s c f ha h = go (eqb (c .letter) letterD) (eqb (c .word) letterS) (eq
   where
     go : (l w v n i z y : Bool) → eqb (c .b) 0 ≡ y → (l && (w && (z || y))) ≡ false
         → Fair
-        (choose l (choose w (record { inside = true; a = c .a; b = c .b; outer = s .outer; inner = 0 }) (choose v (record { inside = false; a = 1; b = 1; outer = s .outer; inner = 0 }) s))
-        (choose n (choose i (record { inside = true; a = s .a; b = s .b; outer = s .outer; inner = c .name }) (record { inside = false; a = s .a; b = s .b; outer = c .name; inner = s .inner })) s))
+        (choose l (choose w (scope true (c .a) (c .b) (s .outer) 0) (choose v (scope false 1 1 (s .outer) 0) s))
+        (choose n (choose i (scope true (s .a) (s .b) (s .outer) (c .name)) (scope false (s .a) (s .b) (c .name) (s .inner))) s))
     go true true v n i true y e g = absurd (let z : _≡_ {A = ℕ} 0 1 = cc in omega arith)
     go true true v n i false true e g = absurd (let z : _≡_ {A = ℕ} 0 1 = cc in omega arith)
     go true true v n i false false e g = record { a = ha; b = let k = eqb-false (c .b) 0 e in omega arith }
@@ -154,12 +154,12 @@ pub record Checking (t : List ℕ) (spot : Spot) (s : Scope) (c : Doing) : Type 
   pub sane : Sane (spot .at) c
   pub is : runs (stream t spot) s c ≡ runs (stream t start) atStart idle
 
-pub checking-start : (t : List ℕ) (c : Doing) → c ≡ idle → Checking t start atStart c
-checking-start t c e = record {
+pub checking-start : (t : List ℕ) (s : Scope) (c : Doing) → s ≡ atStart → c ≡ idle → Checking t start s c
+checking-start t s c es e = record {
   fit = record { within = omega arith; state = omega arith; depth = omega arith };
-  fair = record { a = omega arith; b = omega arith };
+  fair = subst Fair (sym es) (record { a = omega arith; b = omega arith });
   sane = subst (Sane 0) (sym e) (sane-idle 0);
-  is = ap (λ (d : Doing). runs (stream t start) atStart d) e;
+  is = ap (λ (d : Doing). runs (stream t start) s d) e ∙ ap (λ (d : Scope). runs (stream t start) d idle) es;
 }
 
 module _ (t : List ℕ) (spot : Spot) (s : Scope) (c : Doing) (g : Checking t spot s c) where

@@ -4,4 +4,5 @@ pub mod Scaling
 pub mod Checking
 pub mod Meaning
 pub mod Unique
+pub mod Wording
 pub mod Texts

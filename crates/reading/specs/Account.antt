@@ -105,16 +105,14 @@ abbrev pub faultBy : Blame → Fault → Fault
 faultBy x f = if ltb (x .no) noRefusal then Refused (x .no) (x .place) else f
 
 -- what stands behind a command with the first letter l, the last letter w, the scale a, b and the name: DS opens a definition with no layer set, DF
--- closes it, and L sets the layer inside or outside
+-- closes it, and L sets the layer where it stands
+abbrev pub scope : Bool → ℕ → ℕ → ℕ → ℕ → Scope
+scope i a b outer inner = record { inside = i; a = a; b = b; outer = outer; inner = inner }
+
 abbrev pub scopeBy : Scope → ℕ → ℕ → ℕ → ℕ → ℕ → Scope
 scopeBy s l w a b name =
-    if eqb l letterD then
-    (if eqb w letterS then record { inside = true; a = a; b = b; outer = s .outer; inner = 0 }
-    else if eqb w letterF then record { inside = false; a = 1; b = 1; outer = s .outer; inner = 0 }
-    else s)
-    else if eqb l letterL then
-    (if s .inside then record { inside = true; a = s .a; b = s .b; outer = s .outer; inner = name }
-    else record { inside = false; a = s .a; b = s .b; outer = name; inner = s .inner })
+    if eqb l letterD then (if eqb w letterS then scope true a b (s .outer) 0 else if eqb w letterF then scope false 1 1 (s .outer) 0 else s)
+    else if eqb l letterL then (if s .inside then scope true (s .a) (s .b) (s .outer) name else scope false (s .a) (s .b) name (s .inner))
     else s
 
 unfoldable pub scopeAfter : Scope → Written → Scope
@@ -128,7 +126,7 @@ faultFrom s [] = Clear
 faultFrom s (c ∷ cs) = faultBy (foremost (blames s c)) (faultFrom (scopeAfter s c) cs)
 
 abbrev pub atStart : Scope
-atStart = record { inside = false; a = 1; b = 1; outer = 0; inner = 0 }
+atStart = scope false 1 1 0 0
 
 -- the account's first fault of a marked text
 abbrev pub faultOf : List Letter → Fault

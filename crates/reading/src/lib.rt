@@ -7,9 +7,9 @@ ghost use Prim.Native.Nat.{_+_, _*_, _/_, _<_, _≤_};
 ghost use Rattle.grammar.specs.Steps.{KindsLent, NextLent};
 ghost use Rattle.definition.specs.Words.{if_then_else_};
 ghost use Rattle.pieces.specs.Pieces.{tooLarge, stream, start, Fit};
-ghost use Rattle.reading.specs.Letters.{byteUnit, firstUnit};
+ghost use Rattle.reading.specs.Letters.{byteUnit, firstUnit, widest};
 ghost use Rattle.reading.specs.Written.{turning, one};
-ghost use Rattle.reading.specs.Account.{shapely, distance, vital, scaleless, few, bare, pointsOf, many, layerOf, atStart, Checked};
+ghost use Rattle.reading.specs.Account.{shapely, distance, vital, scaleless, few, bare, pointsOf, many, layerOf, scope, atStart, Checked};
 ghost use Rattle.reading.specs.Along.{emptyNo, numberNo, wholeNo, lower, blamed, kept, begun, idle, counted, worded, afterDoing, finished, runs, Fair, Sane};
 ghost use Rattle.reading.specs.Refusal.{Refuses};
 ghost use Rattle.reading.specs.Words.{held, word, valueOf, letterWords, closing, kindBy, Writes, Lined, lineNumber, lineLetter, Closed, ReadsCommand, ReadsItems};
@@ -271,13 +271,14 @@ fn whole_no(
     NO_REFUSAL
 }
 
-fn lower_of(k: usize, n: usize) -> usize
-    ensures { λ r. ⌜ r ≡ lower k n ⌝ }
+// Of two refusals of a command the lower, and of equals the one before.
+fn lower_of(k: usize, before: usize) -> usize
+    ensures { λ r. ⌜ r ≡ lower k before ⌝ }
 {
-    if k < n {
+    if k < before {
         return k;
     }
-    n
+    before
 }
 
 // Where the lower of two refusals is placed: 7 at the command, any other at its number.
@@ -422,6 +423,32 @@ fn layer_now(s: Scope) -> usize
     s.outer
 }
 
+// Within a definition, and outside of any.
+fn within(a: usize, b: usize, outer: usize, inner: usize) -> Scope
+    ensures { λ r. ⌜ r ≡ scope true a b outer inner ⌝ }
+{
+    Scope {
+        inside: true,
+        a,
+        b,
+        outer,
+        inner,
+    }
+}
+
+fn without(outer: usize) -> Scope
+    ensures { λ r. ⌜ r ≡ scope false 1 1 outer 0 ⌝ }
+{
+    Scope {
+        inside: false,
+        a: 1,
+        b: 1,
+        outer,
+        inner: 0,
+    }
+}
+
+// What stands behind a command: DS opens a definition with no layer set, DF closes it, L sets a layer where it stands.
 fn after_command(s: Scope, c: Doing) -> Scope
     ensures { λ r. ⌜ r ≡ afterDoing s c ⌝ }
 {
@@ -430,34 +457,16 @@ fn after_command(s: Scope, c: Doing) -> Scope
     let i = s.inside;
     if l == b'D' {
         if w == b'S' {
-            return Scope {
-                inside: true,
-                a: c.a,
-                b: c.b,
-                outer: s.outer,
-                inner: 0,
-            };
+            return within(c.a, c.b, s.outer, 0);
         }
         if w == b'F' {
-            return Scope {
-                inside: false,
-                a: 1,
-                b: 1,
-                outer: s.outer,
-                inner: 0,
-            };
+            return without(s.outer);
         }
         return s;
     }
     if l == b'L' {
         if i {
-            return Scope {
-                inside: true,
-                a: s.a,
-                b: s.b,
-                outer: s.outer,
-                inner: c.name,
-            };
+            return within(s.a, s.b, s.outer, c.name);
         }
         return Scope {
             inside: false,
@@ -507,13 +516,7 @@ fn checked(text: &[u8], kinds: &[u8; 256], next: &[u16; grammar::tables::ENTRY_C
         state: 0,
         depth: 0,
     };
-    let mut s = Scope {
-        inside: false,
-        a: 1,
-        b: 1,
-        outer: 0,
-        inner: 0,
-    };
+    let mut s = without(0);
     let mut c = rest();
     loop {
         match pieces::next_piece(text, kinds, next, spot) {
@@ -574,5 +577,259 @@ pub fn refusal(text: &[u8]) -> Fault
     match grammar::recognise(text) {
         grammar::Verdict::StuckAt(n) => Fault::Refused(2, n),
         grammar::Verdict::InGrammar => check(text),
+    }
+}
+
+fn held_of(n: usize) -> usize
+    ensures { λ r. ⌜ (r ≡ held n) × (r ≤ widest) ⌝ }
+{
+    if WIDEST < n {
+        return WIDEST;
+    }
+    n
+}
+
+fn word_of(minus: bool, n: usize) -> i32
+    ensures { λ r. ⌜ r ≡ word minus n ⌝ }
+{
+    let m = held_of(n);
+    let v = m as i32;
+    if minus {
+        return -v;
+    }
+    v
+}
+
+// A word past the end of the run is dropped, and counted all the same: so a run of no words measures.
+fn put_word(words: &mut [i32], at: usize, minus: bool, n: usize) -> usize
+    requires { ⌜ at ≤ 10000000000000000000 ⌝ }
+    ensures { λ r. ⌜ Writes (now (words .entry)) at (word minus n ∷ []) r (now (words .exit)) ⌝ }
+{
+    let v = word_of(minus, n);
+    if at < words.len() {
+        words[at] = v;
+        return at + 1;
+    }
+    at + 1
+}
+
+fn put_two(words: &mut [i32], at: usize, x: usize, y: usize) -> usize
+    requires { ⌜ at < 10000000000000000000 ⌝ }
+    ensures { λ r. ⌜ Writes (now (words .entry)) at (word false x ∷ word false y ∷ []) r (now (words .exit)) ⌝ }
+{
+    let m = put_word(words, at, false, x);
+    put_word(words, m, false, y)
+}
+
+fn scaled(a: usize, b: usize, letter: u8, word: u8, index: usize, n: usize) -> usize
+    requires { ⌜ (a ≤ tooLarge) × (1 ≤ b) × (n ≤ tooLarge) ⌝ }
+    ensures { λ r. ⌜ r ≡ (if distance letter word index then a * n / b else n) ⌝ }
+{
+    if a == b {
+        return n;
+    }
+    if is_distance(letter, word, index) {
+        return a * n / b;
+    }
+    n
+}
+
+fn put_letter(words: &mut [i32], at: usize, letter: u8, x: u8) -> usize
+    requires { ⌜ at ≤ 10000000000000000000 ⌝ }
+    ensures { λ r. ⌜ Writes (now (words .entry)) at (letterWords letter x) r (now (words .exit)) ⌝ }
+{
+    if letter == b'C' {
+        if x == b'M' {
+            return at;
+        }
+        let n = wide(x);
+        return put_word(words, at, false, n);
+    }
+    at
+}
+
+// What a command's end adds: a layer's name, a box's direction and a definition's scale where they are left out.
+fn put_closing(
+    words: &mut [i32],
+    at: usize,
+    letter: u8,
+    word: u8,
+    count: usize,
+    name: usize,
+) -> usize
+    requires { ⌜ at < 10000000000000000000 ⌝ }
+    ensures { λ r. ⌜ Writes (now (words .entry)) at (closing letter word count name) r (now (words .exit)) ⌝ }
+{
+    if letter == b'L' {
+        return put_word(words, at, false, name);
+    }
+    if letter == b'B' {
+        if count == 4 {
+            return put_two(words, at, 1, 0);
+        }
+        return at;
+    }
+    if letter == b'D' {
+        if word == b'S' {
+            if count == 1 {
+                return put_two(words, at, 1, 1);
+            }
+            return at;
+        }
+        return at;
+    }
+    at
+}
+
+fn line_number(
+    words: &mut [i32],
+    c: Line,
+    a: usize,
+    b: usize,
+    letter: u8,
+    minus: bool,
+    n: usize,
+) -> Line
+    requires { ⌜ (a ≤ tooLarge) × (1 ≤ b) × (n ≤ tooLarge) ⌝ }
+    requires { ⌜ (c .at < 10000000000000000000) × (c .count < 10000000000000000000) ⌝ }
+    ensures { λ r. ⌜ Lined (now (words .entry)) (c .at) (valueOf a b letter (c .word) (c .count) minus n ∷ []) (lineNumber c) r (now (words .exit)) ⌝ }
+{
+    let v = scaled(a, b, letter, c.word, c.count, n);
+    let at = put_word(words, c.at, minus, v);
+    Line {
+        at,
+        word: c.word,
+        count: c.count + 1,
+        unit: c.unit,
+        name: c.name,
+    }
+}
+
+fn line_letter(words: &mut [i32], c: Line, letter: u8, x: u8) -> Line
+    requires { ⌜ (c .at < 10000000000000000000) × (c .name + byteUnit * c .unit ≤ byteUnit * firstUnit) ⌝ }
+    ensures { λ r. ⌜ Lined (now (words .entry)) (c .at) (letterWords letter x) (lineLetter letter c x) r (now (words .exit)) ⌝ }
+{
+    let at = put_letter(words, c.at, letter, x);
+    Line {
+        at,
+        word: x,
+        count: c.count,
+        unit: c.unit / BYTE_UNIT,
+        name: c.name + wide(x) * c.unit,
+    }
+}
+
+fn kind_by(letter: u8, word: u8) -> u8
+    ensures { λ r. ⌜ r ≡ kindBy letter word ⌝ }
+{
+    if letter == b'D' {
+        return word;
+    }
+    letter
+}
+
+fn close(words: &mut [i32], letter: u8, place: usize, c: Line, to: pieces::Spot) -> Read
+    requires { ⌜ (2 ≤ c .at) × (c .at < 9999999999999999999) ⌝ }
+    ensures { λ r. ⌜ Closed (now (words .entry)) letter place c to r (now (words .exit)) ⌝ }
+{
+    let end = put_closing(words, c.at, letter, c.word, c.count, c.name);
+    let n = held_of(end - 2);
+    let kind = kind_by(letter, c.word);
+    let h = wide(kind) + BYTE_UNIT * n;
+    put_two(words, 0, h, place);
+    Read::Decoded(kind, place, end, to)
+}
+
+// The rest of a command behind its first letter. The two words in front are written when the rest is counted.
+fn read_items(
+    text: &[u8],
+    kinds: &[u8; 256],
+    next: &[u16; grammar::tables::ENTRY_COUNT],
+    words: &mut [i32],
+    from: pieces::Spot,
+    place: usize,
+    letter: u8,
+    a: usize,
+    b: usize,
+) -> Read
+    requires { ⌜ KindsLent (now kinds) × NextLent (now next) ⌝ }
+    requires { ⌜ Fit (now text) from × (a ≤ tooLarge) × (1 ≤ b) ⌝ }
+    ensures { λ r. ⌜ ReadsItems (now (text .entry)) from place letter a b (now (words .entry)) r (now (words .exit)) ⌝ }
+{
+    let mut spot = from;
+    let mut c = Line {
+        at: 2,
+        word: 0,
+        count: 0,
+        unit: FIRST_UNIT,
+        name: 0,
+    };
+    loop {
+        match pieces::next_piece(text, kinds, next, spot) {
+            pieces::Found::End => {
+                return close(words, letter, place, c, spot);
+            }
+            pieces::Found::Got(x, to) => match x {
+                pieces::Piece::Number(_, minus, n) => {
+                    c = line_number(words, c, a, b, letter, minus, n);
+                    spot = to;
+                }
+                pieces::Piece::First(_, _) => {
+                    return close(words, letter, place, c, spot);
+                }
+                pieces::Piece::Second(w) => {
+                    c = line_letter(words, c, letter, w);
+                    spot = to;
+                }
+                pieces::Piece::Word(w) => {
+                    c = line_letter(words, c, letter, w);
+                    spot = to;
+                }
+                pieces::Piece::Stop => {
+                    return close(words, letter, place, c, to);
+                }
+            },
+        }
+    }
+}
+
+// The first command from a spot on, at the scale a, b, laid out in the run.
+pub fn read_command(
+    text: &[u8],
+    kinds: &[u8; 256],
+    next: &[u16; grammar::tables::ENTRY_COUNT],
+    words: &mut [i32],
+    from: pieces::Spot,
+    a: usize,
+    b: usize,
+) -> Read
+    requires { ⌜ KindsLent (now kinds) × NextLent (now next) ⌝ }
+    requires { ⌜ Fit (now text) from × (a ≤ tooLarge) × (1 ≤ b) ⌝ }
+    ensures { λ r. ⌜ ReadsCommand (now (text .entry)) from a b (now (words .entry)) r (now (words .exit)) ⌝ }
+{
+    let mut spot = from;
+    loop {
+        match pieces::next_piece(text, kinds, next, spot) {
+            pieces::Found::End => {
+                return Read::Nothing;
+            }
+            pieces::Found::Got(x, to) => match x {
+                pieces::Piece::First(p, l) => {
+                    return read_items(text, kinds, next, words, to, p, l, a, b);
+                }
+                pieces::Piece::Second(_) => {
+                    spot = to;
+                }
+                pieces::Piece::Number(_, _, _) => {
+                    spot = to;
+                }
+                pieces::Piece::Word(_) => {
+                    spot = to;
+                }
+                pieces::Piece::Stop => {
+                    spot = to;
+                }
+            },
+        }
     }
 }

@@ -17,14 +17,17 @@ Inv-loop text kinds next spot₀ s₀ c₀ spot s c = Checking text spot s c
 abbrev μ-loop : tie.MeasureT-loop
 μ-loop text kinds next spot₀ s₀ c₀ spot s c = length text - spot .at
 
+without-requires : tie.Need-without-requires Inv-loop μ-loop
+without-requires c κs = search needs
+
 rest-requires : tie.Need-rest-requires Inv-loop μ-loop
 rest-requires c κs = search needs
 
 loop-holds : tie.Need-loop-holds Inv-loop μ-loop
-loop-holds c = checking-start _ _ (c .rest .ensures)
+loop-holds c = checking-start _ _ _ (c .before .without .ensures) (c .rest .ensures)
 
 next-piece-requires : tie.Need-next-piece-requires Inv-loop μ-loop
-next-piece-requires c κs = (c .before .before .before .pre, c .loop .inv .fit)
+next-piece-requires c κs = (c .before .before .before .before .pre, c .loop .inv .fit)
 
 enum-told : tie.Need-enum-told Inv-loop μ-loop
 enum-told c = c .match .keys1
@@ -33,7 +36,7 @@ at-end-requires : tie.Need-at-end-requires Inv-loop μ-loop
 at-end-requires c κs = search needs
 
 returns : tie.Need-returns Inv-loop μ-loop
-returns c = checking-ended (c .before .before .before .before .before .before .before .args .text .now) (c .before .before .before .before .loop .spot) (c .before .before .before .before .loop .s) (c .before .before .before .before .loop .c) (c .before .before .before .before .loop .inv) (subst (Reads (c .before .before .before .before .before .before .before .args .text .now) (c .before .before .before .before .loop .spot)) (c .before .enum-told .given .1) (c .before .before .before .next-piece .ensures)) _ (c .at-end .ensures)
+returns c = checking-ended (c .before .before .before .before .before .before .before .before .args .text .now) (c .before .before .before .before .loop .spot) (c .before .before .before .before .loop .s) (c .before .before .before .before .loop .c) (c .before .before .before .before .loop .inv) (subst (Reads (c .before .before .before .before .before .before .before .before .args .text .now) (c .before .before .before .before .loop .spot)) (c .before .enum-told .given .1) (c .before .before .before .next-piece .ensures)) _ (c .at-end .ensures)
 
 enum-known-x : tie.Need-enum-known-x Inv-loop μ-loop
 enum-known-x c = c .match .keys2
@@ -45,10 +48,10 @@ add-number-requires : tie.Need-add-number-requires Inv-loop μ-loop
 add-number-requires c κs = (c .before .before .before .before .before .before .before .loop .inv .fair, sane-up _ _ _ (let h = c .before .before .before .before .before .before .before .loop .inv .fit .within in omega arith) (c .before .before .before .before .before .before .before .loop .inv .sane))
 
 loop-less : tie.Need-loop-less Inv-loop μ-loop
-loop-less c = let st = (subst (Reads (c .before .before .before .before .before .before .before .before .before .before .before .args .text .now) (c .before .before .before .before .before .before .before .before .loop .spot)) (c .before .before .before .before .before .x .given .1) (c .before .before .before .before .before .before .before .next-piece .ensures)) in let h = st .ahead in let k = st .fit .within in omega arith
+loop-less c = let st = (subst (Reads (c .before .before .before .before .before .before .before .before .before .before .before .before .args .text .now) (c .before .before .before .before .before .before .before .before .loop .spot)) (c .before .before .before .before .before .x .given .1) (c .before .before .before .before .before .before .before .next-piece .ensures)) in let h = st .ahead in let k = st .fit .within in omega arith
 
 loop-again : tie.Need-loop-again Inv-loop μ-loop
-loop-again c = checking-number (c .before .before .before .before .before .before .before .before .before .before .before .args .text .now) (c .before .before .before .before .before .before .before .before .loop .spot) (c .before .before .before .before .before .before .before .before .loop .s) (c .before .before .before .before .before .before .before .before .loop .c) (c .before .before .before .before .before .before .before .before .loop .inv) _ _ _ _ (by-piece (c .before .before .x2 .given .1) (subst (Reads (c .before .before .before .before .before .before .before .before .before .before .before .args .text .now) (c .before .before .before .before .before .before .before .before .loop .spot)) (c .before .before .before .before .before .x .given .1) (c .before .before .before .before .before .before .before .next-piece .ensures))) _ (c .add-number .ensures)
+loop-again c = checking-number (c .before .before .before .before .before .before .before .before .before .before .before .before .args .text .now) (c .before .before .before .before .before .before .before .before .loop .spot) (c .before .before .before .before .before .before .before .before .loop .s) (c .before .before .before .before .before .before .before .before .loop .c) (c .before .before .before .before .before .before .before .before .loop .inv) _ _ _ _ (by-piece (c .before .before .x2 .given .1) (subst (Reads (c .before .before .before .before .before .before .before .before .before .before .before .before .args .text .now) (c .before .before .before .before .before .before .before .before .loop .spot)) (c .before .before .before .before .before .x .given .1) (c .before .before .before .before .before .before .before .next-piece .ensures))) _ (c .add-number .ensures)
 
 enum-known-x-3 : tie.Need-enum-known-x-3 Inv-loop μ-loop
 enum-known-x-3 c = c .match2 .keys2
@@ -63,16 +66,16 @@ begin-requires : tie.Need-begin-requires Inv-loop μ-loop
 begin-requires c κs = search needs
 
 loop-less-2 : tie.Need-loop-less-2 Inv-loop μ-loop
-loop-less-2 c = let st = (subst (Reads (c .before .before .before .before .before .before .before .before .before .before .before .before .before .before .before .args .text .now) (c .before .before .before .before .before .before .before .before .before .before .before .before .loop .spot)) (c .before .before .before .before .before .before .before .before .before .x .given .1) (c .before .before .before .before .before .before .before .before .before .before .before .next-piece .ensures)) in let h = st .ahead in let k = st .fit .within in omega arith
+loop-less-2 c = let st = (subst (Reads (c .before .before .before .before .before .before .before .before .before .before .before .before .before .before .before .before .args .text .now) (c .before .before .before .before .before .before .before .before .before .before .before .before .loop .spot)) (c .before .before .before .before .before .before .before .before .before .x .given .1) (c .before .before .before .before .before .before .before .before .before .before .before .next-piece .ensures)) in let h = st .ahead in let k = st .fit .within in omega arith
 
 loop-again-2 : tie.Need-loop-again-2 Inv-loop μ-loop
-loop-again-2 c = checking-first (c .before .before .before .before .before .before .before .before .before .before .before .before .before .before .before .args .text .now) (c .before .before .before .before .before .before .before .before .before .before .before .before .loop .spot) (c .before .before .before .before .before .before .before .before .before .before .before .before .loop .s) (c .before .before .before .before .before .before .before .before .before .before .before .before .loop .c) (c .before .before .before .before .before .before .before .before .before .before .before .before .loop .inv) _ _ (c .before .before .before .before .finish .ensures) _ _ (by-piece (c .before .before .before .before .before .before .x3 .given .1) (subst (Reads (c .before .before .before .before .before .before .before .before .before .before .before .before .before .before .before .args .text .now) (c .before .before .before .before .before .before .before .before .before .before .before .before .loop .spot)) (c .before .before .before .before .before .before .before .before .before .x .given .1) (c .before .before .before .before .before .before .before .before .before .before .before .next-piece .ensures))) _ (c .before .before .t .given .1) _ (c .begin .ensures)
+loop-again-2 c = checking-first (c .before .before .before .before .before .before .before .before .before .before .before .before .before .before .before .before .args .text .now) (c .before .before .before .before .before .before .before .before .before .before .before .before .loop .spot) (c .before .before .before .before .before .before .before .before .before .before .before .before .loop .s) (c .before .before .before .before .before .before .before .before .before .before .before .before .loop .c) (c .before .before .before .before .before .before .before .before .before .before .before .before .loop .inv) _ _ (c .before .before .before .before .finish .ensures) _ _ (by-piece (c .before .before .before .before .before .before .x3 .given .1) (subst (Reads (c .before .before .before .before .before .before .before .before .before .before .before .before .before .before .before .before .args .text .now) (c .before .before .before .before .before .before .before .before .before .before .before .before .loop .spot)) (c .before .before .before .before .before .before .before .before .before .x .given .1) (c .before .before .before .before .before .before .before .before .before .before .before .next-piece .ensures))) _ (c .before .before .t .given .1) _ (c .begin .ensures)
 
 enum-known-no : tie.Need-enum-known-no Inv-loop μ-loop
 enum-known-no c = c .match3 .keys2
 
 returns-2 : tie.Need-returns-2 Inv-loop μ-loop
-returns-2 c = checking-first-bad (c .before .before .before .before .before .before .before .before .before .before .before .before .before .before .args .text .now) (c .before .before .before .before .before .before .before .before .before .before .before .loop .spot) (c .before .before .before .before .before .before .before .before .before .before .before .loop .s) (c .before .before .before .before .before .before .before .before .before .before .before .loop .c) (c .before .before .before .before .before .before .before .before .before .before .before .loop .inv) _ _ (c .before .before .before .finish .ensures) _ _ (by-piece (c .before .before .before .before .before .x3 .given .1) (subst (Reads (c .before .before .before .before .before .before .before .before .before .before .before .before .before .before .args .text .now) (c .before .before .before .before .before .before .before .before .before .before .before .loop .spot)) (c .before .before .before .before .before .before .before .before .x .given .1) (c .before .before .before .before .before .before .before .before .before .before .next-piece .ensures))) _ _ (c .before .no .given .1)
+returns-2 c = checking-first-bad (c .before .before .before .before .before .before .before .before .before .before .before .before .before .before .before .args .text .now) (c .before .before .before .before .before .before .before .before .before .before .before .loop .spot) (c .before .before .before .before .before .before .before .before .before .before .before .loop .s) (c .before .before .before .before .before .before .before .before .before .before .before .loop .c) (c .before .before .before .before .before .before .before .before .before .before .before .loop .inv) _ _ (c .before .before .before .finish .ensures) _ _ (by-piece (c .before .before .before .before .before .x3 .given .1) (subst (Reads (c .before .before .before .before .before .before .before .before .before .before .before .before .before .before .before .args .text .now) (c .before .before .before .before .before .before .before .before .before .before .before .loop .spot)) (c .before .before .before .before .before .before .before .before .x .given .1) (c .before .before .before .before .before .before .before .before .before .before .next-piece .ensures))) _ _ (c .before .no .given .1)
 
 enum-known-x-4 : tie.Need-enum-known-x-4 Inv-loop μ-loop
 enum-known-x-4 c = c .match2 .keys3
@@ -81,10 +84,10 @@ add-letter-requires : tie.Need-add-letter-requires Inv-loop μ-loop
 add-letter-requires c κs = sane-up _ _ _ (let h = c .before .before .before .before .before .before .before .loop .inv .fit .within in omega arith) (c .before .before .before .before .before .before .before .loop .inv .sane)
 
 loop-less-3 : tie.Need-loop-less-3 Inv-loop μ-loop
-loop-less-3 c = let st = (subst (Reads (c .before .before .before .before .before .before .before .before .before .before .before .args .text .now) (c .before .before .before .before .before .before .before .before .loop .spot)) (c .before .before .before .before .before .x .given .1) (c .before .before .before .before .before .before .before .next-piece .ensures)) in let h = st .ahead in let k = st .fit .within in omega arith
+loop-less-3 c = let st = (subst (Reads (c .before .before .before .before .before .before .before .before .before .before .before .before .args .text .now) (c .before .before .before .before .before .before .before .before .loop .spot)) (c .before .before .before .before .before .x .given .1) (c .before .before .before .before .before .before .before .next-piece .ensures)) in let h = st .ahead in let k = st .fit .within in omega arith
 
 loop-again-3 : tie.Need-loop-again-3 Inv-loop μ-loop
-loop-again-3 c = checking-second (c .before .before .before .before .before .before .before .before .before .before .before .args .text .now) (c .before .before .before .before .before .before .before .before .loop .spot) (c .before .before .before .before .before .before .before .before .loop .s) (c .before .before .before .before .before .before .before .before .loop .c) (c .before .before .before .before .before .before .before .before .loop .inv) _ _ (by-piece (c .before .before .x4 .given .1) (subst (Reads (c .before .before .before .before .before .before .before .before .before .before .before .args .text .now) (c .before .before .before .before .before .before .before .before .loop .spot)) (c .before .before .before .before .before .x .given .1) (c .before .before .before .before .before .before .before .next-piece .ensures))) _ (c .add-letter .ensures)
+loop-again-3 c = checking-second (c .before .before .before .before .before .before .before .before .before .before .before .before .args .text .now) (c .before .before .before .before .before .before .before .before .loop .spot) (c .before .before .before .before .before .before .before .before .loop .s) (c .before .before .before .before .before .before .before .before .loop .c) (c .before .before .before .before .before .before .before .before .loop .inv) _ _ (by-piece (c .before .before .x4 .given .1) (subst (Reads (c .before .before .before .before .before .before .before .before .before .before .before .before .args .text .now) (c .before .before .before .before .before .before .before .before .loop .spot)) (c .before .before .before .before .before .x .given .1) (c .before .before .before .before .before .before .before .next-piece .ensures))) _ (c .add-letter .ensures)
 
 enum-known-x-5 : tie.Need-enum-known-x-5 Inv-loop μ-loop
 enum-known-x-5 c = c .match2 .keys4
@@ -93,10 +96,10 @@ add-letter-requires-2 : tie.Need-add-letter-requires-2 Inv-loop μ-loop
 add-letter-requires-2 c κs = sane-up _ _ _ (let h = c .before .before .before .before .before .before .before .loop .inv .fit .within in omega arith) (c .before .before .before .before .before .before .before .loop .inv .sane)
 
 loop-less-4 : tie.Need-loop-less-4 Inv-loop μ-loop
-loop-less-4 c = let st = (subst (Reads (c .before .before .before .before .before .before .before .before .before .before .before .args .text .now) (c .before .before .before .before .before .before .before .before .loop .spot)) (c .before .before .before .before .before .x .given .1) (c .before .before .before .before .before .before .before .next-piece .ensures)) in let h = st .ahead in let k = st .fit .within in omega arith
+loop-less-4 c = let st = (subst (Reads (c .before .before .before .before .before .before .before .before .before .before .before .before .args .text .now) (c .before .before .before .before .before .before .before .before .loop .spot)) (c .before .before .before .before .before .x .given .1) (c .before .before .before .before .before .before .before .next-piece .ensures)) in let h = st .ahead in let k = st .fit .within in omega arith
 
 loop-again-4 : tie.Need-loop-again-4 Inv-loop μ-loop
-loop-again-4 c = checking-word (c .before .before .before .before .before .before .before .before .before .before .before .args .text .now) (c .before .before .before .before .before .before .before .before .loop .spot) (c .before .before .before .before .before .before .before .before .loop .s) (c .before .before .before .before .before .before .before .before .loop .c) (c .before .before .before .before .before .before .before .before .loop .inv) _ _ (by-piece (c .before .before .x5 .given .1) (subst (Reads (c .before .before .before .before .before .before .before .before .before .before .before .args .text .now) (c .before .before .before .before .before .before .before .before .loop .spot)) (c .before .before .before .before .before .x .given .1) (c .before .before .before .before .before .before .before .next-piece .ensures))) _ (c .add-letter2 .ensures)
+loop-again-4 c = checking-word (c .before .before .before .before .before .before .before .before .before .before .before .before .args .text .now) (c .before .before .before .before .before .before .before .before .loop .spot) (c .before .before .before .before .before .before .before .before .loop .s) (c .before .before .before .before .before .before .before .before .loop .c) (c .before .before .before .before .before .before .before .before .loop .inv) _ _ (by-piece (c .before .before .x5 .given .1) (subst (Reads (c .before .before .before .before .before .before .before .before .before .before .before .before .args .text .now) (c .before .before .before .before .before .before .before .before .loop .spot)) (c .before .before .before .before .before .x .given .1) (c .before .before .before .before .before .before .before .next-piece .ensures))) _ (c .add-letter2 .ensures)
 
 enum-told-2 : tie.Need-enum-told-2 Inv-loop μ-loop
 enum-told-2 c = c .match2 .keys5
@@ -111,16 +114,16 @@ rest-requires-2 : tie.Need-rest-requires-2 Inv-loop μ-loop
 rest-requires-2 c κs = search needs
 
 loop-less-5 : tie.Need-loop-less-5 Inv-loop μ-loop
-loop-less-5 c = let st = (subst (Reads (c .before .before .before .before .before .before .before .before .before .before .before .before .before .before .args .text .now) (c .before .before .before .before .before .before .before .before .before .before .before .loop .spot)) (c .before .before .before .before .before .before .before .before .x .given .1) (c .before .before .before .before .before .before .before .before .before .before .next-piece .ensures)) in let h = st .ahead in let k = st .fit .within in omega arith
+loop-less-5 c = let st = (subst (Reads (c .before .before .before .before .before .before .before .before .before .before .before .before .before .before .before .args .text .now) (c .before .before .before .before .before .before .before .before .before .before .before .loop .spot)) (c .before .before .before .before .before .before .before .before .x .given .1) (c .before .before .before .before .before .before .before .before .before .before .next-piece .ensures)) in let h = st .ahead in let k = st .fit .within in omega arith
 
 loop-again-5 : tie.Need-loop-again-5 Inv-loop μ-loop
-loop-again-5 c = checking-stop (c .before .before .before .before .before .before .before .before .before .before .before .before .before .before .args .text .now) (c .before .before .before .before .before .before .before .before .before .before .before .loop .spot) (c .before .before .before .before .before .before .before .before .before .before .before .loop .s) (c .before .before .before .before .before .before .before .before .before .before .before .loop .c) (c .before .before .before .before .before .before .before .before .before .before .before .loop .inv) _ _ (c .before .before .before .before .finish2 .ensures) (by-piece (c .before .before .before .before .before .enum-told2 .given .1) (subst (Reads (c .before .before .before .before .before .before .before .before .before .before .before .before .before .before .args .text .now) (c .before .before .before .before .before .before .before .before .before .before .before .loop .spot)) (c .before .before .before .before .before .before .before .before .x .given .1) (c .before .before .before .before .before .before .before .before .before .before .next-piece .ensures))) _ (c .before .before .t2 .given .1) _ (c .rest2 .ensures)
+loop-again-5 c = checking-stop (c .before .before .before .before .before .before .before .before .before .before .before .before .before .before .before .args .text .now) (c .before .before .before .before .before .before .before .before .before .before .before .loop .spot) (c .before .before .before .before .before .before .before .before .before .before .before .loop .s) (c .before .before .before .before .before .before .before .before .before .before .before .loop .c) (c .before .before .before .before .before .before .before .before .before .before .before .loop .inv) _ _ (c .before .before .before .before .finish2 .ensures) (by-piece (c .before .before .before .before .before .enum-told2 .given .1) (subst (Reads (c .before .before .before .before .before .before .before .before .before .before .before .before .before .before .before .args .text .now) (c .before .before .before .before .before .before .before .before .before .before .before .loop .spot)) (c .before .before .before .before .before .before .before .before .x .given .1) (c .before .before .before .before .before .before .before .before .before .before .next-piece .ensures))) _ (c .before .before .t2 .given .1) _ (c .rest2 .ensures)
 
 enum-known-no-2 : tie.Need-enum-known-no-2 Inv-loop μ-loop
 enum-known-no-2 c = c .match4 .keys2
 
 returns-3 : tie.Need-returns-3 Inv-loop μ-loop
-returns-3 c = checking-stop-bad (c .before .before .before .before .before .before .before .before .before .before .before .before .before .args .text .now) (c .before .before .before .before .before .before .before .before .before .before .loop .spot) (c .before .before .before .before .before .before .before .before .before .before .loop .s) (c .before .before .before .before .before .before .before .before .before .before .loop .c) (c .before .before .before .before .before .before .before .before .before .before .loop .inv) _ _ (c .before .before .before .finish2 .ensures) (by-piece (c .before .before .before .before .enum-told2 .given .1) (subst (Reads (c .before .before .before .before .before .before .before .before .before .before .before .before .before .args .text .now) (c .before .before .before .before .before .before .before .before .before .before .loop .spot)) (c .before .before .before .before .before .before .before .x .given .1) (c .before .before .before .before .before .before .before .before .before .next-piece .ensures))) _ _ (c .before .no2 .given .1)
+returns-3 c = checking-stop-bad (c .before .before .before .before .before .before .before .before .before .before .before .before .before .before .args .text .now) (c .before .before .before .before .before .before .before .before .before .before .loop .spot) (c .before .before .before .before .before .before .before .before .before .before .loop .s) (c .before .before .before .before .before .before .before .before .before .before .loop .c) (c .before .before .before .before .before .before .before .before .before .before .loop .inv) _ _ (c .before .before .before .finish2 .ensures) (by-piece (c .before .before .before .before .enum-told2 .given .1) (subst (Reads (c .before .before .before .before .before .before .before .before .before .before .before .before .before .before .args .text .now) (c .before .before .before .before .before .before .before .before .before .before .loop .spot)) (c .before .before .before .before .before .before .before .x .given .1) (c .before .before .before .before .before .before .before .before .before .next-piece .ensures))) _ _ (c .before .no2 .given .1)
 
 pub checked-spec : {M : Type 1} → statement M
 checked-spec =
@@ -128,6 +131,7 @@ checked-spec =
     (tie.spec
     Inv-loop
     μ-loop
+    without-requires
     rest-requires
     loop-holds
     next-piece-requires
