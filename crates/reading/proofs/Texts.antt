@@ -3,17 +3,19 @@
 use mathlib.Core.Path.{_≡_, refl}
 use mathlib.Core.Bool.{Bool, true, false, _&&_}
 use mathlib.Core.List.{List, [], _∷_}
-use Prim.Native.Nat.{ℕ}
+use Prim.Native.Nat.{ℕ, _+_, _*_}
 use Prim.Native.String.{String}
 use lib.Dec.{T, eqb}
+use lib.IntN.{ℤ, pos, negsuc}
 use Rattle.grammar.specs.Notation.{Letter, dec}
 use Rattle.grammar.specs.Tables.{kinds, table}
 use Rattle.grammar.specs.Steps.{kindOf, entryOf, nextOf, modeAfter, markOf, roleOf, marked}
 use Rattle.definition.specs.Words.{bytesOf}
 use Rattle.definition.specs.Commands.{worth}
 use Rattle.pieces.specs.Pieces.{capped, pieces}
-use Rattle.reading.specs.Written.{itemsOf, stops, written, figures, sizeAt, letters, lastOf, packedBy, turnsOf}
+use Rattle.reading.specs.Written.{Written, itemsOf, stops, written, figures, sizeAt, letters, lastOf, packedBy, turnsOf}
 use Rattle.reading.specs.Account.{shapely, distance, vital, pointsOf, scaleless, few, bare, many, ofNumbers, blames, foremost, scopeAfter, faultFrom, atStart, faultOf}
+use Rattle.reading.specs.Words.{held, word, letterWords, bodyOf, closing, tally, wordsOf}
 use Rattle.reading.specs.declared.Fault.{Fault}
 use Rattle.reading.specs.declared.Fault.the-variants.{Clear, Refused}
 
@@ -64,3 +66,17 @@ hold (r ∷ rs) = same (said (r .text)) (r .fault) && hold rs
 all-hold : T (hold rows)
 unfolding rows said hold bytesOf dec kinds table kindOf entryOf nextOf modeAfter markOf roleOf marked worth capped pieces itemsOf stops written figures sizeAt letters lastOf packedBy turnsOf shapely distance vital pointsOf scaleless few bare many ofNumbers blames foremost scopeAfter faultFrom
 all-hold = tt
+
+-- the words of commands
+spelled : ℕ → ℕ → List Written → List (List ℤ)
+spelled a b [] = []
+spelled a b (c ∷ cs) = wordsOf a b c ∷ spelled a b cs
+
+laid-out : spelled 50 2 (written (pieces 0 0 (marked 0 0 (bytesOf "DS 7;L CM;B4 2 -1 0;C7 MX T9 8 R0 4;"))))
+    ≡ (pos (83 + 256 * 3) ∷ pos 0 ∷ pos 7 ∷ pos 1 ∷ pos 1 ∷ [])
+    ∷ (pos (76 + 256 * 1) ∷ pos 5 ∷ pos 1129119744 ∷ [])
+    ∷ (pos (66 + 256 * 6) ∷ pos 10 ∷ pos 100 ∷ pos 50 ∷ negsuc 24 ∷ pos 0 ∷ pos 1 ∷ pos 0 ∷ [])
+    ∷ (pos (67 + 256 * 8) ∷ pos 20 ∷ pos 7 ∷ pos 88 ∷ pos 84 ∷ pos 225 ∷ pos 200 ∷ pos 82 ∷ pos 0 ∷ pos 4 ∷ [])
+    ∷ []
+unfolding spelled bytesOf dec kinds table kindOf entryOf nextOf modeAfter markOf roleOf marked worth capped pieces itemsOf stops written letters lastOf packedBy shapely distance held word letterWords bodyOf closing tally wordsOf
+laid-out = refl
