@@ -30,6 +30,10 @@ tooLarge = largest + 1
 unfoldable pub capped : ℕ → ℕ
 capped n = if ltb n tooLarge then n else tooLarge
 
+-- a slice is shorter than this, and sums of two places are far from where a usize wraps
+abbrev pub farthest : ℕ
+farthest = 9223372036854775808
+
 -- the two letters by which a definition starts and finishes
 abbrev pub letterS : ℕ
 letterS = 83

@@ -3,7 +3,7 @@
 ghost use mathlib.Core.Path.{_≡_};
 ghost use Prim.Native.Nat.{_+_, _*_, _<_, _≤_};
 ghost use Rattle.grammar.specs.Steps.{KindsLent, NextLent};
-ghost use Rattle.pieces.specs.Pieces.{tooLarge, capped, digitOf, further, nextPlace, Fit, Reads, ReadsNumber};
+ghost use Rattle.pieces.specs.Pieces.{tooLarge, farthest, capped, digitOf, further, nextPlace, Fit, Reads, ReadsNumber};
 
 // Every number lies within this of zero (01). One beyond it is refused whatever its size, so it is read as TOO_LARGE: ten million digits do no harm.
 pub const LARGEST: usize = 16_777_215;
@@ -56,7 +56,7 @@ fn grown(v: usize, b: u8) -> usize
 
 // A number begins at its minus sign.
 fn next_place(mark: usize, i: usize) -> usize
-    requires { ⌜ i < 9223372036854775808 ⌝ }
+    requires { ⌜ i < farthest ⌝ }
     ensures { λ r. ⌜ r ≡ nextPlace mark i ⌝ }
 {
     if mark == grammar::tables::SIGN {

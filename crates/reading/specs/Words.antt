@@ -11,7 +11,7 @@ use lib.ListN.{length}
 use lib.Seq.{sets}
 use Rattle.grammar.specs.Steps.{inside}
 use Rattle.definition.specs.Words.{if_then_else_}
-use Rattle.pieces.specs.Pieces.{letterS, stream, behind, insideAfter, Fit}
+use Rattle.pieces.specs.Pieces.{letterS, farthest, stream, behind, insideAfter, Fit}
 use Rattle.pieces.specs.declared.Spot.{Spot}
 use Rattle.pieces.specs.declared.Piece.{Piece}
 use Rattle.pieces.specs.declared.Piece.the-variants.{First, Second, Number, Word, Stop}
@@ -77,6 +77,10 @@ wordsOf a b c =
     let w = lastLetter c in
     framed (kindBy (c .letter) w) (c .place)
     (bodyOf a b (c .letter) 0 0 (c .items) ++ closing (c .letter) w (tally (c .items)) (packedBy firstUnit (letters (c .items))))
+
+-- no word is written as far out as this
+abbrev pub outmost : ℕ
+outmost = farthest + 16
 
 -- what a function leaves that writes the words vs at a place of a run; words past the run's end are dropped
 pub record Writes (l : List ℤ) (at : ℕ) (vs : List ℤ) (r : ℕ) (l′ : List ℤ) : Type 0 where

@@ -6,13 +6,13 @@ ghost use mathlib.Core.List.{[], _∷_};
 ghost use Prim.Native.Nat.{_+_, _*_, _/_, _<_, _≤_};
 ghost use Rattle.grammar.specs.Steps.{KindsLent, NextLent};
 ghost use Rattle.definition.specs.Words.{if_then_else_};
-ghost use Rattle.pieces.specs.Pieces.{tooLarge, stream, start, Fit};
+ghost use Rattle.pieces.specs.Pieces.{tooLarge, farthest, stream, start, Fit};
 ghost use Rattle.reading.specs.Letters.{byteUnit, firstUnit, widest};
 ghost use Rattle.reading.specs.Written.{turning, one};
 ghost use Rattle.reading.specs.Account.{shapely, distance, vital, scaleless, few, bare, pointsOf, many, layerOf, scope, atStart, Checked};
 ghost use Rattle.reading.specs.Along.{emptyNo, numberNo, wholeNo, lower, blamed, kept, begun, idle, counted, worded, afterDoing, finished, runs, Fair, Sane};
 ghost use Rattle.reading.specs.Refusal.{Refuses};
-ghost use Rattle.reading.specs.Words.{held, word, valueOf, letterWords, closing, kindBy, Writes, Lined, lineNumber, lineLetter, Closed, ReadsCommand, ReadsItems};
+ghost use Rattle.reading.specs.Words.{held, word, valueOf, letterWords, closing, kindBy, Writes, Lined, lineNumber, lineLetter, Closed, outmost, ReadsCommand, ReadsItems};
 
 // 01, refusals 7 and 9.
 const LEAST_POINTS: usize = 3;
@@ -316,7 +316,7 @@ fn is_turning(b: u8) -> bool
 }
 
 fn more_turns(turns: usize, b: u8) -> usize
-    requires { ⌜ turns ≤ 9223372036854775808 ⌝ }
+    requires { ⌜ turns ≤ farthest ⌝ }
     ensures { λ r. ⌜ r ≡ turns + one (turning b) ⌝ }
 {
     if is_turning(b) {
@@ -366,7 +366,7 @@ fn rest() -> Doing
 }
 
 fn add_number(s: Scope, c: Doing, p: usize, n: usize) -> Doing
-    requires { ⌜ Fair s × Sane 9223372036854775808 c ⌝ }
+    requires { ⌜ Fair s × Sane farthest c ⌝ }
     ensures { λ r. ⌜ r ≡ counted s c p n ⌝ }
 {
     let k = number_no(s.a, s.b, c.letter, c.word, c.count, c.zero, n);
@@ -392,7 +392,7 @@ fn add_number(s: Scope, c: Doing, p: usize, n: usize) -> Doing
 }
 
 fn add_letter(c: Doing, w: u8) -> Doing
-    requires { ⌜ Sane 9223372036854775808 c ⌝ }
+    requires { ⌜ Sane farthest c ⌝ }
     ensures { λ r. ⌜ r ≡ worded c w ⌝ }
 {
     let turns = more_turns(c.turns, w);
@@ -602,7 +602,7 @@ fn word_of(minus: bool, n: usize) -> i32
 
 // A word past the end of the run is dropped, and counted all the same: so a run of no words measures.
 fn put_word(words: &mut [i32], at: usize, minus: bool, n: usize) -> usize
-    requires { ⌜ at ≤ 10000000000000000000 ⌝ }
+    requires { ⌜ at ≤ outmost ⌝ }
     ensures { λ r. ⌜ Writes (now (words .entry)) at (word minus n ∷ []) r (now (words .exit)) ⌝ }
 {
     let v = word_of(minus, n);
@@ -614,7 +614,7 @@ fn put_word(words: &mut [i32], at: usize, minus: bool, n: usize) -> usize
 }
 
 fn put_two(words: &mut [i32], at: usize, x: usize, y: usize) -> usize
-    requires { ⌜ at < 10000000000000000000 ⌝ }
+    requires { ⌜ at < outmost ⌝ }
     ensures { λ r. ⌜ Writes (now (words .entry)) at (word false x ∷ word false y ∷ []) r (now (words .exit)) ⌝ }
 {
     let m = put_word(words, at, false, x);
@@ -635,7 +635,7 @@ fn scaled(a: usize, b: usize, letter: u8, word: u8, index: usize, n: usize) -> u
 }
 
 fn put_letter(words: &mut [i32], at: usize, letter: u8, x: u8) -> usize
-    requires { ⌜ at ≤ 10000000000000000000 ⌝ }
+    requires { ⌜ at ≤ outmost ⌝ }
     ensures { λ r. ⌜ Writes (now (words .entry)) at (letterWords letter x) r (now (words .exit)) ⌝ }
 {
     if letter == b'C' {
@@ -657,7 +657,7 @@ fn put_closing(
     count: usize,
     name: usize,
 ) -> usize
-    requires { ⌜ at < 10000000000000000000 ⌝ }
+    requires { ⌜ at < outmost ⌝ }
     ensures { λ r. ⌜ Writes (now (words .entry)) at (closing letter word count name) r (now (words .exit)) ⌝ }
 {
     if letter == b'L' {
@@ -691,7 +691,7 @@ fn line_number(
     n: usize,
 ) -> Line
     requires { ⌜ (a ≤ tooLarge) × (1 ≤ b) × (n ≤ tooLarge) ⌝ }
-    requires { ⌜ (c .at < 10000000000000000000) × (c .count < 10000000000000000000) ⌝ }
+    requires { ⌜ (c .at < outmost) × (c .count < outmost) ⌝ }
     ensures { λ r. ⌜ Lined (now (words .entry)) (c .at) (valueOf a b letter (c .word) (c .count) minus n ∷ []) (lineNumber c) r (now (words .exit)) ⌝ }
 {
     let v = scaled(a, b, letter, c.word, c.count, n);
@@ -706,7 +706,7 @@ fn line_number(
 }
 
 fn line_letter(words: &mut [i32], c: Line, letter: u8, x: u8) -> Line
-    requires { ⌜ (c .at < 10000000000000000000) × (c .name + byteUnit * c .unit ≤ byteUnit * firstUnit) ⌝ }
+    requires { ⌜ (c .at < outmost) × (c .name + byteUnit * c .unit ≤ byteUnit * firstUnit) ⌝ }
     ensures { λ r. ⌜ Lined (now (words .entry)) (c .at) (letterWords letter x) (lineLetter letter c x) r (now (words .exit)) ⌝ }
 {
     let at = put_letter(words, c.at, letter, x);
@@ -729,7 +729,7 @@ fn kind_by(letter: u8, word: u8) -> u8
 }
 
 fn close(words: &mut [i32], letter: u8, place: usize, c: Line, to: pieces::Spot) -> Read
-    requires { ⌜ (2 ≤ c .at) × (c .at < 9999999999999999999) ⌝ }
+    requires { ⌜ (2 ≤ c .at) × (c .at + 1 < outmost) ⌝ }
     ensures { λ r. ⌜ Closed (now (words .entry)) letter place c to r (now (words .exit)) ⌝ }
 {
     let end = put_closing(words, c.at, letter, c.word, c.count, c.name);
@@ -757,6 +757,7 @@ fn read_items(
     ensures { λ r. ⌜ ReadsItems (now (text .entry)) from place letter a b (now (words .entry)) r (now (words .exit)) ⌝ }
 {
     let mut spot = from;
+    // two words stand in front: the kind with the count, and the place
     let mut c = Line {
         at: 2,
         word: 0,
