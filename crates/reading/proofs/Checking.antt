@@ -19,7 +19,7 @@ use Rattle.reading.specs.Letters.{letterD, letterL, noRefusal, byteUnit,
 use Rattle.pieces.specs.Pieces.{letterS, letterF}
 use Rattle.reading.specs.Written.{one, turning}
 use Rattle.reading.specs.Account.{scaleless, few, bare, many, layerOf, scope, atStart}
-use Rattle.reading.specs.Along.{numberNo, wholeNo, lower, blamed, kept, begun, idle, counted, worded, afterDoing, finished, onward, runs, Fair, Sane}
+use Rattle.reading.specs.Along.{numberNo, wholeNo, lower, blamed, kept, fresh, begun, idle, counted, worded, afterDoing, finished, onward, runs, Fair, Sane}
 use Rattle.reading.specs.declared.Scope.{Scope}
 use Rattle.reading.specs.declared.Doing.{Doing}
 use Rattle.reading.specs.declared.Ended.{Ended}
@@ -105,13 +105,9 @@ fair-finished s c f ha =
         let h₂ = ltb-false (c .no) noRefusal ez in
         fair-after s c f ha (no-scaleless (scaleless (c .letter) (c .word) (c .a) (c .b)) (choose (few (c .letter) (c .count)) 7 (choose (bare (c .letter) (layerOf s)) 8 (choose (many (c .letter) (c .count) (c .turns)) 9 noRefusal))) (omega arith))
 
-sane-begun : (n p l : ℕ) → Sane n (begun p l)
-unfolding begun
-sane-begun n p l = record { count = omega arith; turns = omega arith; a = omega arith; name = omega arith }
-
-pub sane-idle : (n : ℕ) → Sane n idle
-unfolding idle
-sane-idle n = record { count = omega arith; turns = omega arith; a = omega arith; name = omega arith }
+sane-fresh : (n : ℕ) (z : Bool) (p l : ℕ) → Sane n (fresh z p l)
+unfolding fresh
+sane-fresh n z p l = record { count = omega arith; turns = omega arith; a = omega arith; name = omega arith }
 
 kept-le : (b : Bool) (x y : ℕ) → x ≤ tooLarge → y ≤ tooLarge → choose b x y ≤ tooLarge
 kept-le true x y h k = h
@@ -158,7 +154,7 @@ pub checking-start : (t : List ℕ) (s : Scope) (c : Doing) → s ≡ atStart �
 checking-start t s c es e = record {
   fit = record { within = omega arith; state = omega arith; depth = omega arith };
   fair = subst Fair (sym es) (record { a = omega arith; b = omega arith });
-  sane = subst (Sane 0) (sym e) (sane-idle 0);
+  sane = subst (Sane 0) (sym e) (sane-fresh 0 false 0 0);
   is = ap (λ (d : Doing). runs (stream t start) s d) e ∙ ap (λ (d : Scope). runs (stream t start) d idle) es;
 }
 
@@ -210,7 +206,7 @@ module _ (t : List ℕ) (spot : Spot) (s : Scope) (c : Doing) (g : Checking t sp
         pub checking-first : (u : Scope) → e ≡ Then u → (d : Doing) → d ≡ begun p l → Checking t to u d
         unfolding runs
         checking-first u eu d ed =
-            next (First p l) st u d (fair-then u eu) (subst (Sane (spot .at + 1)) (sym ed) (sane-begun (spot .at + 1) p l))
+            next (First p l) st u d (fair-then u eu) (subst (Sane (spot .at + 1)) (sym ed) (sane-fresh (spot .at + 1) true p l))
             (ap (λ (k : Doing). runs (stream t to) u k) ed ∙ ends (λ v. runs (stream t to) v (begun p l)) u eu)
 
         pub checking-first-bad : (k q : ℕ) → e ≡ Broken k q → Refused k q ≡ runs (stream t start) atStart idle
@@ -221,7 +217,7 @@ module _ (t : List ℕ) (spot : Spot) (s : Scope) (c : Doing) (g : Checking t sp
         pub checking-stop : (u : Scope) → e ≡ Then u → (d : Doing) → d ≡ idle → Checking t to u d
         unfolding runs
         checking-stop u eu d ed =
-            next Stop st u d (fair-then u eu) (subst (Sane (spot .at + 1)) (sym ed) (sane-idle (spot .at + 1)))
+            next Stop st u d (fair-then u eu) (subst (Sane (spot .at + 1)) (sym ed) (sane-fresh (spot .at + 1) false 0 0))
             (ap (λ (k : Doing). runs (stream t to) u k) ed ∙ ends (λ v. runs (stream t to) v idle) u eu)
 
         pub checking-stop-bad : (k q : ℕ) → e ≡ Broken k q → Refused k q ≡ runs (stream t start) atStart idle

@@ -17,7 +17,7 @@ use Rattle.pieces.specs.declared.Piece.the-variants.{First, Second, Number, Wor
 use Rattle.reading.specs.Letters.{noRefusal, byteUnit, firstUnit}
 use Rattle.reading.specs.Written.{Written, itemsOf, stops, writtenAt, written, Figure, figures, letters, sizeAt, lastOf, packedBy, one, turning, turnsOf}
 use Rattle.reading.specs.Account.{distance, vital, scaleless, few, bare, many, layerOf, Blame, blame, when, ofNumber, ofNumbers, ofWhole, blames, sooner, foremost, faultBy, scopeBy, scopeAfter, faultFrom}
-use Rattle.reading.specs.Along.{numberNo, wholeNo, lower, blamed, kept, begun, idle, counted, worded, afterDoing, finished, onward, runs}
+use Rattle.reading.specs.Along.{numberNo, wholeNo, lower, blamed, kept, fresh, begun, idle, counted, worded, afterDoing, finished, onward, runs}
 use Rattle.reading.specs.declared.Scope.{Scope}
 use Rattle.reading.specs.declared.Doing.{Doing}
 use Rattle.reading.specs.declared.Ended.the-variants.{Then, Broken}
@@ -198,7 +198,7 @@ none-is x f = go (ltb (x .no) noRefusal) refl
 
 begun-is : (s : Scope) (p l : ℕ) (xs : List Piece) (z : Bool) (cs : List Written)
     → within s (begun p l) xs cs ≡ faultFrom s (record { place = p; letter = l; items = xs; stopped = z } ∷ cs)
-unfolding saidOf begun faultFrom blames scopeAfter
+unfolding saidOf fresh faultFrom blames scopeAfter
 begun-is s p l xs z cs =
     let c : Written = record { place = p; letter = l; items = xs; stopped = z } in
     rw (zero-add (length (figures 0 0 false xs)), zero-add (turnsOf (letters xs)), zero-add (packedBy firstUnit (letters xs)))
@@ -241,7 +241,7 @@ inner true x y f e = e
 inner false x y f e = refl
 
 runs-is : (ps : List Piece) (s : Scope) (c : Doing) → c .no ≤ noRefusal → runs ps s c ≡ target ps s c
-unfolding runs itemsOf stops written begun idle counted worded
+unfolding runs itemsOf stops written fresh counted worded
 runs-is [] s c h = closes s c (λ t. Clear) [] h none-left (c .busy) refl
 runs-is (First p b ∷ xs) s c h =
     closes s c (λ t. runs xs t (begun p b)) (writtenAt p b xs ∷ written xs) h
@@ -255,7 +255,7 @@ runs-is (Word b ∷ xs) s c h = runs-is xs s (worded c b) h ∙ inner (c .busy) 
 runs-is (Stop ∷ xs) s c h = closes s c (λ t. runs xs t idle) (written xs) h (λ t. runs-is xs t idle (omega arith)) (c .busy) refl
 
 pub runs-first : (ps : List Piece) (s : Scope) → runs ps s idle ≡ faultFrom s (written ps)
-unfolding idle
+unfolding fresh
 runs-first ps s = runs-is ps s idle (omega arith)
 
 -- refusal 7 looks at numbers before they are scaled: where 4 and 5 have nothing to say, a scaled distance is 0 just where the distance is

@@ -50,10 +50,10 @@ blamed k n here place at = if ltb k n then (if eqb k 7 then place else here) els
 abbrev pub kept : ℕ → ℕ → ℕ → ℕ → ℕ
 kept i k n old = if eqb i k then n else old
 
--- a command begins; or none is there
-unfoldable pub begun : ℕ → ℕ → Doing
-begun p l = record {
-  busy = true;
+-- a command of which nothing but its first letter is known; one begins, or none is there
+unfoldable pub fresh : Bool → ℕ → ℕ → Doing
+fresh z p l = record {
+  busy = z;
   place = p;
   letter = l;
   word = 0;
@@ -68,22 +68,11 @@ begun p l = record {
   at = 0;
 }
 
-unfoldable pub idle : Doing
-idle = record {
-  busy = false;
-  place = 0;
-  letter = 0;
-  word = 0;
-  count = 0;
-  zero = false;
-  turns = 0;
-  unit = firstUnit;
-  a = 1;
-  b = 1;
-  name = 0;
-  no = noRefusal;
-  at = 0;
-}
+abbrev pub begun : ℕ → ℕ → Doing
+begun p l = fresh true p l
+
+abbrev pub idle : Doing
+idle = fresh false 0 0
 
 -- with a number at place p of size n; with a letter w
 unfoldable pub counted : Scope → Doing → ℕ → ℕ → Doing

@@ -10,7 +10,7 @@ ghost use Rattle.pieces.specs.Pieces.{tooLarge, farthest, stream, start, Fit};
 ghost use Rattle.reading.specs.Letters.{byteUnit, firstUnit, widest};
 ghost use Rattle.reading.specs.Written.{turning, one};
 ghost use Rattle.reading.specs.Account.{shapely, distance, vital, scaleless, few, bare, pointsOf, many, layerOf, scope, atStart, Checked};
-ghost use Rattle.reading.specs.Along.{emptyNo, numberNo, wholeNo, lower, blamed, kept, begun, idle, counted, worded, afterDoing, finished, runs, Fair, Sane};
+ghost use Rattle.reading.specs.Along.{emptyNo, numberNo, wholeNo, lower, blamed, kept, fresh, idle, counted, worded, afterDoing, finished, runs, Fair, Sane};
 ghost use Rattle.reading.specs.Refusal.{Refuses};
 ghost use Rattle.reading.specs.Words.{held, word, valueOf, letterWords, closing, kindBy, Writes, Lined, lineNumber, lineLetter, Closed, outmost, ReadsCommand, ReadsItems};
 
@@ -325,33 +325,13 @@ fn more_turns(turns: usize, b: u8) -> usize
     turns
 }
 
-fn begin(place: usize, letter: u8) -> Doing
-    ensures { λ r. ⌜ r ≡ begun place letter ⌝ }
+fn new_command(busy: bool, place: usize, letter: u8) -> Doing
+    ensures { λ r. ⌜ r ≡ fresh busy place letter ⌝ }
 {
     Doing {
-        busy: true,
+        busy,
         place,
         letter,
-        word: 0,
-        count: 0,
-        zero: false,
-        turns: 0,
-        unit: FIRST_UNIT,
-        a: 1,
-        b: 1,
-        name: 0,
-        no: NO_REFUSAL,
-        at: 0,
-    }
-}
-
-fn rest() -> Doing
-    ensures { λ r. ⌜ r ≡ idle ⌝ }
-{
-    Doing {
-        busy: false,
-        place: 0,
-        letter: 0,
         word: 0,
         count: 0,
         zero: false,
@@ -517,7 +497,7 @@ fn checked(text: &[u8], kinds: &[u8; 256], next: &[u16; grammar::tables::ENTRY_C
         depth: 0,
     };
     let mut s = without(0);
-    let mut c = rest();
+    let mut c = new_command(false, 0, 0);
     loop {
         match pieces::next_piece(text, kinds, next, spot) {
             pieces::Found::End => {
@@ -531,7 +511,7 @@ fn checked(text: &[u8], kinds: &[u8; 256], next: &[u16; grammar::tables::ENTRY_C
                 pieces::Piece::First(p, l) => match finish(s, c) {
                     Ended::Then(t) => {
                         s = t;
-                        c = begin(p, l);
+                        c = new_command(true, p, l);
                         spot = to;
                     }
                     Ended::Broken(no, at) => {
@@ -549,7 +529,7 @@ fn checked(text: &[u8], kinds: &[u8; 256], next: &[u16; grammar::tables::ENTRY_C
                 pieces::Piece::Stop => match finish(s, c) {
                     Ended::Then(t) => {
                         s = t;
-                        c = rest();
+                        c = new_command(false, 0, 0);
                         spot = to;
                     }
                     Ended::Broken(no, at) => {

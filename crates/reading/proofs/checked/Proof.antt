@@ -20,11 +20,11 @@ abbrev μ-loop : tie.MeasureT-loop
 without-requires : tie.Need-without-requires Inv-loop μ-loop
 without-requires c κs = search needs
 
-rest-requires : tie.Need-rest-requires Inv-loop μ-loop
-rest-requires c κs = search needs
+new-command-requires : tie.Need-new-command-requires Inv-loop μ-loop
+new-command-requires c κs = search needs
 
 loop-holds : tie.Need-loop-holds Inv-loop μ-loop
-loop-holds c = checking-start _ _ _ (c .before .without .ensures) (c .rest .ensures)
+loop-holds c = checking-start _ _ _ (c .before .without .ensures) (c .new-command .ensures)
 
 next-piece-requires : tie.Need-next-piece-requires Inv-loop μ-loop
 next-piece-requires c κs = (c .before .before .before .before .pre, c .loop .inv .fit)
@@ -62,14 +62,14 @@ finish-requires c κs = search needs
 enum-known-t : tie.Need-enum-known-t Inv-loop μ-loop
 enum-known-t c = c .match3 .keys1
 
-begin-requires : tie.Need-begin-requires Inv-loop μ-loop
-begin-requires c κs = search needs
+new-command-requires-2 : tie.Need-new-command-requires-2 Inv-loop μ-loop
+new-command-requires-2 c κs = search needs
 
 loop-less-2 : tie.Need-loop-less-2 Inv-loop μ-loop
 loop-less-2 c = let st = (subst (Reads (c .before .before .before .before .before .before .before .before .before .before .before .before .before .before .before .before .args .text .now) (c .before .before .before .before .before .before .before .before .before .before .before .before .loop .spot)) (c .before .before .before .before .before .before .before .before .before .x .given .1) (c .before .before .before .before .before .before .before .before .before .before .before .next-piece .ensures)) in let h = st .ahead in let k = st .fit .within in omega arith
 
 loop-again-2 : tie.Need-loop-again-2 Inv-loop μ-loop
-loop-again-2 c = checking-first (c .before .before .before .before .before .before .before .before .before .before .before .before .before .before .before .before .args .text .now) (c .before .before .before .before .before .before .before .before .before .before .before .before .loop .spot) (c .before .before .before .before .before .before .before .before .before .before .before .before .loop .s) (c .before .before .before .before .before .before .before .before .before .before .before .before .loop .c) (c .before .before .before .before .before .before .before .before .before .before .before .before .loop .inv) _ _ (c .before .before .before .before .finish .ensures) _ _ (by-piece (c .before .before .before .before .before .before .x3 .given .1) (subst (Reads (c .before .before .before .before .before .before .before .before .before .before .before .before .before .before .before .before .args .text .now) (c .before .before .before .before .before .before .before .before .before .before .before .before .loop .spot)) (c .before .before .before .before .before .before .before .before .before .x .given .1) (c .before .before .before .before .before .before .before .before .before .before .before .next-piece .ensures))) _ (c .before .before .t .given .1) _ (c .begin .ensures)
+loop-again-2 c = checking-first (c .before .before .before .before .before .before .before .before .before .before .before .before .before .before .before .before .args .text .now) (c .before .before .before .before .before .before .before .before .before .before .before .before .loop .spot) (c .before .before .before .before .before .before .before .before .before .before .before .before .loop .s) (c .before .before .before .before .before .before .before .before .before .before .before .before .loop .c) (c .before .before .before .before .before .before .before .before .before .before .before .before .loop .inv) _ _ (c .before .before .before .before .finish .ensures) _ _ (by-piece (c .before .before .before .before .before .before .x3 .given .1) (subst (Reads (c .before .before .before .before .before .before .before .before .before .before .before .before .before .before .before .before .args .text .now) (c .before .before .before .before .before .before .before .before .before .before .before .before .loop .spot)) (c .before .before .before .before .before .before .before .before .before .x .given .1) (c .before .before .before .before .before .before .before .before .before .before .before .next-piece .ensures))) _ (c .before .before .t .given .1) _ (c .new-command2 .ensures)
 
 enum-known-no : tie.Need-enum-known-no Inv-loop μ-loop
 enum-known-no c = c .match3 .keys2
@@ -110,14 +110,14 @@ finish-requires-2 c κs = search needs
 enum-known-t-2 : tie.Need-enum-known-t-2 Inv-loop μ-loop
 enum-known-t-2 c = c .match4 .keys1
 
-rest-requires-2 : tie.Need-rest-requires-2 Inv-loop μ-loop
-rest-requires-2 c κs = search needs
+new-command-requires-3 : tie.Need-new-command-requires-3 Inv-loop μ-loop
+new-command-requires-3 c κs = search needs
 
 loop-less-5 : tie.Need-loop-less-5 Inv-loop μ-loop
 loop-less-5 c = let st = (subst (Reads (c .before .before .before .before .before .before .before .before .before .before .before .before .before .before .before .args .text .now) (c .before .before .before .before .before .before .before .before .before .before .before .loop .spot)) (c .before .before .before .before .before .before .before .before .x .given .1) (c .before .before .before .before .before .before .before .before .before .before .next-piece .ensures)) in let h = st .ahead in let k = st .fit .within in omega arith
 
 loop-again-5 : tie.Need-loop-again-5 Inv-loop μ-loop
-loop-again-5 c = checking-stop (c .before .before .before .before .before .before .before .before .before .before .before .before .before .before .before .args .text .now) (c .before .before .before .before .before .before .before .before .before .before .before .loop .spot) (c .before .before .before .before .before .before .before .before .before .before .before .loop .s) (c .before .before .before .before .before .before .before .before .before .before .before .loop .c) (c .before .before .before .before .before .before .before .before .before .before .before .loop .inv) _ _ (c .before .before .before .before .finish2 .ensures) (by-piece (c .before .before .before .before .before .enum-told2 .given .1) (subst (Reads (c .before .before .before .before .before .before .before .before .before .before .before .before .before .before .before .args .text .now) (c .before .before .before .before .before .before .before .before .before .before .before .loop .spot)) (c .before .before .before .before .before .before .before .before .x .given .1) (c .before .before .before .before .before .before .before .before .before .before .next-piece .ensures))) _ (c .before .before .t2 .given .1) _ (c .rest2 .ensures)
+loop-again-5 c = checking-stop (c .before .before .before .before .before .before .before .before .before .before .before .before .before .before .before .args .text .now) (c .before .before .before .before .before .before .before .before .before .before .before .loop .spot) (c .before .before .before .before .before .before .before .before .before .before .before .loop .s) (c .before .before .before .before .before .before .before .before .before .before .before .loop .c) (c .before .before .before .before .before .before .before .before .before .before .before .loop .inv) _ _ (c .before .before .before .before .finish2 .ensures) (by-piece (c .before .before .before .before .before .enum-told2 .given .1) (subst (Reads (c .before .before .before .before .before .before .before .before .before .before .before .before .before .before .before .args .text .now) (c .before .before .before .before .before .before .before .before .before .before .before .loop .spot)) (c .before .before .before .before .before .before .before .before .x .given .1) (c .before .before .before .before .before .before .before .before .before .before .next-piece .ensures))) _ (c .before .before .t2 .given .1) _ (c .new-command3 .ensures)
 
 enum-known-no-2 : tie.Need-enum-known-no-2 Inv-loop μ-loop
 enum-known-no-2 c = c .match4 .keys2
@@ -132,7 +132,7 @@ checked-spec =
     Inv-loop
     μ-loop
     without-requires
-    rest-requires
+    new-command-requires
     loop-holds
     next-piece-requires
     enum-told
@@ -146,7 +146,7 @@ checked-spec =
     enum-known-x-3
     finish-requires
     enum-known-t
-    begin-requires
+    new-command-requires-2
     loop-less-2
     loop-again-2
     enum-known-no
@@ -162,7 +162,7 @@ checked-spec =
     enum-told-2
     finish-requires-2
     enum-known-t-2
-    rest-requires-2
+    new-command-requires-3
     loop-less-5
     loop-again-5
     enum-known-no-2
