@@ -8,6 +8,7 @@ use Prim.Native.Nat.{ℕ, _-_, _*_, _/_, _%_}
 use lib.Dec.{ltb, eqb}
 use lib.ListN.{length}
 use Rattle.grammar.specs.Notation.{Letter}
+use Rattle.grammar.specs.Steps.{marked}
 use Rattle.grammar.specs.Viable.{Marked}
 use Rattle.definition.specs.Words.{if_then_else_}
 use Rattle.pieces.specs.Pieces.{largest, letterS, letterF, pieces}
@@ -132,6 +133,8 @@ atStart = scope false 1 1 0 0
 abbrev pub faultOf : List Letter → Fault
 faultOf m = faultFrom atStart (written (pieces 0 0 m))
 
--- the contract of `check`: of any marking of the text by the grammar
+-- the contract of `check`: the account of the letters as the recogniser marks them, as far as it goes; and so of any marking of the text by the
+-- grammar
 pub record Checked (t : List ℕ) (r : Fault) : Type 0 where
+  pub along : r ≡ faultOf (marked 0 0 t)
   pub is : (m : List Letter) → Marked t m → r ≡ faultOf m

@@ -17,7 +17,9 @@ unfolding kinds table
 checked-requires c κs = search needs
 
 returns : tie.Need-returns
-returns c = record { is = λ m k. c .checked .ensures ∙ runs-first (stream (c .before .before .before .before .args .text .now) start) atStart ∙ ap (λ (l : List Letter). faultOf l) (sym (marking-is k)) }
+returns c =
+    let e = c .checked .ensures ∙ runs-first (stream (c .before .before .before .before .args .text .now) start) atStart in
+    record { along = e; is = λ m k. e ∙ ap (λ (l : List Letter). faultOf l) (sym (marking-is k)) }
 
 pub check-spec : {M : Type 1} → statement M
 check-spec = tie.close (tie.spec checked-requires returns)
