@@ -7,3 +7,5 @@ pub mod Unique
 pub mod Sound
 pub mod Wording
 pub mod Texts
+pub mod Tokens
+pub mod Says
