@@ -9,3 +9,7 @@ pub mod Wording
 pub mod Texts
 pub mod Tokens
 pub mod Says
+pub mod Foremost
+pub mod Marks
+pub mod Blames
+pub mod Facing

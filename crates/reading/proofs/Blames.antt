@@ -1,0 +1,250 @@
+-- What the account says against a command, refusal by refusal, in terms of the command's marks.
+-- Assumes nothing.
+use mathlib.Core.Path.{_≡_, refl, sym, ap, ap₂, _∙_}
+use mathlib.Core.Bool.{Bool, true, false, not, _&&_, _||_, and-comm}
+use mathlib.Core.List.{List, [], _∷_}
+use mathlib.Core.Option.{Option, none, some}
+use Prim.Native.Nat.{ℕ, _+_, _*_, _/_, _%_, _≤_, _<_}
+use native.Mathlib.Omega.{arith}
+use lib.Dec.{ltb, eqb}
+use lib.IntN.{ℤ, natAbs}
+use lib.ListN.{length}
+use borrow.Author.Tests.{lt-ltb, le-ltb, ltb-true, ltb-false, eq-eqb, ne-eqb}
+use Rattle.definition.specs.Words.{if_then_else_, any}
+use Rattle.definition.specs.Faults.{beyond, zero?}
+use Rattle.definition.proofs.Range.{All}
+use Rattle.pieces.specs.Pieces.{largest, tooLarge, capped}
+use Rattle.reading.specs.Written.{Figure}
+use Rattle.reading.specs.Account.{distance, vital, scaleless, few, bare, many, Blame, blame, when, ofNumber, ofNumbers, ofWhole}
+use Rattle.reading.specs.declared.Scope.{Scope}
+use Rattle.reading.proofs.Foremost.{find, find-own, find-other, Numbered, all-when}
+use Rattle.reading.proofs.Marks.{Mark, foundBy, weighty}
+
+-- ---- capped sizes
+
+cap : (v : ℕ) (b : Bool) → ltb v tooLarge ≡ b → capped v ≡ (if b then v else tooLarge)
+unfolding capped
+cap v b e = rw e refl
+
+pub capped-beyond : (v : ℕ) → ltb largest (capped v) ≡ ltb largest v
+capped-beyond v = go (ltb v tooLarge) refl
+  where
+    go : (b : Bool) → ltb v tooLarge ≡ b → ltb largest (capped v) ≡ ltb largest v
+    go true e = rw (cap v true e) refl
+    go false e = rw (cap v false e) (sym (lt-ltb largest v (let h = ltb-false v tooLarge e in omega arith)))
+
+pub capped-zero : (v : ℕ) → eqb (capped v) 0 ≡ eqb v 0
+capped-zero v = go (ltb v tooLarge) refl
+  where
+    go : (b : Bool) → ltb v tooLarge ≡ b → eqb (capped v) 0 ≡ eqb v 0
+    go true e = rw (cap v true e) refl
+    go false e = rw (cap v false e) (sym (ne-eqb v 0 (λ z. let h = ltb-false v tooLarge e in omega arith)))
+
+pub capped-exact : (v : ℕ) → ltb largest v ≡ false → capped v ≡ v
+capped-exact v e = cap v true (lt-ltb v tooLarge (let h = ltb-false largest v e in omega arith))
+
+-- ---- figures of the account, and marks
+
+-- the account's figure, in a command with the first letter l, is this mark's
+pub record Seen (l : ℕ) (f : Figure) (m : Mark) : Type 0 where
+  pub place : f .place ≡ m .number .place
+  pub size : f .size ≡ capped (natAbs (m .number .what))
+  pub far : distance l (f .word) (f .index) ≡ m .far
+  pub vital : vital l (f .word) (f .index) (f .zero) ≡ m .vital
+
+-- a number that is left out meets no refusal
+pub record Absent (m : Mark) : Type 0 where
+  pub near : beyond (m .number .what) ≡ false
+  pub not-far : m .far ≡ false
+  pub light : weighty m ≡ false
+
+pub data Sees (l : ℕ) : List Figure → List Mark → Type 0 where
+  no-more : Sees l [] []
+  left-out : {m : Mark} {ms : List Mark} → Absent m → Sees l [] ms → Sees l [] (m ∷ ms)
+  one-seen : {f : Figure} {m : Mark} {fs : List Figure} {ms : List Mark} → Seen l f m → Sees l fs ms → Sees l (f ∷ fs) (m ∷ ms)
+
+all-unit : (ms : List Mark) → All (λ (m : Mark). Unit {0}) ms
+unfolding All
+all-unit [] = tt
+all-unit (m ∷ ms) = (tt, all-unit ms)
+
+-- ---- against one number
+
+module _ (s : Scope) (p l : ℕ) where
+  abbrev test₃ : Figure → Bool
+  test₃ f = ltb largest (f .size)
+
+  abbrev test₅ : Figure → Bool
+  test₅ f = distance l (f .word) (f .index) && not (eqb (s .a * f .size % s .b) 0)
+
+  abbrev test₆ : Figure → Bool
+  test₆ f = distance l (f .word) (f .index) && ltb largest (s .a * f .size / s .b)
+
+  abbrev test₇ : Figure → Bool
+  test₇ f = eqb (f .size) 0 && Rattle.reading.specs.Account.vital l (f .word) (f .index) (f .zero)
+
+  module _ (f : Figure) (r : List Blame) where
+    abbrev from₇ : List Blame
+    from₇ = when (test₇ f) 7 p r
+
+    abbrev from₆ : List Blame
+    from₆ = when (test₆ f) 6 (f .place) from₇
+
+    abbrev from₅ : List Blame
+    from₅ = when (test₅ f) 5 (f .place) from₆
+
+    find-none : (k : ℕ) → eqb 3 k ≡ false → eqb 5 k ≡ false → eqb 6 k ≡ false → eqb 7 k ≡ false → find k (ofNumber s p l f r) ≡ find k r
+    find-none k e₃ e₅ e₆ e₇ =
+        find-other k 3 e₃ (test₃ f) (f .place) from₅
+        ∙ (find-other k 5 e₅ (test₅ f) (f .place) from₆ ∙ (find-other k 6 e₆ (test₆ f) (f .place) from₇ ∙ find-other k 7 e₇ (test₇ f) p r))
+
+    find-3 : find 3 (ofNumber s p l f r) ≡ (if test₃ f then some (f .place) else find 3 r)
+    find-3 =
+        find-own 3 refl (test₃ f) (f .place) from₅
+        ∙ ap (λ (y : Option ℕ). if test₃ f then some (f .place) else y)
+        (find-other 3 5 refl (test₅ f) (f .place) from₆ ∙ (find-other 3 6 refl (test₆ f) (f .place) from₇ ∙ find-other 3 7 refl (test₇ f) p r))
+
+    find-5 : find 5 (ofNumber s p l f r) ≡ (if test₅ f then some (f .place) else find 5 r)
+    find-5 =
+        find-other 5 3 refl (test₃ f) (f .place) from₅
+        ∙ (find-own 5 refl (test₅ f) (f .place) from₆
+        ∙ ap (λ (y : Option ℕ). if test₅ f then some (f .place) else y) (find-other 5 6 refl (test₆ f) (f .place) from₇ ∙ find-other 5 7 refl (test₇ f) p r))
+
+    find-6 : find 6 (ofNumber s p l f r) ≡ (if test₆ f then some (f .place) else find 6 r)
+    find-6 =
+        find-other 6 3 refl (test₃ f) (f .place) from₅
+        ∙ (find-other 6 5 refl (test₅ f) (f .place) from₆
+        ∙ (find-own 6 refl (test₆ f) (f .place) from₇ ∙ ap (λ (y : Option ℕ). if test₆ f then some (f .place) else y) (find-other 6 7 refl (test₇ f) p r)))
+
+    find-7 : find 7 (ofNumber s p l f r) ≡ (if test₇ f then some p else find 7 r)
+    find-7 =
+        find-other 7 3 refl (test₃ f) (f .place) from₅
+        ∙ (find-other 7 5 refl (test₅ f) (f .place) from₆ ∙ (find-other 7 6 refl (test₆ f) (f .place) from₇ ∙ find-own 7 refl (test₇ f) p r))
+
+    all-of-number : All Numbered r → All Numbered (ofNumber s p l f r)
+    all-of-number h =
+        all-when (test₃ f) 3 (f .place) from₅ (omega arith) (omega arith)
+        (all-when (test₅ f) 5 (f .place) from₆ (omega arith) (omega arith)
+        (all-when (test₆ f) 6 (f .place) from₇ (omega arith) (omega arith) (all-when (test₇ f) 7 p r (omega arith) (omega arith) h)))
+
+  -- ---- against all numbers of a command
+  module _ (r : List Blame) where
+    pub sees-none : (k : ℕ) → eqb 3 k ≡ false → eqb 5 k ≡ false → eqb 6 k ≡ false → eqb 7 k ≡ false → (fs : List Figure) → find k (ofNumbers s p l fs r) ≡ find k r
+    unfolding ofNumbers
+    sees-none k e₃ e₅ e₆ e₇ [] = refl
+    sees-none k e₃ e₅ e₆ e₇ (f ∷ fs) = find-none f (ofNumbers s p l fs r) k e₃ e₅ e₆ e₇ ∙ sees-none k e₃ e₅ e₆ e₇ fs
+
+    sees-found : (k : ℕ) (t : Figure → Bool) (h : Mark → Bool) (P : Mark → Type 0)
+        → ((f : Figure) (q : List Blame) → find k (ofNumber s p l f q) ≡ (if t f then some (f .place) else find k q))
+        → ((f : Figure) (m : Mark) → Seen l f m → P m → t f ≡ h m) → ((m : Mark) → Absent m → h m ≡ false)
+        → {fs : List Figure} {ms : List Mark} → Sees l fs ms → All P ms → find k (ofNumbers s p l fs r) ≡ foundBy h ms (find k r)
+    unfolding ofNumbers foundBy All
+    sees-found k t h P own same skip no-more a = refl
+    sees-found k t h P own same skip (left-out {m} x g) a = rw (skip m x) (sees-found k t h P own same skip g (a .1))
+    sees-found k t h P own same skip (one-seen {f} {m} {fs} {ms} x g) a =
+        own f (ofNumbers s p l fs r)
+        ∙ rw (same f m x (a .0), x .place) (ap (λ (y : Option ℕ). if h m then some (m .number .place) else y) (sees-found k t h P own same skip g (a .1)))
+
+    pub sees-7 : {fs : List Figure} {ms : List Mark} → Sees l fs ms → find 7 (ofNumbers s p l fs r) ≡ (if any weighty ms then some p else find 7 r)
+    unfolding ofNumbers any
+    sees-7 no-more = refl
+    sees-7 (left-out {m} {ms} x g) = sees-7 g ∙ ap (λ (b : Bool). if b || any weighty ms then some p else find 7 r) (sym (x .light))
+    sees-7 (one-seen {f} {m} {fs} {ms} x g) =
+        find-7 f (ofNumbers s p l fs r)
+        ∙ (ap (λ (y : Option ℕ). if test₇ f then some p else y) (sees-7 g)
+        ∙ (ap (λ (b : Bool). if b then some p else (if any weighty ms then some p else find 7 r)) weight ∙ nest (weighty m) (any weighty ms)))
+      where
+        weight : test₇ f ≡ weighty m
+        weight =
+            ap₂ (λ (a b : Bool). a && b) (ap (λ (n : ℕ). eqb n 0) (x .size) ∙ capped-zero (natAbs (m .number .what))) (x .vital)
+            ∙ and-comm (zero? (m .number .what)) (m .vital)
+
+        nest : (a b : Bool) → (if a then some p else (if b then some p else find 7 r)) ≡ (if a || b then some p else find 7 r)
+        nest true b = refl
+        nest false b = refl
+
+    pub sees-3 : {fs : List Figure} {ms : List Mark} → Sees l fs ms → find 3 (ofNumbers s p l fs r) ≡ foundBy (λ m. beyond (m .number .what)) ms (find 3 r)
+    unfolding beyond
+    sees-3 {ms = ms} g =
+        sees-found 3 test₃ (λ m. beyond (m .number .what)) (λ m. Unit {0}) find-3 (λ f m x u. ap (λ (n : ℕ). ltb largest n) (x .size) ∙ capped-beyond (natAbs (m .number .what)))
+        (λ m x. x .near) g (all-unit ms)
+
+    -- where no number is beyond, sizes are exact
+    abbrev Near : Mark → Type 0
+    Near m = beyond (m .number .what) ≡ false
+
+    exact : (f : Figure) (m : Mark) → Seen l f m → Near m → f .size ≡ natAbs (m .number .what)
+    unfolding beyond
+    exact f m x h = x .size ∙ capped-exact (natAbs (m .number .what)) h
+
+    pub sees-5 : {fs : List Figure} {ms : List Mark} → Sees l fs ms → All Near ms
+        → find 5 (ofNumbers s p l fs r) ≡ foundBy (λ m. m .far && not (eqb (s .a * natAbs (m .number .what) % s .b) 0)) ms (find 5 r)
+    sees-5 g a =
+        sees-found 5 test₅ (λ m. m .far && not (eqb (s .a * natAbs (m .number .what) % s .b) 0)) Near find-5
+        (λ f m x h. ap₂ (λ (b : Bool) (n : ℕ). b && not (eqb (s .a * n % s .b) 0)) (x .far) (exact f m x h))
+        (λ m x. ap (λ (b : Bool). b && not (eqb (s .a * natAbs (m .number .what) % s .b) 0)) (x .not-far)) g a
+
+    pub sees-6 : {fs : List Figure} {ms : List Mark} → Sees l fs ms → All Near ms
+        → find 6 (ofNumbers s p l fs r) ≡ foundBy (λ m. m .far && ltb largest (s .a * natAbs (m .number .what) / s .b)) ms (find 6 r)
+    sees-6 g a =
+        sees-found 6 test₆ (λ m. m .far && ltb largest (s .a * natAbs (m .number .what) / s .b)) Near find-6
+        (λ f m x h. ap₂ (λ (b : Bool) (n : ℕ). b && ltb largest (s .a * n / s .b)) (x .far) (exact f m x h))
+        (λ m x. ap (λ (b : Bool). b && ltb largest (s .a * natAbs (m .number .what) / s .b)) (x .not-far)) g a
+
+    pub all-of-numbers : (fs : List Figure) → All Numbered r → All Numbered (ofNumbers s p l fs r)
+    unfolding ofNumbers
+    all-of-numbers [] h = h
+    all-of-numbers (f ∷ fs) h = all-of-number f (ofNumbers s p l fs r) (all-of-numbers fs h)
+
+-- ---- against the command as a whole
+
+nothing-found : (k : ℕ) → find k [] ≡ none
+unfolding find
+nothing-found k = refl
+
+module _ (p l w n t a b y : ℕ) where
+  abbrev whole₉ : List Blame
+  whole₉ = when (many l n t) 9 p []
+
+  abbrev whole₈ : List Blame
+  whole₈ = when (bare l y) 8 p whole₉
+
+  abbrev whole₇ : List Blame
+  whole₇ = when (few l n) 7 p whole₈
+
+  pub whole-none : (k : ℕ) → eqb 4 k ≡ false → eqb 7 k ≡ false → eqb 8 k ≡ false → eqb 9 k ≡ false → find k (ofWhole p l w n t a b y) ≡ none
+  whole-none k e₄ e₇ e₈ e₉ =
+      find-other k 4 e₄ (scaleless l w a b) p whole₇
+      ∙ (find-other k 7 e₇ (few l n) p whole₈ ∙ (find-other k 8 e₈ (bare l y) p whole₉ ∙ (find-other k 9 e₉ (many l n t) p [] ∙ nothing-found k)))
+
+  pub whole-4 : find 4 (ofWhole p l w n t a b y) ≡ (if scaleless l w a b then some p else none)
+  whole-4 =
+      find-own 4 refl (scaleless l w a b) p whole₇
+      ∙ ap (λ (z : Option ℕ). if scaleless l w a b then some p else z)
+      (find-other 4 7 refl (few l n) p whole₈ ∙ (find-other 4 8 refl (bare l y) p whole₉ ∙ (find-other 4 9 refl (many l n t) p [] ∙ nothing-found 4)))
+
+  pub whole-7 : find 7 (ofWhole p l w n t a b y) ≡ (if few l n then some p else none)
+  whole-7 =
+      find-other 7 4 refl (scaleless l w a b) p whole₇
+      ∙ (find-own 7 refl (few l n) p whole₈
+      ∙ ap (λ (z : Option ℕ). if few l n then some p else z) (find-other 7 8 refl (bare l y) p whole₉ ∙ (find-other 7 9 refl (many l n t) p [] ∙ nothing-found 7)))
+
+  pub whole-8 : find 8 (ofWhole p l w n t a b y) ≡ (if bare l y then some p else none)
+  whole-8 =
+      find-other 8 4 refl (scaleless l w a b) p whole₇
+      ∙ (find-other 8 7 refl (few l n) p whole₈
+      ∙ (find-own 8 refl (bare l y) p whole₉ ∙ ap (λ (z : Option ℕ). if bare l y then some p else z) (find-other 8 9 refl (many l n t) p [] ∙ nothing-found 8)))
+
+  pub whole-9 : find 9 (ofWhole p l w n t a b y) ≡ (if many l n t then some p else none)
+  whole-9 =
+      find-other 9 4 refl (scaleless l w a b) p whole₇
+      ∙ (find-other 9 7 refl (few l n) p whole₈
+      ∙ (find-other 9 8 refl (bare l y) p whole₉
+      ∙ (find-own 9 refl (many l n t) p [] ∙ ap (λ (z : Option ℕ). if many l n t then some p else z) (nothing-found 9))))
+
+  pub all-of-whole : All Numbered (ofWhole p l w n t a b y)
+  unfolding All
+  all-of-whole =
+      all-when (scaleless l w a b) 4 p whole₇ (omega arith) (omega arith)
+      (all-when (few l n) 7 p whole₈ (omega arith) (omega arith)
+      (all-when (bare l y) 8 p whole₉ (omega arith) (omega arith) (all-when (many l n t) 9 p [] (omega arith) (omega arith) tt)))
