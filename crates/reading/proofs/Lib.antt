@@ -13,3 +13,5 @@ pub mod Foremost
 pub mod Marks
 pub mod Blames
 pub mod Facing
+pub mod Packed
+pub mod Agree

@@ -196,7 +196,7 @@ turns-weight [] = refl
 turns-weight (t ∷ ts) = any-++ weighty (turnMarks t) (flatMap turnMarks ts) ∙ ap₂ (λ (x y : Bool). x || y) (turn-weight t) (turns-weight ts)
 
 -- a whole distance is 0 after scaling only if it was before
-abs-scaled : (s : Standing) (z : ℤ) → natAbs (scaled s z) ≡ s .a * natAbs z / s .b
+pub abs-scaled : (s : Standing) (z : ℤ) → natAbs (scaled s z) ≡ s .a * natAbs z / s .b
 unfolding scaled
 abs-scaled s (pos d) = refl
 abs-scaled s (negsuc d) = abs-neg (pos (s .a * suc d / s .b))

@@ -1,0 +1,418 @@
+-- The account's rules agree with the definition's: of every grammatical text the first of refusals 3 to 9, and its place.
+-- Assumes nothing.
+use mathlib.Core.Path.{_≡_, refl, sym, ap, ap₂, _∙_, subst}
+use mathlib.Core.Bool.{Bool, true, false, not, _&&_, _||_, and-false}
+use mathlib.Core.List.{List, [], _∷_, _++_, flatMap}
+use mathlib.Core.Option.{Option, none, some}
+use Prim.Native.Nat.{ℕ, _+_, _*_, _/_, _%_, _≤_, _<_}
+use native.Mathlib.Omega.{arith}
+use borrow.Author.Tests.{lt-ltb, ltb-false, eqb-false}
+use lib.Dec.{ltb, eqb}
+use lib.IntN.{ℤ, pos, natAbs}
+use lib.ListN.{length}
+use Rattle.grammar.specs.Notation.{Letter}
+use Rattle.grammar.specs.Viable.{Marked}
+use Rattle.definition.specs.Words.{if_then_else_, Placed, at, any, those, first}
+use Rattle.definition.specs.Commands.{Number, Shape, Command, start, finish, layer, commands}
+use Rattle.definition.specs.Standing.{Standing, outside, after, scaled, whole}
+use Rattle.definition.specs.Faults.{beyond, zero?, partsOf, distances, numbersOf, zeroScale, degenerate, layerless, tooMany, Refusal, atNumbers, atCommand, faults, allFaults, firstFault}
+use Rattle.definition.proofs.Range.{All, all-++}
+use Rattle.definition.proofs.Made.{Name}
+use Rattle.definition.proofs.Ordered.{Allowed, Ordered, opens, after-inside, ordered, two-bits}
+use Rattle.definition.proofs.Sizes.{nil-left, nil-right, all-map, at-numbers}
+use Rattle.pieces.specs.Pieces.{largest, capped, pieces}
+use Rattle.reading.specs.Letters.{firstUnit}
+use Rattle.reading.specs.Written.{Written, written, numbers, letters, figures, lastOf, lastLetter, sizeAt, packedBy, turnsOf}
+use Rattle.reading.specs.Account.{layerOf, bare, many, few, scaleless, Blame, blame, ofNumbers, ofWhole, blames, foremost, faultBy, scopeAfter, faultFrom, atStart, faultOf}
+use Rattle.reading.specs.Refusal.{faultSaid}
+use Rattle.reading.specs.declared.Scope.{Scope}
+use Rattle.reading.specs.declared.Fault.{Fault}
+use Rattle.definition.proofs.Said.{or-first, or-second}
+use Rattle.reading.proofs.Tokens.{signed}
+use Rattle.reading.proofs.Says.{tells, Says, a-polygon, a-box, a-turned-box, a-flash, a-wire, a-layer, a-call, a-start, a-scaled-start, a-finish, a-deletion, a-nothing, AllSay, none-said, one-said, all-say}
+use Rattle.reading.proofs.Foremost.{pick, chosen, find, foremost-is, headOf, found, head-numbers, head-command, alike, Numbered}
+use Rattle.reading.proofs.Marks.{Mark, foundBy, marksOf, all-marks, far-marks, weighty, fewPoints, abs-scaled, weights}
+use Rattle.reading.proofs.Blames.{capped-exact, sees-none, sees-3, sees-5, sees-6, sees-7, all-of-numbers, whole-none, whole-4, whole-7, whole-8, whole-9, all-of-whole}
+use Rattle.reading.proofs.Facing.{abs-signed, letters-words, Faces, faces}
+use Rattle.reading.proofs.Packed.{packed, packed-none}
+
+-- ---- what stands
+
+-- the account's scope is the definition's standing, where no fault was found so far
+pub record Fits (s : Scope) (σ : Standing) : Type 0 where
+  pub inside : s .inside ≡ σ .inside
+  pub a : s .a ≡ σ .a
+  pub b : s .b ≡ σ .b
+  pub some-a : 0 < σ .a
+  pub some-b : 0 < σ .b
+  pub most-a : σ .a ≤ largest
+  pub most-b : σ .b ≤ largest
+  pub set : layerOf s ≡ packed (σ .layer-set)
+  pub set-name : Name (σ .layer-set)
+  pub kept : σ .inside ≡ true → s .outer ≡ packed (σ .layer-outside)
+  pub kept-name : Name (σ .layer-outside)
+
+-- ---- found nowhere
+
+unless-some : (b : Bool) (p : ℕ) (x : Option ℕ) → (if b then some p else x) ≡ none → (b ≡ false) × (x ≡ none)
+unless-some true p x e = absurd (let z : _≡_ {A = ℕ} 0 1 = cc in omega arith)
+unless-some false p x e = (refl, e)
+
+by-none : (h : Mark → Bool) (ms : List Mark) → foundBy h ms none ≡ none → All (λ m. h m ≡ false) ms
+unfolding foundBy All
+by-none h [] e = tt
+by-none h (m ∷ ms) e = let r = unless-some (h m) _ _ e in (r .0, by-none h ms (r .1))
+
+found-none : (t : ℤ → Bool) (zs : List Number) → found t zs none ≡ none → All (λ z. t (z .what) ≡ false) zs
+unfolding found All
+found-none t [] e = tt
+found-none t (z ∷ zs) e = let r = unless-some (t (z .what)) _ _ e in (r .0, found-none t zs (r .1))
+
+by-same : (h g : Mark → Bool) → ((m : Mark) → h m ≡ g m) → (ms : List Mark) (x : Option ℕ) → foundBy h ms x ≡ foundBy g ms x
+unfolding foundBy
+by-same h g e [] x = refl
+by-same h g e (m ∷ ms) x = ap₂ {C = Option ℕ} (λ (b : Bool) (y : Option ℕ). if b then some (m .number .place) else y) (e m) (by-same h g e ms x)
+
+any-const : {A : Type 0} (b : Bool) (l : List A) → (any (λ x. true) l && b) ≡ any (λ x. b) l
+unfolding any
+any-const b [] = refl
+any-const true (x ∷ l) = refl
+any-const false (x ∷ l) = sym (and-false (any (λ y. true) l)) ∙ any-const false l
+
+-- ---- one command
+
+module _ (s : Scope) (σ : Standing) (g : Fits s σ) (c : Written) (d : Placed Command) (k : Faces c d) where
+  abbrev l : ℕ
+  l = c .letter
+
+  abbrev p : ℕ
+  p = c .place
+
+  abbrev wholly : List Blame
+  wholly = ofWhole p l (lastLetter c) (length (numbers c)) (turnsOf (letters (c .items))) (sizeAt 1 (numbers c) 1) (sizeAt 1 (numbers c) 2) (layerOf s)
+
+  abbrev all : List Blame
+  all = ofNumbers s p l (numbers c) wholly
+
+  abbrev ms : List Mark
+  ms = marksOf (d .what)
+
+  abbrev if-place : Bool → Option ℕ
+  if-place b = if b then some (d .place) else none
+
+  no-whole : (k : ℕ) → eqb 4 k ≡ false → eqb 7 k ≡ false → eqb 8 k ≡ false → eqb 9 k ≡ false → find k wholly ≡ none
+  no-whole = whole-none p l (lastLetter c) (length (numbers c)) (turnsOf (letters (c .items))) (sizeAt 1 (numbers c) 1) (sizeAt 1 (numbers c) 2) (layerOf s)
+
+  three : find 3 all ≡ found beyond (numbersOf (d .what)) none
+  three =
+      sees-3 s p l wholly (k .sees) ∙ (ap (foundBy (λ m. beyond (m .number .what)) ms) (no-whole 3 refl refl refl refl) ∙ all-marks beyond (d .what) none)
+
+  near : find 3 all ≡ none → All (λ m. beyond (m .number .what) ≡ false) ms
+  near e = by-none (λ m. beyond (m .number .what)) ms (all-marks beyond (d .what) none ∙ (sym three ∙ e))
+
+  four : find 4 all ≡ if-place (zeroScale (d .what))
+  four =
+      sees-none s p l wholly 4 refl refl refl refl (numbers c)
+      ∙ (whole-4 p l (lastLetter c) (length (numbers c)) (turnsOf (letters (c .items))) (sizeAt 1 (numbers c) 1) (sizeAt 1 (numbers c) 2) (layerOf s)
+      ∙ ap₂ {C = Option ℕ} (λ (b : Bool) (q : ℕ). if b then some q else none) (k .scale) (k .place))
+
+  five : find 3 all ≡ none → find 5 all ≡ found (λ z. not (whole σ z)) (distances (d .what)) none
+  five e =
+      sees-5 s p l wholly (k .sees) (near e)
+      ∙ (ap (foundBy (λ m. m .far && not (eqb (s .a * natAbs (m .number .what) % s .b) 0)) ms) (no-whole 5 refl refl refl refl)
+      ∙ (by-same (λ m. m .far && not (eqb (s .a * natAbs (m .number .what) % s .b) 0)) (λ m. m .far && not (whole σ (m .number .what)))
+      (λ m. ap₂ {C = Bool} (λ (a b : ℕ). m .far && not (eqb (a * natAbs (m .number .what) % b) 0)) (g .a) (g .b) ∙ unfold whole in refl) ms none
+      ∙ far-marks (λ z. not (whole σ z)) (d .what) none))
+
+  six : find 3 all ≡ none → find 6 all ≡ found (λ z. beyond (scaled σ z)) (distances (d .what)) none
+  six e =
+      sees-6 s p l wholly (k .sees) (near e)
+      ∙ (ap (foundBy (λ m. m .far && ltb largest (s .a * natAbs (m .number .what) / s .b)) ms) (no-whole 6 refl refl refl refl)
+      ∙ (by-same (λ m. m .far && ltb largest (s .a * natAbs (m .number .what) / s .b)) (λ m. m .far && beyond (scaled σ (m .number .what)))
+      (λ m. ap₂ {C = Bool} (λ (a b : ℕ). m .far && ltb largest (a * natAbs (m .number .what) / b)) (g .a) (g .b)
+      ∙ ap (λ (n : ℕ). m .far && ltb largest n) (sym (abs-scaled σ (m .number .what))) ∙ unfold beyond in refl) ms none
+      ∙ far-marks (λ z. beyond (scaled σ z)) (d .what) none))
+
+  seven : find 3 all ≡ none → find 5 all ≡ none → find 7 all ≡ if-place (degenerate σ (d .what))
+  seven e₃ e₅ =
+      sees-7 s p l wholly (k .sees)
+      ∙ (ap (λ (y : Option ℕ). if any weighty ms then some p else y)
+      (whole-7 p l (lastLetter c) (length (numbers c)) (turnsOf (letters (c .items))) (sizeAt 1 (numbers c) 1) (sizeAt 1 (numbers c) 2) (layerOf s)
+      ∙ ap (λ (b : Bool). if b then some p else none) (k .few-points))
+      ∙ (nest (any weighty ms) (fewPoints (d .what))
+      ∙ ap₂ {C = Option ℕ} (λ (b : Bool) (q : ℕ). if b then some q else none)
+      (weights σ (g .some-a) (g .some-b) (d .what) (found-none (λ z. not (whole σ z)) (distances (d .what)) (sym (five e₃) ∙ e₅))) (k .place)))
+    where
+      nest : (a b : Bool) → (if a then some p else (if b then some p else none)) ≡ (if a || b then some p else none)
+      nest true b = refl
+      nest false b = refl
+
+  eight : find 8 all ≡ if-place (layerless σ (d .what))
+  eight =
+      sees-none s p l wholly 8 refl refl refl refl (numbers c)
+      ∙ (whole-8 p l (lastLetter c) (length (numbers c)) (turnsOf (letters (c .items))) (sizeAt 1 (numbers c) 1) (sizeAt 1 (numbers c) 2) (layerOf s)
+      ∙ ap₂ {C = Option ℕ} (λ (b : Bool) (q : ℕ). if b then some q else none) layers (k .place))
+    where
+      layers : bare l (layerOf s) ≡ layerless σ (d .what)
+      layers = unfold bare layerless in (
+          ap₂ {C = Bool} (λ (a b : Bool). a && b) (k .shape) (ap (λ (n : ℕ). eqb n 0) (g .set) ∙ packed-none (σ .layer-set) (g .set-name))
+          ∙ any-const (eqb (length (σ .layer-set)) 0) (partsOf (d .what) .shapes))
+
+  nine : find 9 all ≡ if-place (tooMany (d .what))
+  nine =
+      sees-none s p l wholly 9 refl refl refl refl (numbers c)
+      ∙ (whole-9 p l (lastLetter c) (length (numbers c)) (turnsOf (letters (c .items))) (sizeAt 1 (numbers c) 1) (sizeAt 1 (numbers c) 2) (layerOf s)
+      ∙ ap₂ {C = Option ℕ} (λ (b : Bool) (q : ℕ). if b then some q else none) (k .too-many) (k .place))
+
+  faults-head : headOf (faults σ d)
+      ≡ pick (found beyond (numbersOf (d .what)) none) 3
+      (pick (if-place (zeroScale (d .what))) 4
+      (pick (found (λ z. not (whole σ z)) (distances (d .what)) none) 5
+      (pick (found (λ z. beyond (scaled σ z)) (distances (d .what)) none) 6
+      (pick (if-place (degenerate σ (d .what))) 7 (pick (if-place (layerless σ (d .what))) 8 (pick (if-place (tooMany (d .what))) 9 (blame 10 0)))))))
+  unfolding faults
+  faults-head =
+      head-numbers 3 beyond (numbersOf (d .what)) _
+      ∙ ap (pick (found beyond (numbersOf (d .what)) none) 3)
+      (head-command 4 (zeroScale (d .what)) (d .place) _
+      ∙ ap (pick (if-place (zeroScale (d .what))) 4)
+      (head-numbers 5 (λ z. not (whole σ z)) (distances (d .what)) _
+      ∙ ap (pick (found (λ z. not (whole σ z)) (distances (d .what)) none) 5)
+      (head-numbers 6 (λ z. beyond (scaled σ z)) (distances (d .what)) _
+      ∙ ap (pick (found (λ z. beyond (scaled σ z)) (distances (d .what)) none) 6)
+      (head-command 7 (degenerate σ (d .what)) (d .place) _
+      ∙ ap (pick (if-place (degenerate σ (d .what))) 7)
+      (head-command 8 (layerless σ (d .what)) (d .place) _ ∙ ap (pick (if-place (layerless σ (d .what))) 8) (last (tooMany (d .what))))))))
+    where
+      last : (b : Bool) → headOf (atCommand 9 b (d .place)) ≡ pick (if-place b) 9 (blame 10 0)
+      last true = refl
+      last false = refl
+
+  all-numbered : All Numbered all
+  all-numbered =
+      all-of-numbers s p l wholly (numbers c)
+      (all-of-whole p l (lastLetter c) (length (numbers c)) (turnsOf (letters (c .items))) (sizeAt 1 (numbers c) 1) (sizeAt 1 (numbers c) 2) (layerOf s))
+
+  pub agreed : foremost (blames s c) ≡ headOf (faults σ d)
+  unfolding blames chosen
+  agreed =
+      foremost-is all all-numbered
+      ∙ (alike _ _ 3 _ _ three
+      (λ e₃. alike _ _ 4 _ _ four
+      (λ e₄. alike _ _ 5 _ _ (five e₃)
+      (λ e₅. alike _ _ 6 _ _ (six e₃)
+      (λ e₆. alike _ _ 7 _ _ (seven e₃ e₅)
+      (λ e₇. alike _ _ 8 _ _ eight
+      (λ e₈. alike _ _ 9 _ _ nine (λ e₉. refl)))))))
+      ∙ sym faults-head)
+
+-- ---- what stands behind it
+
+-- what no fault says
+pub record Faultless (σ : Standing) (d : Placed Command) : Type 0 where
+  pub near : All (λ (z : Number). beyond (z .what) ≡ false) (numbersOf (d .what))
+  pub scale : zeroScale (d .what) ≡ false
+  pub whole-distances : All (λ (z : Number). not (whole σ (z .what)) ≡ false) (distances (d .what))
+  pub near-distances : All (λ (z : Number). beyond (scaled σ (z .what)) ≡ false) (distances (d .what))
+  pub not-many : tooMany (d .what) ≡ false
+
+no-atCommand : (n : ℕ) (b : Bool) (p : ℕ) → atCommand n b p ≡ [] → b ≡ false
+no-atCommand n true p e = absurd (let z : _≡_ {A = ℕ} 0 1 = cc in omega arith)
+no-atCommand n false p e = refl
+
+pub faultless : (σ : Standing) (d : Placed Command) → faults σ d ≡ [] → Faultless σ d
+unfolding faults
+faultless σ d e =
+    let f₃ = atNumbers 3 beyond (numbersOf (d .what)) in
+    let f₄ = atCommand 4 (zeroScale (d .what)) (d .place) in
+    let f₅ = atNumbers 5 (λ z. not (whole σ z)) (distances (d .what)) in
+    let f₆ = atNumbers 6 (λ z. beyond (scaled σ z)) (distances (d .what)) in
+    let f₇ = atCommand 7 (degenerate σ (d .what)) (d .place) in
+    let f₈ = atCommand 8 (layerless σ (d .what)) (d .place) in
+    let e₄ = nil-right f₃ _ e in
+    let e₅ = nil-right f₄ _ e₄ in
+    let e₆ = nil-right f₅ _ e₅ in
+    record {
+      near = at-numbers 3 beyond (numbersOf (d .what)) (nil-left f₃ _ e);
+      scale = no-atCommand 4 (zeroScale (d .what)) (d .place) (nil-left f₄ _ e₄);
+      whole-distances = at-numbers 5 (λ z. not (whole σ z)) (distances (d .what)) (nil-left f₅ _ e₅);
+      near-distances = at-numbers 6 (λ z. beyond (scaled σ z)) (distances (d .what)) (nil-left f₆ _ e₆);
+      not-many = no-atCommand 9 (tooMany (d .what)) (d .place) (nil-right f₈ _ (nil-right f₇ _ (nil-right f₆ _ e₆)));
+    }
+
+-- a number that is not beyond is told exactly
+near-exact : (σ : Bool) (v : ℕ) → beyond (signed σ v) ≡ false → capped v ≡ natAbs (signed σ v)
+unfolding beyond
+near-exact σ v e = capped-exact v (ap (λ (n : ℕ). ltb largest n) (sym (abs-signed σ v)) ∙ e) ∙ sym (abs-signed σ v)
+
+near-most : (z : ℤ) → beyond z ≡ false → natAbs z ≤ largest
+unfolding beyond
+near-most z e = ltb-false largest (natAbs z) e
+
+not-zero : (n : ℕ) → eqb n 0 ≡ false → 0 < n
+not-zero n e = let h = eqb-false n 0 e in omega arith
+
+-- a name that is set
+abbrev named-scope : Scope → ℕ → Scope
+named-scope s n =
+    if s .inside then record { inside = true; a = s .a; b = s .b; outer = s .outer; inner = n } else record { inside = false; a = s .a; b = s .b; outer = n; inner = s .inner }
+
+named-fits : (s : Scope) (σ : Standing) (l : List ℕ) → Fits s σ → Name l → (i : Bool) → s .inside ≡ i → Fits (named-scope s (packed l)) (after (layer l) σ)
+unfolding after
+named-fits s σ l g n true e = rw e (record {
+  inside = sym e ∙ g .inside;
+  a = g .a;
+  b = g .b;
+  some-a = g .some-a;
+  some-b = g .some-b;
+  most-a = g .most-a;
+  most-b = g .most-b;
+  set = refl;
+  set-name = n;
+  kept = g .kept;
+  kept-name = g .kept-name;
+})
+named-fits s σ l g n false e = rw e (record {
+  inside = sym e ∙ g .inside;
+  a = g .a;
+  b = g .b;
+  some-a = g .some-a;
+  some-b = g .some-b;
+  most-a = g .most-a;
+  most-b = g .most-b;
+  set = refl;
+  set-name = n;
+  kept = λ h. absurd (two-bits h (sym (g .inside) ∙ e));
+  kept-name = g .kept-name;
+})
+
+no-name : Name []
+unfolding All
+no-name = record { short = omega arith; chars = tt }
+
+-- a definition that starts, with the scale x, y
+module _ (s : Scope) (σ : Standing) (g : Fits s σ) (h : σ .inside ≡ false) where
+  start-fits : (n a b : Number) (x y : ℕ) → x ≡ natAbs (a .what) → y ≡ natAbs (b .what) → 0 < x → 0 < y → x ≤ largest → y ≤ largest
+      → Fits (record { inside = true; a = x; b = y; outer = s .outer; inner = 0 }) (after (start n a b) σ)
+  unfolding after packedBy
+  start-fits n a b x y d e sx sy mx my = record {
+    inside = refl;
+    a = d;
+    b = e;
+    some-a = omega arith;
+    some-b = omega arith;
+    most-a = omega arith;
+    most-b = omega arith;
+    set = refl;
+    set-name = no-name;
+    kept = λ i. outer (s .inside) (g .inside ∙ h) ∙ g .set;
+    kept-name = g .set-name;
+  }
+    where
+      outer : (i : Bool) → i ≡ false → s .outer ≡ (if i then s .inner else s .outer)
+      outer i e = rw e refl
+
+finish-fits : (s : Scope) (σ : Standing) → Fits s σ → σ .inside ≡ true → Fits (record { inside = false; a = 1; b = 1; outer = s .outer; inner = 0 }) (after finish σ)
+unfolding after
+finish-fits s σ g h = record {
+  inside = refl;
+  a = refl;
+  b = refl;
+  some-a = omega arith;
+  some-b = omega arith;
+  most-a = omega arith;
+  most-b = omega arith;
+  set = g .kept h;
+  set-name = g .kept-name;
+  kept = λ i. absurd (two-bits i refl);
+  kept-name = no-name;
+}
+
+pub fits-after : (s : Scope) (σ : Standing) {c : Written} {d : Placed Command} → Fits s σ → Says c d → Allowed (σ .inside) (d .what) → Faultless σ d
+    → Fits (scopeAfter s c) (after (d .what) σ)
+unfolding scopeAfter figures letters lastOf sizeAt Allowed numbersOf partsOf zeroScale any flatMap All
+fits-after s σ g (a-polygon x h) o f = unfold after in g
+fits-after s σ g (a-box (tells i α v) (tells j τ w) (tells k υ x) (tells m φ y)) o f = unfold after in g
+fits-after s σ g (a-turned-box (tells i α v) (tells j τ w) (tells k υ x) (tells m φ y) (tells n ψ t) (tells q ω u)) o f = unfold after in g
+fits-after s σ g (a-flash (tells i α v) (tells j τ w) (tells k υ x)) o f = unfold after in g
+fits-after s σ g (a-wire (tells i α v) x h) o f = unfold after in g
+fits-after s σ g (a-layer {l = l} h n) o f = subst (λ (ws : List ℕ). Fits (named-scope s (packedBy firstUnit ws)) (after (layer l) σ)) (sym (letters-words l)) (named-fits s σ l g n (s .inside) refl)
+fits-after s σ g (a-call (tells i α v) t) o f = unfold after in g
+fits-after s σ g (a-start {p} (tells i α v)) o f = start-fits s σ g o (at i (signed α v)) (at p (pos 1)) (at p (pos 1)) 1 1 refl refl (omega arith) (omega arith) (omega arith) (omega arith)
+fits-after s σ g (a-scaled-start (tells i α v) (tells j τ w) (tells k υ x)) o f =
+    let ew = near-exact τ w (f .near .1 .0) in
+    let ex = near-exact υ x (f .near .1 .1 .0) in
+    let zw = not-zero (natAbs (signed τ w)) (or-first _ _ (f .scale)) in
+    let zx = not-zero (natAbs (signed υ x)) (or-first _ _ (or-second (zero? (signed τ w)) _ (f .scale))) in
+    let mw = near-most (signed τ w) (f .near .1 .0) in
+    let mx = near-most (signed υ x) (f .near .1 .1 .0) in
+    start-fits s σ g o (at i (signed α v)) (at j (signed τ w)) (at k (signed υ x)) (capped w) (capped x) ew ex (omega arith) (omega arith) (omega arith) (omega arith)
+fits-after s σ g a-finish o f = finish-fits s σ g o
+fits-after s σ g (a-deletion (tells i α v)) o f = unfold after in g
+fits-after s σ g (a-nothing i) o f = unfold after in (rw (i .not-D, i .not-L) g)
+
+-- ---- the whole text
+
+abbrev Low : Refusal → Type 0
+Low r = r .what < 10
+
+all-low : (n : ℕ) → n < 10 → (zs : List Number) → All (λ (z : Number). n < 10) zs
+unfolding All
+all-low n h [] = tt
+all-low n h (z ∷ zs) = (h, all-low n h zs)
+
+low-numbers : (n : ℕ) → n < 10 → (t : ℤ → Bool) (zs : List Number) → All Low (atNumbers n t zs)
+unfolding atNumbers
+low-numbers n h t zs = all-map Low (λ d. at (d .place) n) (those (λ d. t (d .what)) zs) (all-low n h (those (λ d. t (d .what)) zs))
+
+low-command : (n : ℕ) → n < 10 → (b : Bool) (p : ℕ) → All Low (atCommand n b p)
+unfolding All
+low-command n h true p = (h, tt)
+low-command n h false p = tt
+
+low : (σ : Standing) (d : Placed Command) → All Low (faults σ d)
+unfolding faults
+low σ d =
+    all-++ Low _ _ (low-numbers 3 (omega arith) beyond (numbersOf (d .what)))
+    (all-++ Low _ _ (low-command 4 (omega arith) (zeroScale (d .what)) (d .place))
+    (all-++ Low _ _ (low-numbers 5 (omega arith) (λ z. not (whole σ z)) (distances (d .what)))
+    (all-++ Low _ _ (low-numbers 6 (omega arith) (λ z. beyond (scaled σ z)) (distances (d .what)))
+    (all-++ Low _ _ (low-command 7 (omega arith) (degenerate σ (d .what)) (d .place))
+    (all-++ Low _ _ (low-command 8 (omega arith) (layerless σ (d .what)) (d .place)) (low-command 9 (omega arith) (tooMany (d .what)) (d .place)))))))
+
+-- the first of a command's, or of those behind it
+said : (f : Fault) (rs more : List Refusal) → All Low rs → (rs ≡ [] → f ≡ faultSaid (first more)) → faultBy (headOf rs) f ≡ faultSaid (first (rs ++ more))
+unfolding first All
+said f [] more h k = k refl
+said f (r ∷ rs) more h k = rw (lt-ltb (r .what) 10 (h .0)) refl
+
+pub fault-from : {cs : List Written} {ds : List (Placed Command)} → AllSay cs ds → (s : Scope) (σ : Standing) → Fits s σ → Ordered (σ .inside) ds
+    → faultFrom s cs ≡ faultSaid (first (allFaults σ ds))
+unfolding faultFrom allFaults Ordered
+fault-from none-said s σ g o = unfold first in refl
+fault-from (one-said {c} {d} {cs} {ds} x xs) s σ g o =
+    ap (λ (b : Blame). faultBy b (faultFrom (scopeAfter s c) cs)) (agreed s σ g c d (faces x))
+    ∙ said (faultFrom (scopeAfter s c) cs) (faults σ d) (allFaults (after (d .what) σ) ds) (low σ d)
+    (λ e. fault-from xs (scopeAfter s c) (after (d .what) σ) (fits-after s σ g x (o .0) (faultless σ d e))
+    (subst (λ (i : Bool). Ordered i ds) (sym (after-inside (d .what) σ)) (o .1)))
+
+pub fits-start : Fits atStart (outside [])
+unfolding packedBy
+fits-start = record {
+  inside = refl;
+  a = refl;
+  b = refl;
+  some-a = omega arith;
+  some-b = omega arith;
+  most-a = omega arith;
+  most-b = omega arith;
+  set = refl;
+  set-name = no-name;
+  kept = λ h. absurd (two-bits h refl);
+  kept-name = no-name;
+}
+
+-- the account's first fault of a grammatical text is the definition's
+pub fault-is : {t : List ℕ} {m : List Letter} → Marked t m → faultOf m ≡ faultSaid (firstFault (commands 0 m))
+unfolding firstFault
+fault-is k = fault-from (all-say k) atStart (outside []) fits-start (ordered k 0)
