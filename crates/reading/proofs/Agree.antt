@@ -28,7 +28,7 @@ use Rattle.reading.specs.Refusal.{faultSaid}
 use Rattle.reading.specs.declared.Scope.{Scope}
 use Rattle.reading.specs.declared.Fault.{Fault}
 use Rattle.definition.proofs.Said.{or-first, or-second}
-use Rattle.reading.proofs.Tokens.{signed}
+use Rattle.reading.specs.Words.{signed}
 use Rattle.reading.proofs.Says.{tells, Says, a-polygon, a-box, a-turned-box, a-flash, a-wire, a-layer, a-call, a-start, a-scaled-start, a-finish, a-deletion, a-nothing, AllSay, none-said, one-said, all-say}
 use Rattle.reading.proofs.Foremost.{pick, chosen, find, foremost-is, headOf, found, head-numbers, head-command, alike, Numbered}
 use Rattle.reading.proofs.Marks.{Mark, foundBy, marksOf, all-marks, far-marks, weighty, fewPoints, abs-scaled, weights}

@@ -22,7 +22,7 @@ packed l = packedBy firstUnit l
 
 pub record NameByte (b : ℕ) : Type 0 where
   pub some : 0 < b
-  pub small : b < 256
+  pub small : b ≤ 90
 
 pub name-byte : {b : ℕ} → NameChar b → NameByte b
 unfolding has
@@ -37,7 +37,7 @@ packed-none (b ∷ l) k =
     ne-eqb (packed (b ∷ l)) 0 (λ e. omega arith) ∙ sym (ne-eqb (suc (length l)) 0 (λ e. omega arith))
 
 -- a name's bytes, with 0 behind them
-byte-below : (l : List ℕ) → All NameChar l → (i : ℕ) → getD l i 0 < 256
+byte-below : (l : List ℕ) → All NameChar l → (i : ℕ) → getD l i 0 ≤ 90
 unfolding All
 byte-below [] h i = omega arith
 byte-below (b ∷ l) h zero = let x = name-byte (h .0) in x .small
@@ -51,6 +51,16 @@ four-bytes (a ∷ b ∷ []) h = omega arith
 four-bytes (a ∷ b ∷ c ∷ []) h = omega arith
 four-bytes (a ∷ b ∷ c ∷ d ∷ []) h = omega arith
 four-bytes (a ∷ b ∷ c ∷ d ∷ e ∷ l) h = absurd (omega arith)
+
+-- it fits into a word
+pub packed-most : (l : List ℕ) → Name l → packed l ≤ 2147483647
+packed-most l n =
+    let e = four-bytes l (n .short) in
+    let b₀ = byte-below l (n .chars) 0 in
+    let b₁ = byte-below l (n .chars) 1 in
+    let b₂ = byte-below l (n .chars) 2 in
+    let b₃ = byte-below l (n .chars) 3 in
+    omega arith
 
 past-end : (l : List ℕ) (i : ℕ) → length l ≤ i → getD l i 0 ≡ 0
 past-end [] i h = refl
@@ -76,7 +86,7 @@ packed-one l k x y e = same-bytes l k (x .chars) (y .chars) go
     sum : P 0 * 16777216 + (P 1 * 65536 + (P 2 * 256 + P 3)) ≡ Q 0 * 16777216 + (Q 1 * 65536 + (Q 2 * 256 + Q 3))
     sum = sym (four-bytes l (x .short)) ∙ (e ∙ four-bytes k (y .short))
 
-    apart : (a b c d m n p q : ℕ) → b < 256 → c < 256 → d < 256 → n < 256 → p < 256 → q < 256
+    apart : (a b c d m n p q : ℕ) → b ≤ 90 → c ≤ 90 → d ≤ 90 → n ≤ 90 → p ≤ 90 → q ≤ 90
         → a * 16777216 + (b * 65536 + (c * 256 + d)) ≡ m * 16777216 + (n * 65536 + (p * 256 + q)) → (a ≡ m) × (b ≡ n) × (c ≡ p) × (d ≡ q)
     apart a b c d m n p q h₁ h₂ h₃ h₄ h₅ h₆ f = (omega arith, omega arith, omega arith, omega arith)
 

@@ -8,7 +8,7 @@ use mathlib.Core.Logic.{_⊎_, inl, inr}
 use Prim.Native.Nat.{ℕ, suc, _+_, _≤_, _<_}
 use native.Mathlib.Omega.{arith}
 use borrow.Author.Tests.{eqb-true}
-use lib.Dec.{T, eqb, ltb, eqb→eq}
+use lib.Dec.{T, eqb, ltb, eqb→eq, leb, leb→le}
 use lib.IntN.{pos}
 use lib.ListN.{length}
 use Rattle.grammar.specs.Notation.{Class, Role, Letter, Expression, Match, has, Digit, lpar, rpar, 'B', 'C', 'D', 'E', 'F', 'L', 'M', 'P', 'R', 'S', 'T', 'W', 'X', 'Y', '-', commentText, dec, Role-discrete}
@@ -18,6 +18,7 @@ use Rattle.grammar.specs.Notation.{one, _▹_, _∣_, many, option, char, both,
 use Rattle.grammar.specs.Productions.{blank, sep, semi, c, shortname, integerD, integer, sinteger, path, transformation, primCommand, defDeleteCommand, defFinishCommand, defStartCommand, command, cifFile, commentCommand, userText}
 use Rattle.grammar.specs.Productions.{point as pointRule}
 use Rattle.grammar.specs.Viable.{Marked}
+use Rattle.grammar.proofs.Tests.{and-right}
 use Rattle.definition.specs.Words.{if_then_else_, Placed, at, Point, point}
 use Rattle.definition.specs.Commands.{Number, box, flash, wire, polygon, shapeOf, Turn, translate, mirrorX, mirrorY, rotate, Command, draw, layer, call, start, finish, delete, nothing}
 use Rattle.definition.specs.Commands.{worth, paired, commandAt, commands}
@@ -31,7 +32,8 @@ use Rattle.pieces.specs.declared.Piece.the-variants.{Second, Word}
 use Rattle.pieces.specs.declared.Piece.the-variants.{Number as Numeral}
 use Rattle.reading.specs.Letters.{letterB, letterC, letterD, letterL, letterM, letterP, letterR, letterT, letterW}
 use Rattle.reading.specs.Written.{Written, written, writtenAt, itemsOf, stops}
-use Rattle.reading.proofs.Tokens.{signed, Token, figure, seconded, turned, axled, lettered, withToken, tokens, ClosedBy, Closed, piecesOf, items-are, stops-are}
+use Rattle.reading.specs.Words.{signed}
+use Rattle.reading.proofs.Tokens.{Token, figure, seconded, turned, axled, lettered, withToken, tokens, ClosedBy, Closed, piecesOf, items-are, stops-are}
 use Rattle.reading.proofs.Tokens.{figuresOf, namesOf, seek, turnBy, turnsOf, commandBy, commandOf, command-is}
 
 -- ---- what is said
@@ -67,6 +69,7 @@ pub record Idle (b : ℕ) : Type 0 where
   pub not-L : eqb b letterL ≡ false
   pub not-C : eqb b letterC ≡ false
   pub not-D : eqb b letterD ≡ false
+  pub small : b < 256
 
 abbrev pub wrote : ℕ → ℕ → List Piece → Bool → Written
 wrote p b xs e = record { place = p; letter = b; items = xs; stopped = e }
@@ -535,8 +538,8 @@ literal : (k : Class) (b : ℕ) (Q : List Token → Type 0) → ((x : ℕ) → T
 literal k b Q f g n x ts h q = subst (λ (y : ℕ). Saying n y ts) (sym (eqb→eq x b (f x h))) (g n ts q)
 
 idle-of : (k : Class) → T (not (has k 80)) → T (not (has k 66)) → T (not (has k 82)) → T (not (has k 87)) → T (not (has k 76)) → T (not (has k 67)) → T (not (has k 68))
-    → (b : ℕ) → T (has k b) → Idle b
-idle-of k p b r w l c d x h = record {
+    → ((b : ℕ) → T (has k b) → b < 256) → (b : ℕ) → T (has k b) → Idle b
+idle-of k p b r w l c d s x h = record {
   not-P = other k x 80 p h;
   not-B = other k x 66 b h;
   not-R = other k x 82 r h;
@@ -544,6 +547,7 @@ idle-of k p b r w l c d x h = record {
   not-L = other k x 76 l h;
   not-C = other k x 67 c h;
   not-D = other k x 68 d h;
+  small = s x h;
 }
 
 polygon-heads : Tailed (one head 'P' ▹ path)
@@ -604,11 +608,11 @@ idle-heads k r t s i = headed k r End s (λ w m n f. passing End m f t n) (λ n 
 
 user-heads : Tailed (one head Digit ▹ userText)
 unfolding everywhere silent calm has
-user-heads = idle-heads Digit userText tt tt (idle-of Digit tt tt tt tt tt tt tt)
+user-heads = idle-heads Digit userText tt tt (idle-of Digit tt tt tt tt tt tt tt (λ b h. let l = leb→le b 57 (and-right (leb 48 b) (leb b 57) h) in omega arith))
 
 comment-heads : Tailed commentCommand
 unfolding everywhere silent calm has
-comment-heads = idle-heads lpar (commentText ▹ one skip rpar) tt tt (idle-of lpar tt tt tt tt tt tt tt)
+comment-heads = idle-heads lpar (commentText ▹ one skip rpar) tt tt (idle-of lpar tt tt tt tt tt tt tt (λ b h. let e = eqb→eq b 40 h in omega arith))
 
 prim-heads : Tailed primCommand
 prim-heads w m (left k) = polygon-heads w m k
@@ -699,7 +703,7 @@ command-heads w m (right (right (both u v k (both x y s (both p q i f d) j) e)))
 end-opens : (a : Letter) (m : List Letter) → T (matches head 'E' a) → Match (many blank) m → Opens a m
 unfolding Opens has commandAt everywhere silent
 end-opens a m h k n =
-    let i = idle-of 'E' tt tt tt tt tt tt tt (a .byte) (byte-of head 'E' a h) in
+    let i = idle-of 'E' tt tt tt tt tt tt tt (λ b h. let e = eqb→eq b 69 h in omega arith) (a .byte) (byte-of head 'E' a h) in
     rw (items-are m (n + 1) (n + 1), over, i .not-P, i .not-B, i .not-R, i .not-W, i .not-L, i .not-C, i .not-D) (a-nothing i)
   where
     over : tokens (n + 1) (n + 1) m ≡ []

@@ -8,7 +8,7 @@ use Prim.Native.Nat.{ℕ, _+_, _-_}
 use native.Mathlib.Omega.{arith}
 use borrow.Author.Tests.{lt-ltb, le-ltb}
 use lib.Dec.{ltb}
-use lib.IntN.{ℤ, pos, negℤ}
+use lib.IntN.{pos, negℤ}
 use lib.ListN.{drop}
 use Rattle.grammar.specs.Notation.{Role, Role-discrete, Letter, dec, has, 'B', 'C', 'D', 'L', 'P', 'R', 'S', 'T', 'W', 'X'}
 use Rattle.grammar.specs.Notation.{skip, head, second, turn, axis, sign, lead, later, name, stop}
@@ -20,9 +20,7 @@ use Rattle.pieces.specs.declared.Piece.{Piece}
 use Rattle.pieces.specs.declared.Piece.the-variants.{Second, Word}
 use Rattle.pieces.specs.declared.Piece.the-variants.{Number as Numeral}
 use Rattle.reading.specs.Written.{itemsOf, stops}
-
-abbrev pub signed : Bool → ℕ → ℤ
-signed σ v = if σ then negℤ (pos v) else pos v
+use Rattle.reading.specs.Words.{signed}
 
 -- ---- the letters of a command
 
