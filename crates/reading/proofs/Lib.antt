@@ -15,3 +15,4 @@ pub mod Blames
 pub mod Facing
 pub mod Packed
 pub mod Agree
+pub mod Exact
