@@ -4,7 +4,7 @@ use mathlib.Core.Path.{_≡_, refl, sym, ap, ap₂, _∙_, subst}
 use mathlib.Core.Bool.{Bool, true, false, not, _&&_, _||_, and-false}
 use mathlib.Core.List.{List, [], _∷_, _++_, flatMap}
 use mathlib.Core.Option.{Option, none, some}
-use Prim.Native.Nat.{ℕ, _+_, _*_, _/_, _%_, _≤_, _<_}
+use Prim.Native.Nat.{ℕ, _*_, _/_, _%_, _≤_, _<_}
 use native.Mathlib.Omega.{arith}
 use borrow.Author.Tests.{lt-ltb, ltb-false, eqb-false}
 use lib.Dec.{ltb, eqb}
@@ -13,40 +13,48 @@ use lib.ListN.{length}
 use Rattle.grammar.specs.Notation.{Letter}
 use Rattle.grammar.specs.Viable.{Marked}
 use Rattle.definition.specs.Words.{if_then_else_, Placed, at, any, those, first}
-use Rattle.definition.specs.Commands.{Number, Shape, Command, start, finish, layer, commands}
+use Rattle.definition.specs.Commands.{Number, Command, start, finish, layer, commands}
 use Rattle.definition.specs.Standing.{Standing, outside, after, scaled, whole}
 use Rattle.definition.specs.Faults.{beyond, zero?, partsOf, distances, numbersOf, zeroScale, degenerate, layerless, tooMany, Refusal, atNumbers, atCommand, faults, allFaults, firstFault}
 use Rattle.definition.proofs.Range.{All, all-++}
 use Rattle.definition.proofs.Made.{Name}
-use Rattle.definition.proofs.Ordered.{Allowed, Ordered, opens, after-inside, ordered, two-bits}
+use Rattle.definition.proofs.Ordered.{Allowed, Ordered, after-inside, ordered, two-bits}
 use Rattle.definition.proofs.Sizes.{nil-left, nil-right, all-map, at-numbers}
-use Rattle.pieces.specs.Pieces.{largest, capped, pieces}
+use Rattle.pieces.specs.Pieces.{largest, capped}
 use Rattle.reading.specs.Letters.{firstUnit}
-use Rattle.reading.specs.Written.{Written, written, numbers, letters, figures, lastOf, lastLetter, sizeAt, packedBy, turnsOf}
-use Rattle.reading.specs.Account.{layerOf, bare, many, few, scaleless, Blame, blame, ofNumbers, ofWhole, blames, foremost, faultBy, scopeAfter, faultFrom, atStart, faultOf}
+use Rattle.reading.specs.Written.{Written, numbers, letters, figures, lastOf, lastLetter, sizeAt, packedBy, turnsOf}
+use Rattle.reading.specs.Account.{layerOf, scaleless, few, bare, many, Blame, blame, ofNumbers, ofWhole, blames, foremost, faultBy, scopeAfter, faultFrom, atStart, faultOf, Checked}
 use Rattle.reading.specs.Refusal.{faultSaid}
 use Rattle.reading.specs.declared.Scope.{Scope}
 use Rattle.reading.specs.declared.Fault.{Fault}
 use Rattle.definition.proofs.Said.{or-first, or-second}
 use Rattle.reading.specs.Words.{signed}
-use Rattle.reading.proofs.Says.{tells, Says, a-polygon, a-box, a-turned-box, a-flash, a-wire, a-layer, a-call, a-start, a-scaled-start, a-finish, a-deletion, a-nothing, AllSay, none-said, one-said, all-say}
+use Rattle.reading.proofs.Says.{tells, Says, a-polygon, a-box, a-turned-box, a-flash, a-wire, a-layer, a-call, a-start, a-scaled-start, a-finish, a-deletion, a-nothing, AllSay, none-said, one-said}
+use Rattle.reading.proofs.AllSay.{all-say}
 use Rattle.reading.proofs.Foremost.{pick, chosen, find, foremost-is, headOf, found, head-numbers, head-command, alike, Numbered}
 use Rattle.reading.proofs.Marks.{Mark, foundBy, marksOf, all-marks, far-marks, weighty, fewPoints, abs-scaled, weights}
-use Rattle.reading.proofs.Blames.{capped-exact, sees-none, sees-3, sees-5, sees-6, sees-7, all-of-numbers, whole-none, whole-4, whole-7, whole-8, whole-9, all-of-whole}
+use Rattle.reading.proofs.Blames.{capped-exact, sees-none, sees-3, sees-5, sees-6, sees-7, all-of-numbers, Wholly, of-whole}
 use Rattle.reading.proofs.Facing.{abs-signed, letters-words, Faces, faces}
 use Rattle.reading.proofs.Packed.{packed, packed-none}
 
 -- ---- what stands
 
+-- the account's scale a, b is the definition's x, y, which refusals 3 and 4 let pass
+pub record Scales (a b x y : ℕ) : Type 0 where
+  pub same-a : a ≡ x
+  pub same-b : b ≡ y
+  pub some-a : 0 < x
+  pub some-b : 0 < y
+  pub most-a : x ≤ largest
+  pub most-b : y ≤ largest
+
+pub unscaled : Scales 1 1 1 1
+unscaled = record { same-a = refl; same-b = refl; some-a = omega arith; some-b = omega arith; most-a = omega arith; most-b = omega arith }
+
 -- the account's scope is the definition's standing, where no fault was found so far
 pub record Fits (s : Scope) (σ : Standing) : Type 0 where
   pub inside : s .inside ≡ σ .inside
-  pub a : s .a ≡ σ .a
-  pub b : s .b ≡ σ .b
-  pub some-a : 0 < σ .a
-  pub some-b : 0 < σ .b
-  pub most-a : σ .a ≤ largest
-  pub most-b : σ .b ≤ largest
+  pub scale : Scales (s .a) (s .b) (σ .a) (σ .b)
   pub set : layerOf s ≡ packed (σ .layer-set)
   pub set-name : Name (σ .layer-set)
   pub kept : σ .inside ≡ true → s .outer ≡ packed (σ .layer-outside)
@@ -100,12 +108,12 @@ module _ (s : Scope) (σ : Standing) (g : Fits s σ) (c : Written) (d : Placed C
   abbrev if-place : Bool → Option ℕ
   if-place b = if b then some (d .place) else none
 
-  no-whole : (k : ℕ) → eqb 4 k ≡ false → eqb 7 k ≡ false → eqb 8 k ≡ false → eqb 9 k ≡ false → find k wholly ≡ none
-  no-whole = whole-none p l (lastLetter c) (length (numbers c)) (turnsOf (letters (c .items))) (sizeAt 1 (numbers c) 1) (sizeAt 1 (numbers c) 2) (layerOf s)
+  abbrev wh : Wholly p (scaleless l (lastLetter c) (sizeAt 1 (numbers c) 1) (sizeAt 1 (numbers c) 2)) (few l (length (numbers c))) (bare l (layerOf s)) (many l (length (numbers c)) (turnsOf (letters (c .items)))) wholly
+  wh = of-whole p l (lastLetter c) (length (numbers c)) (turnsOf (letters (c .items))) (sizeAt 1 (numbers c) 1) (sizeAt 1 (numbers c) 2) (layerOf s)
 
   three : find 3 all ≡ found beyond (numbersOf (d .what)) none
   three =
-      sees-3 s p l wholly (k .sees) ∙ (ap (foundBy (λ m. beyond (m .number .what)) ms) (no-whole 3 refl refl refl refl) ∙ all-marks beyond (d .what) none)
+      sees-3 s p l wholly (k .sees) ∙ (ap (foundBy (λ m. beyond (m .number .what)) ms) (wh .none-else 3 refl refl refl refl) ∙ all-marks beyond (d .what) none)
 
   near : find 3 all ≡ none → All (λ m. beyond (m .number .what) ≡ false) ms
   near e = by-none (λ m. beyond (m .number .what)) ms (all-marks beyond (d .what) none ∙ (sym three ∙ e))
@@ -113,23 +121,23 @@ module _ (s : Scope) (σ : Standing) (g : Fits s σ) (c : Written) (d : Placed C
   four : find 4 all ≡ if-place (zeroScale (d .what))
   four =
       sees-none s p l wholly 4 refl refl refl refl (numbers c)
-      ∙ (whole-4 p l (lastLetter c) (length (numbers c)) (turnsOf (letters (c .items))) (sizeAt 1 (numbers c) 1) (sizeAt 1 (numbers c) 2) (layerOf s)
+      ∙ (wh .four
       ∙ ap₂ {C = Option ℕ} (λ (b : Bool) (q : ℕ). if b then some q else none) (k .scale) (k .place))
 
   five : find 3 all ≡ none → find 5 all ≡ found (λ z. not (whole σ z)) (distances (d .what)) none
   five e =
       sees-5 s p l wholly (k .sees) (near e)
-      ∙ (ap (foundBy (λ m. m .far && not (eqb (s .a * natAbs (m .number .what) % s .b) 0)) ms) (no-whole 5 refl refl refl refl)
+      ∙ (ap (foundBy (λ m. m .far && not (eqb (s .a * natAbs (m .number .what) % s .b) 0)) ms) (wh .none-else 5 refl refl refl refl)
       ∙ (by-same (λ m. m .far && not (eqb (s .a * natAbs (m .number .what) % s .b) 0)) (λ m. m .far && not (whole σ (m .number .what)))
-      (λ m. ap₂ {C = Bool} (λ (a b : ℕ). m .far && not (eqb (a * natAbs (m .number .what) % b) 0)) (g .a) (g .b) ∙ unfold whole in refl) ms none
+      (λ m. ap₂ {C = Bool} (λ (a b : ℕ). m .far && not (eqb (a * natAbs (m .number .what) % b) 0)) (g .scale .same-a) (g .scale .same-b) ∙ unfold whole in refl) ms none
       ∙ far-marks (λ z. not (whole σ z)) (d .what) none))
 
   six : find 3 all ≡ none → find 6 all ≡ found (λ z. beyond (scaled σ z)) (distances (d .what)) none
   six e =
       sees-6 s p l wholly (k .sees) (near e)
-      ∙ (ap (foundBy (λ m. m .far && ltb largest (s .a * natAbs (m .number .what) / s .b)) ms) (no-whole 6 refl refl refl refl)
+      ∙ (ap (foundBy (λ m. m .far && ltb largest (s .a * natAbs (m .number .what) / s .b)) ms) (wh .none-else 6 refl refl refl refl)
       ∙ (by-same (λ m. m .far && ltb largest (s .a * natAbs (m .number .what) / s .b)) (λ m. m .far && beyond (scaled σ (m .number .what)))
-      (λ m. ap₂ {C = Bool} (λ (a b : ℕ). m .far && ltb largest (a * natAbs (m .number .what) / b)) (g .a) (g .b)
+      (λ m. ap₂ {C = Bool} (λ (a b : ℕ). m .far && ltb largest (a * natAbs (m .number .what) / b)) (g .scale .same-a) (g .scale .same-b)
       ∙ ap (λ (n : ℕ). m .far && ltb largest n) (sym (abs-scaled σ (m .number .what))) ∙ unfold beyond in refl) ms none
       ∙ far-marks (λ z. beyond (scaled σ z)) (d .what) none))
 
@@ -137,11 +145,11 @@ module _ (s : Scope) (σ : Standing) (g : Fits s σ) (c : Written) (d : Placed C
   seven e₃ e₅ =
       sees-7 s p l wholly (k .sees)
       ∙ (ap (λ (y : Option ℕ). if any weighty ms then some p else y)
-      (whole-7 p l (lastLetter c) (length (numbers c)) (turnsOf (letters (c .items))) (sizeAt 1 (numbers c) 1) (sizeAt 1 (numbers c) 2) (layerOf s)
+      (wh .seven
       ∙ ap (λ (b : Bool). if b then some p else none) (k .few-points))
       ∙ (nest (any weighty ms) (fewPoints (d .what))
       ∙ ap₂ {C = Option ℕ} (λ (b : Bool) (q : ℕ). if b then some q else none)
-      (weights σ (g .some-a) (g .some-b) (d .what) (found-none (λ z. not (whole σ z)) (distances (d .what)) (sym (five e₃) ∙ e₅))) (k .place)))
+      (weights σ (g .scale .some-a) (g .scale .some-b) (d .what) (found-none (λ z. not (whole σ z)) (distances (d .what)) (sym (five e₃) ∙ e₅))) (k .place)))
     where
       nest : (a b : Bool) → (if a then some p else (if b then some p else none)) ≡ (if a || b then some p else none)
       nest true b = refl
@@ -150,7 +158,7 @@ module _ (s : Scope) (σ : Standing) (g : Fits s σ) (c : Written) (d : Placed C
   eight : find 8 all ≡ if-place (layerless σ (d .what))
   eight =
       sees-none s p l wholly 8 refl refl refl refl (numbers c)
-      ∙ (whole-8 p l (lastLetter c) (length (numbers c)) (turnsOf (letters (c .items))) (sizeAt 1 (numbers c) 1) (sizeAt 1 (numbers c) 2) (layerOf s)
+      ∙ (wh .eight
       ∙ ap₂ {C = Option ℕ} (λ (b : Bool) (q : ℕ). if b then some q else none) layers (k .place))
     where
       layers : bare l (layerOf s) ≡ layerless σ (d .what)
@@ -161,7 +169,7 @@ module _ (s : Scope) (σ : Standing) (g : Fits s σ) (c : Written) (d : Placed C
   nine : find 9 all ≡ if-place (tooMany (d .what))
   nine =
       sees-none s p l wholly 9 refl refl refl refl (numbers c)
-      ∙ (whole-9 p l (lastLetter c) (length (numbers c)) (turnsOf (letters (c .items))) (sizeAt 1 (numbers c) 1) (sizeAt 1 (numbers c) 2) (layerOf s)
+      ∙ (wh .nine
       ∙ ap₂ {C = Option ℕ} (λ (b : Bool) (q : ℕ). if b then some q else none) (k .too-many) (k .place))
 
   faults-head : headOf (faults σ d)
@@ -190,8 +198,7 @@ module _ (s : Scope) (σ : Standing) (g : Fits s σ) (c : Written) (d : Placed C
 
   all-numbered : All Numbered all
   all-numbered =
-      all-of-numbers s p l wholly (numbers c)
-      (all-of-whole p l (lastLetter c) (length (numbers c)) (turnsOf (letters (c .items))) (sizeAt 1 (numbers c) 1) (sizeAt 1 (numbers c) 2) (layerOf s))
+      all-of-numbers s p l wholly (numbers c) (wh .numbered)
 
   pub agreed : foremost (blames s c) ≡ headOf (faults σ d)
   unfolding blames chosen
@@ -261,12 +268,7 @@ named-fits : (s : Scope) (σ : Standing) (l : List ℕ) → Fits s σ → Name l
 unfolding after
 named-fits s σ l g n true e = rw e (record {
   inside = sym e ∙ g .inside;
-  a = g .a;
-  b = g .b;
-  some-a = g .some-a;
-  some-b = g .some-b;
-  most-a = g .most-a;
-  most-b = g .most-b;
+  scale = g .scale;
   set = refl;
   set-name = n;
   kept = g .kept;
@@ -274,12 +276,7 @@ named-fits s σ l g n true e = rw e (record {
 })
 named-fits s σ l g n false e = rw e (record {
   inside = sym e ∙ g .inside;
-  a = g .a;
-  b = g .b;
-  some-a = g .some-a;
-  some-b = g .some-b;
-  most-a = g .most-a;
-  most-b = g .most-b;
+  scale = g .scale;
   set = refl;
   set-name = n;
   kept = λ h. absurd (two-bits h (sym (g .inside) ∙ e));
@@ -292,17 +289,12 @@ no-name = record { short = omega arith; chars = tt }
 
 -- a definition that starts, with the scale x, y
 module _ (s : Scope) (σ : Standing) (g : Fits s σ) (h : σ .inside ≡ false) where
-  start-fits : (n a b : Number) (x y : ℕ) → x ≡ natAbs (a .what) → y ≡ natAbs (b .what) → 0 < x → 0 < y → x ≤ largest → y ≤ largest
+  pub start-fits : (n a b : Number) (x y : ℕ) → Scales x y (natAbs (a .what)) (natAbs (b .what))
       → Fits (record { inside = true; a = x; b = y; outer = s .outer; inner = 0 }) (after (start n a b) σ)
   unfolding after packedBy
-  start-fits n a b x y d e sx sy mx my = record {
+  start-fits n a b x y k = record {
     inside = refl;
-    a = d;
-    b = e;
-    some-a = omega arith;
-    some-b = omega arith;
-    most-a = omega arith;
-    most-b = omega arith;
+    scale = k;
     set = refl;
     set-name = no-name;
     kept = λ i. outer (s .inside) (g .inside ∙ h) ∙ g .set;
@@ -316,12 +308,7 @@ finish-fits : (s : Scope) (σ : Standing) → Fits s σ → σ .inside ≡ true 
 unfolding after
 finish-fits s σ g h = record {
   inside = refl;
-  a = refl;
-  b = refl;
-  some-a = omega arith;
-  some-b = omega arith;
-  most-a = omega arith;
-  most-b = omega arith;
+  scale = unscaled;
   set = g .kept h;
   set-name = g .kept-name;
   kept = λ i. absurd (two-bits i refl);
@@ -338,15 +325,16 @@ fits-after s σ g (a-flash (tells i α v) (tells j τ w) (tells k υ x)) o f = u
 fits-after s σ g (a-wire (tells i α v) x h) o f = unfold after in g
 fits-after s σ g (a-layer {l = l} h n) o f = subst (λ (ws : List ℕ). Fits (named-scope s (packedBy firstUnit ws)) (after (layer l) σ)) (sym (letters-words l)) (named-fits s σ l g n (s .inside) refl)
 fits-after s σ g (a-call (tells i α v) t) o f = unfold after in g
-fits-after s σ g (a-start {p} (tells i α v)) o f = start-fits s σ g o (at i (signed α v)) (at p (pos 1)) (at p (pos 1)) 1 1 refl refl (omega arith) (omega arith) (omega arith) (omega arith)
+fits-after s σ g (a-start {p} (tells i α v)) o f = start-fits s σ g o (at i (signed α v)) (at p (pos 1)) (at p (pos 1)) 1 1 unscaled
 fits-after s σ g (a-scaled-start (tells i α v) (tells j τ w) (tells k υ x)) o f =
-    let ew = near-exact τ w (f .near .1 .0) in
-    let ex = near-exact υ x (f .near .1 .1 .0) in
-    let zw = not-zero (natAbs (signed τ w)) (or-first _ _ (f .scale)) in
-    let zx = not-zero (natAbs (signed υ x)) (or-first _ _ (or-second (zero? (signed τ w)) _ (f .scale))) in
-    let mw = near-most (signed τ w) (f .near .1 .0) in
-    let mx = near-most (signed υ x) (f .near .1 .1 .0) in
-    start-fits s σ g o (at i (signed α v)) (at j (signed τ w)) (at k (signed υ x)) (capped w) (capped x) ew ex (omega arith) (omega arith) (omega arith) (omega arith)
+    start-fits s σ g o (at i (signed α v)) (at j (signed τ w)) (at k (signed υ x)) (capped w) (capped x) (record {
+      same-a = near-exact τ w (f .near .1 .0);
+      same-b = near-exact υ x (f .near .1 .1 .0);
+      some-a = not-zero (natAbs (signed τ w)) (or-first _ _ (f .scale));
+      some-b = not-zero (natAbs (signed υ x)) (or-first _ _ (or-second (zero? (signed τ w)) _ (f .scale)));
+      most-a = near-most (signed τ w) (f .near .1 .0);
+      most-b = near-most (signed υ x) (f .near .1 .1 .0);
+    })
 fits-after s σ g a-finish o f = finish-fits s σ g o
 fits-after s σ g (a-deletion (tells i α v)) o f = unfold after in g
 fits-after s σ g (a-nothing i) o f = unfold after in (rw (i .not-D, i .not-L) g)
@@ -400,12 +388,7 @@ pub fits-start : Fits atStart (outside [])
 unfolding packedBy
 fits-start = record {
   inside = refl;
-  a = refl;
-  b = refl;
-  some-a = omega arith;
-  some-b = omega arith;
-  most-a = omega arith;
-  most-b = omega arith;
+  scale = unscaled;
   set = refl;
   set-name = no-name;
   kept = λ h. absurd (two-bits h refl);
@@ -416,3 +399,6 @@ fits-start = record {
 pub fault-is : {t : List ℕ} {m : List Letter} → Marked t m → faultOf m ≡ faultSaid (firstFault (commands 0 m))
 unfolding firstFault
 fault-is k = fault-from (all-say k) atStart (outside []) fits-start (ordered k 0)
+
+pub checked-is : {t : List ℕ} {m : List Letter} {r : Fault} → Checked t r → Marked t m → r ≡ faultSaid (firstFault (commands 0 m))
+checked-is {m = m} c k = c .is m k ∙ fault-is k

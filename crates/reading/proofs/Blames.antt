@@ -4,18 +4,17 @@ use mathlib.Core.Path.{_≡_, refl, sym, ap, ap₂, _∙_}
 use mathlib.Core.Bool.{Bool, true, false, not, _&&_, _||_, and-comm}
 use mathlib.Core.List.{List, [], _∷_}
 use mathlib.Core.Option.{Option, none, some}
-use Prim.Native.Nat.{ℕ, _+_, _*_, _/_, _%_, _≤_, _<_}
+use Prim.Native.Nat.{ℕ, _*_, _/_, _%_}
 use native.Mathlib.Omega.{arith}
 use lib.Dec.{ltb, eqb}
-use lib.IntN.{ℤ, natAbs}
-use lib.ListN.{length}
-use borrow.Author.Tests.{lt-ltb, le-ltb, ltb-true, ltb-false, eq-eqb, ne-eqb}
+use lib.IntN.{natAbs}
+use borrow.Author.Tests.{lt-ltb, ltb-false, ne-eqb}
 use Rattle.definition.specs.Words.{if_then_else_, any}
 use Rattle.definition.specs.Faults.{beyond, zero?}
 use Rattle.definition.proofs.Range.{All}
 use Rattle.pieces.specs.Pieces.{largest, tooLarge, capped}
 use Rattle.reading.specs.Written.{Figure}
-use Rattle.reading.specs.Account.{distance, vital, scaleless, few, bare, many, Blame, blame, when, ofNumber, ofNumbers, ofWhole}
+use Rattle.reading.specs.Account.{distance, vital, scaleless, few, bare, many, Blame, when, ofNumber, ofNumbers, ofWhole}
 use Rattle.reading.specs.declared.Scope.{Scope}
 use Rattle.reading.proofs.Foremost.{find, find-own, find-other, Numbered, all-when}
 use Rattle.reading.proofs.Marks.{Mark, foundBy, weighty}
@@ -198,53 +197,57 @@ module _ (s : Scope) (p l : ℕ) where
 
 -- ---- against the command as a whole
 
+-- r says refusals 4, 7, 8 and 9 at place p by these tests, and no other
+pub record Wholly (p : ℕ) (b₄ b₇ b₈ b₉ : Bool) (r : List Blame) : Type 0 where
+  pub none-else : (k : ℕ) → eqb 4 k ≡ false → eqb 7 k ≡ false → eqb 8 k ≡ false → eqb 9 k ≡ false → find k r ≡ none
+  pub four : find 4 r ≡ (if b₄ then some p else none)
+  pub seven : find 7 r ≡ (if b₇ then some p else none)
+  pub eight : find 8 r ≡ (if b₈ then some p else none)
+  pub nine : find 9 r ≡ (if b₉ then some p else none)
+  pub numbered : All Numbered r
+
 nothing-found : (k : ℕ) → find k [] ≡ none
 unfolding find
 nothing-found k = refl
 
-module _ (p l w n t a b y : ℕ) where
-  abbrev whole₉ : List Blame
-  whole₉ = when (many l n t) 9 p []
+wholly : (p : ℕ) (b₄ b₇ b₈ b₉ : Bool) → Wholly p b₄ b₇ b₈ b₉ (when b₄ 4 p (when b₇ 7 p (when b₈ 8 p (when b₉ 9 p []))))
+wholly p b₄ b₇ b₈ b₉ = record {
+  none-else = λ k e₄ e₇ e₈ e₉. not-4 k e₄ ∙ (not-7 k e₇ ∙ (not-8 k e₈ ∙ not-9 k e₉));
+  four = own 4 refl b₄ r₇ (not-7 4 refl ∙ (not-8 4 refl ∙ not-9 4 refl));
+  seven = not-4 7 refl ∙ own 7 refl b₇ r₈ (not-8 7 refl ∙ not-9 7 refl);
+  eight = not-4 8 refl ∙ (not-7 8 refl ∙ own 8 refl b₈ r₉ (not-9 8 refl));
+  nine = not-4 9 refl ∙ (not-7 9 refl ∙ (not-8 9 refl ∙ own 9 refl b₉ [] (nothing-found 9)));
+  numbered =
+      all-when b₄ 4 p r₇ (omega arith) (omega arith)
+      (all-when b₇ 7 p r₈ (omega arith) (omega arith) (all-when b₈ 8 p r₉ (omega arith) (omega arith) (all-when b₉ 9 p [] (omega arith) (omega arith) empty)));
+}
+  where
+    r₉ : List Blame
+    r₉ = when b₉ 9 p []
 
-  abbrev whole₈ : List Blame
-  whole₈ = when (bare l y) 8 p whole₉
+    r₈ : List Blame
+    r₈ = when b₈ 8 p r₉
 
-  abbrev whole₇ : List Blame
-  whole₇ = when (few l n) 7 p whole₈
+    r₇ : List Blame
+    r₇ = when b₇ 7 p r₈
 
-  pub whole-none : (k : ℕ) → eqb 4 k ≡ false → eqb 7 k ≡ false → eqb 8 k ≡ false → eqb 9 k ≡ false → find k (ofWhole p l w n t a b y) ≡ none
-  whole-none k e₄ e₇ e₈ e₉ =
-      find-other k 4 e₄ (scaleless l w a b) p whole₇
-      ∙ (find-other k 7 e₇ (few l n) p whole₈ ∙ (find-other k 8 e₈ (bare l y) p whole₉ ∙ (find-other k 9 e₉ (many l n t) p [] ∙ nothing-found k)))
+    not-4 : (k : ℕ) → eqb 4 k ≡ false → find k (when b₄ 4 p r₇) ≡ find k r₇
+    not-4 k e = find-other k 4 e b₄ p r₇
 
-  pub whole-4 : find 4 (ofWhole p l w n t a b y) ≡ (if scaleless l w a b then some p else none)
-  whole-4 =
-      find-own 4 refl (scaleless l w a b) p whole₇
-      ∙ ap (λ (z : Option ℕ). if scaleless l w a b then some p else z)
-      (find-other 4 7 refl (few l n) p whole₈ ∙ (find-other 4 8 refl (bare l y) p whole₉ ∙ (find-other 4 9 refl (many l n t) p [] ∙ nothing-found 4)))
+    not-7 : (k : ℕ) → eqb 7 k ≡ false → find k r₇ ≡ find k r₈
+    not-7 k e = find-other k 7 e b₇ p r₈
 
-  pub whole-7 : find 7 (ofWhole p l w n t a b y) ≡ (if few l n then some p else none)
-  whole-7 =
-      find-other 7 4 refl (scaleless l w a b) p whole₇
-      ∙ (find-own 7 refl (few l n) p whole₈
-      ∙ ap (λ (z : Option ℕ). if few l n then some p else z) (find-other 7 8 refl (bare l y) p whole₉ ∙ (find-other 7 9 refl (many l n t) p [] ∙ nothing-found 7)))
+    not-8 : (k : ℕ) → eqb 8 k ≡ false → find k r₈ ≡ find k r₉
+    not-8 k e = find-other k 8 e b₈ p r₉
 
-  pub whole-8 : find 8 (ofWhole p l w n t a b y) ≡ (if bare l y then some p else none)
-  whole-8 =
-      find-other 8 4 refl (scaleless l w a b) p whole₇
-      ∙ (find-other 8 7 refl (few l n) p whole₈
-      ∙ (find-own 8 refl (bare l y) p whole₉ ∙ ap (λ (z : Option ℕ). if bare l y then some p else z) (find-other 8 9 refl (many l n t) p [] ∙ nothing-found 8)))
+    not-9 : (k : ℕ) → eqb 9 k ≡ false → find k r₉ ≡ none
+    not-9 k e = find-other k 9 e b₉ p [] ∙ nothing-found k
 
-  pub whole-9 : find 9 (ofWhole p l w n t a b y) ≡ (if many l n t then some p else none)
-  whole-9 =
-      find-other 9 4 refl (scaleless l w a b) p whole₇
-      ∙ (find-other 9 7 refl (few l n) p whole₈
-      ∙ (find-other 9 8 refl (bare l y) p whole₉
-      ∙ (find-own 9 refl (many l n t) p [] ∙ ap (λ (z : Option ℕ). if many l n t then some p else z) (nothing-found 9))))
+    own : (n : ℕ) → eqb n n ≡ true → (b : Bool) (r : List Blame) → find n r ≡ none → find n (when b n p r) ≡ (if b then some p else none)
+    own n e b r h = find-own n e b p r ∙ ap (λ (z : Option ℕ). if b then some p else z) h
 
-  pub all-of-whole : All Numbered (ofWhole p l w n t a b y)
-  unfolding All
-  all-of-whole =
-      all-when (scaleless l w a b) 4 p whole₇ (omega arith) (omega arith)
-      (all-when (few l n) 7 p whole₈ (omega arith) (omega arith)
-      (all-when (bare l y) 8 p whole₉ (omega arith) (omega arith) (all-when (many l n t) 9 p [] (omega arith) (omega arith) tt)))
+    empty : All Numbered []
+    empty = unfold All in tt
+
+pub of-whole : (p l w n t a b y : ℕ) → Wholly p (scaleless l w a b) (few l n) (bare l y) (many l n t) (ofWhole p l w n t a b y)
+of-whole p l w n t a b y = wholly p (scaleless l w a b) (few l n) (bare l y) (many l n t)

@@ -2,7 +2,7 @@
 -- what is left out filled in. Nothing is cut and nothing capped.
 -- Assumes nothing.
 use mathlib.Core.Path.{_≡_, refl, sym, ap, ap₂, _∙_, subst}
-use mathlib.Core.Bool.{Bool, true, false, not, _||_}
+use mathlib.Core.Bool.{Bool, true, false, _||_}
 use mathlib.Core.List.{List, [], _∷_, _++_, map, flatMap, append-nil}
 use mathlib.Core.Option.{none}
 use Prim.Native.Nat.{ℕ, zero, suc, _+_, _*_, _/_, _≤_, _<_}
@@ -14,14 +14,14 @@ use lib.IntN.{ℤ, pos, negℤ, natAbs}
 use lib.ListN.{length}
 use Rattle.grammar.specs.Notation.{Letter}
 use Rattle.grammar.specs.Viable.{Marked}
-use Rattle.definition.specs.Words.{if_then_else_, Placed, at, Point, any, first}
-use Rattle.definition.specs.Commands.{Number, Shape, Turn, translate, mirrorX, mirrorY, rotate, Command, draw, layer, call, start, finish, delete, nothing, commands}
-use Rattle.definition.specs.Standing.{Standing, outside, after, scaled, scaledPoint, given, scaledShape, scaledTurn}
+use Rattle.definition.specs.Words.{Placed, Point, any}
+use Rattle.definition.specs.Commands.{Number, Turn, translate, mirrorX, mirrorY, rotate, Command, draw, layer, call, start, finish, delete, nothing, commands}
+use Rattle.definition.specs.Standing.{Standing, outside, after, scaled, scaledPoint, scaledShape, scaledTurn}
 use Rattle.definition.specs.Faults.{beyond, partsOf, shifts, bearings, both, distances, numbersOf, tooMany, faults, allFaults, firstFault}
 use Rattle.definition.specs.Flat.{letterOf, numbersOfShape}
 use Rattle.definition.proofs.Range.{All, all-to}
 use Rattle.definition.proofs.Sizes.{all-left, nil-left, nil-right, no-fault}
-use Rattle.definition.proofs.Said.{length-map, or-first, or-second}
+use Rattle.definition.proofs.Said.{length-map, or-first}
 use Rattle.definition.proofs.Ordered.{Ordered, after-inside, ordered}
 use Rattle.definition.proofs.FaultRules.{commands-written}
 use Rattle.pieces.specs.Pieces.{largest, letterS, letterF, capped, pieces}
@@ -34,8 +34,8 @@ use Rattle.reading.specs.Words.{held, signed, word, valueOf, letterWords
 use Rattle.reading.specs.declared.Scope.{Scope}
 use Rattle.reading.proofs.Says.{tells, Points, no-points, a-point, Turns, no-turns, a-shift, a-mirror-x, a-mirror-y, a-rotation}
 use Rattle.reading.proofs.Says.{Says, a-polygon, a-box, a-turned-box, a-flash, a-wire, a-layer, a-call, a-start, a-scaled-start, a-finish, a-deletion, a-nothing}
-use Rattle.reading.proofs.Says.{letterX, letterY, AllSay, none-said, one-said, all-say}
-use Rattle.reading.proofs.Marks.{abs-scaled}
+use Rattle.reading.proofs.Says.{letterX, letterY, AllSay, none-said, one-said}
+use Rattle.reading.proofs.AllSay.{all-say}
 use Rattle.reading.proofs.Blames.{capped-exact}
 use Rattle.reading.proofs.Facing.{abs-signed, letters-words, faces}
 use Rattle.reading.proofs.Packed.{packed, packed-most}
@@ -238,24 +238,20 @@ turns-length s (mirrorX ∷ ts) = let h = turns-length s ts in omega arith
 turns-length s (mirrorY ∷ ts) = let h = turns-length s ts in omega arith
 turns-length s (rotate d ∷ ts) = let h = turns-length s ts in omega arith
 
-few-values : (s : Standing) {c : Written} {d : Placed Command} → Says c d → tooMany (d .what) ≡ false → length (valuesOf s (d .what)) ≤ 2049
-unfolding valuesOf scaledShape tooMany partsOf any
-few-values s (a-polygon {ps = ps} g h) e = path-few ps e
-  where
-    path-few : (ps : List (Point Number)) → (ltb 1024 (length ps) || false) || false ≡ false → length (both (map (scaledPoint s) ps) ++ []) ≤ 2049
-    path-few ps e =
-        let m = ltb-false 1024 (length ps) (or-first _ _ (or-first _ _ e)) in
-        let n = ap length (append-nil (both (map (scaledPoint s) ps))) ∙ both-length (map (scaledPoint s) ps) in
-        let k = length-map (scaledPoint s) ps in
-        omega arith
-few-values s (a-box x y z w) e = omega arith
-few-values s (a-turned-box x y z w u v) e = omega arith
-few-values s (a-flash x y z) e = omega arith
-few-values s (a-wire {ps = ps} x g h) e =
+path-length : (s : Standing) (ps : List (Point Number)) → (ltb 1024 (length ps) || false || false) ≡ false → length (both (map (scaledPoint s) ps) ++ []) ≤ 2048
+path-length s ps e =
     let m = ltb-false 1024 (length ps) (or-first _ _ (or-first _ _ e)) in
     let n = ap length (append-nil (both (map (scaledPoint s) ps))) ∙ both-length (map (scaledPoint s) ps) in
     let k = length-map (scaledPoint s) ps in
     omega arith
+
+few-values : (s : Standing) {c : Written} {d : Placed Command} → Says c d → tooMany (d .what) ≡ false → length (valuesOf s (d .what)) ≤ 2049
+unfolding valuesOf scaledShape tooMany partsOf any
+few-values s (a-polygon {ps = ps} g h) e = let n = path-length s ps e in omega arith
+few-values s (a-box x y z w) e = omega arith
+few-values s (a-turned-box x y z w u v) e = omega arith
+few-values s (a-flash x y z) e = omega arith
+few-values s (a-wire {ps = ps} x g h) e = let n = path-length s ps e in omega arith
 few-values s (a-layer h n) e = omega arith
 few-values s (a-call {ts = ts} x g) e = let m = ltb-false 32 (length ts) e in let n = turns-length s ts in omega arith
 few-values s (a-start x) e = omega arith
@@ -275,8 +271,8 @@ pub words-exact : (s : Scope) (σ : Standing) {c : Written} {d : Placed Command}
     → wordsOf (s .a) (s .b) c ≡ exactWords σ (c .letter) d
 unfolding wordsOf
 words-exact s σ {c} {d} g x f h =
-    ap₂ {C = List ℤ} (λ (a b : ℕ). wordsOf a b c) (g .a) (g .b)
-    ∙ (ap₂ {C = List ℤ} (λ (k : ℕ) (vs : List ℤ). framed k (c .place) vs) (kind-exact x) (body-exact σ (g .some-b) x f)
+    ap₂ {C = List ℤ} (λ (a b : ℕ). wordsOf a b c) (g .scale .same-a) (g .scale .same-b)
+    ∙ (ap₂ {C = List ℤ} (λ (k : ℕ) (vs : List ℤ). framed k (c .place) vs) (kind-exact x) (body-exact σ (g .scale .some-b) x f)
     ∙ (ap (λ (p : ℕ). framed (kindOf (d .what) (c .letter)) p (valuesOf σ (d .what))) (faces x .place)
     ∙ framed-exact (kindOf (d .what) (c .letter)) (d .place) (valuesOf σ (d .what)) (kind-small x) (few-values σ x (f .not-many)) h))
 
@@ -286,7 +282,7 @@ pub data AllExact : Scope → Standing → List Written → List (Placed Command
   one-exact : {s : Scope} {σ : Standing} {c : Written} {d : Placed Command} {cs : List Written} {ds : List (Placed Command)} → Says c d → Fits s σ → Faultless σ d
       → wordsOf (s .a) (s .b) c ≡ exactWords σ (c .letter) d → AllExact (scopeAfter s c) (after (d .what) σ) cs ds → AllExact s σ (c ∷ cs) (d ∷ ds)
 
-exact-from : {cs : List Written} {ds : List (Placed Command)} → AllSay cs ds → (s : Scope) (σ : Standing) → Fits s σ → Ordered (σ .inside) ds → allFaults σ ds ≡ []
+pub exact-from : {cs : List Written} {ds : List (Placed Command)} → AllSay cs ds → (s : Scope) (σ : Standing) → Fits s σ → Ordered (σ .inside) ds → allFaults σ ds ≡ []
     → All (λ (d : Placed Command). d .place ≤ widest) ds → AllExact s σ cs ds
 unfolding allFaults Ordered All
 exact-from none-said s σ g o e h = none-left

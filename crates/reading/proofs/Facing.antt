@@ -3,13 +3,13 @@
 use mathlib.Core.Path.{_≡_, refl, sym, ap, ap₂, _∙_, subst}
 use mathlib.Core.Bool.{Bool, true, false, _&&_, _||_, and-false, or-false}
 use mathlib.Core.List.{List, [], _∷_, _++_, map, flatMap, append-nil}
-use Prim.Native.Nat.{ℕ, suc, _+_, _-_, _*_, _/_, _%_, _≤_, _<_}
+use Prim.Native.Nat.{ℕ, suc, _+_, _-_, _*_, _/_, _%_, _≤_}
 use native.Mathlib.Omega.{arith}
 use borrow.Author.Tests.{le-ltb, eq-eqb, ne-eqb}
 use lib.Dec.{ltb, eqb}
 use lib.IntN.{pos, natAbs}
 use lib.ListN.{length}
-use Rattle.definition.specs.Words.{if_then_else_, Placed, at, Point, any}
+use Rattle.definition.specs.Words.{Placed, at, Point, any}
 use Rattle.definition.specs.Commands.{Number, wire, polygon, Shape, shapeOf, Turn, Command, draw}
 use Rattle.definition.specs.Faults.{beyond, zero?, partsOf, shifts, bearings, least, zeroScale, tooMany}
 use Rattle.definition.proofs.Sizes.{abs-neg}
@@ -20,9 +20,9 @@ use Rattle.reading.specs.Letters.{letterC, letterP, letterR, letterT, le
 use Rattle.reading.specs.Written.{Written, Figure, figures, numbers, letters, lastOf, lastLetter, sizeAt, turnsOf}
 use Rattle.reading.specs.Account.{shapely, distance, vital, pointsOf, scaleless, few, many}
 use Rattle.reading.specs.Words.{signed}
-use Rattle.reading.proofs.Says.{Tells, tells, Points, no-points, a-point, Turns, no-turns, a-shift, a-mirror-x, a-mirror-y, a-rotation}
+use Rattle.reading.proofs.Says.{tells, Points, no-points, a-point, Turns, no-turns, a-shift, a-mirror-x, a-mirror-y, a-rotation}
 use Rattle.reading.proofs.Says.{Says, a-polygon, a-box, a-turned-box, a-flash, a-wire, a-layer, a-call, a-start, a-scaled-start, a-finish, a-deletion, a-nothing}
-use Rattle.reading.proofs.Marks.{Mark, mark, pathMarks, bearingMarks, shapeMarks, turnMarks, marksOf, weighty, fewPoints}
+use Rattle.reading.proofs.Marks.{mark, pathMarks, shapeMarks, turnMarks, marksOf, fewPoints}
 use Rattle.reading.proofs.Blames.{capped-zero, Seen, Absent, Sees, no-more, left-out, one-seen}
 
 -- ---- numbers

@@ -1,8 +1,8 @@
 -- The foremost of refusals: the account collects them in text order and takes the lowest number, the definition lists them by number and takes the
 -- first. Both come to the same choice: of each number from 3 to 9 the first place, and of these the lowest number.
 -- Assumes nothing.
-use mathlib.Core.Path.{_≡_, refl, sym, ap, ap₂, _∙_}
-use mathlib.Core.Bool.{Bool, true, false, _||_}
+use mathlib.Core.Path.{_≡_, refl, ap, _∙_}
+use mathlib.Core.Bool.{Bool, true, false}
 use mathlib.Core.List.{List, [], _∷_, _++_}
 use mathlib.Core.Option.{Option, none, some}
 use Prim.Native.Nat.{ℕ, zero, suc, _+_, _≤_, _<_}
@@ -10,9 +10,8 @@ use native.Mathlib.Omega.{arith}
 use borrow.Author.Tests.{lt-ltb, le-ltb, eqb-true, eqb-false}
 use lib.Dec.{ltb, eqb}
 use lib.IntN.{ℤ}
-use Rattle.definition.specs.Words.{if_then_else_, Placed, at, those}
-use Rattle.definition.specs.Commands.{Number, Command}
-use Rattle.definition.specs.Standing.{Standing}
+use Rattle.definition.specs.Words.{if_then_else_, at, those}
+use Rattle.definition.specs.Commands.{Number}
 use Rattle.definition.specs.Faults.{Refusal, atNumbers, atCommand}
 use Rattle.definition.proofs.Range.{All}
 use Rattle.reading.specs.Account.{Blame, blame, when, sooner, foremost}

@@ -9,6 +9,8 @@ pub mod Wording
 pub mod Texts
 pub mod Tokens
 pub mod Says
+pub mod Productions
+pub mod AllSay
 pub mod Foremost
 pub mod Marks
 pub mod Blames

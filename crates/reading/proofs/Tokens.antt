@@ -1,9 +1,9 @@
 -- The letters of a command up to its semicolon, with their roles and with numbers of any size: what both the account's pieces and the definition's
 -- command are read off, so that either is a function of the other's source. No production comes in here: only roles do.
 -- Assumes nothing.
-use mathlib.Core.Path.{_≡_, refl, sym, ap, ap₂, _∙_, subst}
+use mathlib.Core.Path.{_≡_, refl, ap, ap₂, _∙_}
 use mathlib.Core.Bool.{Bool, true, false, _||_}
-use mathlib.Core.List.{List, [], _∷_, _++_}
+use mathlib.Core.List.{List, [], _∷_}
 use Prim.Native.Nat.{ℕ, _+_, _-_}
 use native.Mathlib.Omega.{arith}
 use borrow.Author.Tests.{lt-ltb, le-ltb}
@@ -12,7 +12,7 @@ use lib.IntN.{pos, negℤ}
 use lib.ListN.{drop}
 use Rattle.grammar.specs.Notation.{Role, Role-discrete, Letter, dec, has, 'B', 'C', 'D', 'L', 'P', 'R', 'S', 'T', 'W', 'X'}
 use Rattle.grammar.specs.Notation.{skip, head, second, turn, axis, sign, lead, later, name, stop}
-use Rattle.definition.specs.Words.{if_then_else_, Placed, at, point}
+use Rattle.definition.specs.Words.{if_then_else_, at, point}
 use Rattle.definition.specs.Commands.{Number, box, flash, wire, polygon, shapeOf, Turn, translate, mirrorX, mirrorY, rotate, Command, draw, layer, call, start, finish, delete, nothing}
 use Rattle.definition.specs.Commands.{worth, numbers, nth, paired, next, named, turnAt, turns, commandAt}
 use Rattle.pieces.specs.Pieces.{capped, digitOf, placeAfter, withPiece, pieces}
@@ -47,18 +47,22 @@ unfoldable pub tokens : ℕ → ℕ → List Letter → List Token
 tokens n p [] = []
 tokens n p (l ∷ m) = withToken (l .role) n p (l .byte) (worth (digitOf (l .byte)) m) (tokens (n + 1) (placeAfter (l .role) n) m)
 
+-- what is asked of a letter by its role: A of a command's first letter, B of its semicolon, and X of any other
+abbrev pub ByRole : Role → Type 0 → Type 0 → Type 0 → Type 0
+ByRole head A B X = A
+ByRole stop A B X = B
+ByRole skip A B X = X
+ByRole second A B X = X
+ByRole turn A B X = X
+ByRole axis A B X = X
+ByRole sign A B X = X
+ByRole lead A B X = X
+ByRole later A B X = X
+ByRole name A B X = X
+
 -- a command's letters end with its semicolon, before another command's first letter
 abbrev pub ClosedBy : Role → ℕ → Type 0 → Type 0
-ClosedBy stop b X = b ≡ 59
-ClosedBy head b X = ⊥
-ClosedBy skip b X = X
-ClosedBy second b X = X
-ClosedBy turn b X = X
-ClosedBy axis b X = X
-ClosedBy sign b X = X
-ClosedBy lead b X = X
-ClosedBy later b X = X
-ClosedBy name b X = X
+ClosedBy ρ b X = ByRole ρ ⊥ (b ≡ 59) X
 
 unfoldable pub Closed : List Letter → Type 0
 Closed [] = ⊥
