@@ -11,7 +11,7 @@ use Rattle.grammar.specs.Notation.{Class, Role, Letter, Expression, Match, has,
 use Rattle.grammar.specs.Notation.{is as matches}
 use Rattle.grammar.specs.Notation.{skip, head, second, turn, axis, sign, lead, later, name, stop}
 use Rattle.grammar.specs.Notation.{one, _▹_, many, option, char, both, left, right, none, more, absent, present}
-use Rattle.grammar.specs.Productions.{blank, sep, semi, c, shortname, integer, path, transformation, primCommand, defDeleteCommand, defFinishCommand, defStartCommand, command, cifFile, commentCommand, userText}
+use Rattle.grammar.specs.Productions.{blank, sep, semi, shortname, integer, path, transformation, primCommand, defDeleteCommand, defFinishCommand, defStartCommand, command, cifFile, commentCommand, userText}
 use Rattle.grammar.specs.Productions.{point as pointRule}
 use Rattle.grammar.specs.Viable.{Marked}
 use Rattle.grammar.proofs.Tests.{and-right}

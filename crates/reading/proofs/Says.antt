@@ -8,7 +8,6 @@ use Prim.Native.Nat.{ℕ, _<_}
 use lib.Dec.{eqb}
 use lib.IntN.{pos}
 use lib.ListN.{length}
-use Rattle.grammar.specs.Productions.{c}
 use Rattle.definition.specs.Words.{Placed, at, Point, point}
 use Rattle.definition.specs.Commands.{Number, box, flash, wire, polygon, shapeOf, Turn, translate, mirrorX, mirrorY, rotate, Command, draw, layer, call, start, finish, delete, nothing}
 use Rattle.definition.proofs.Made.{Name}
