@@ -23,7 +23,7 @@ use Rattle.definition.proofs.Sizes.{nil-left, nil-right, all-map, at-numbers}
 use Rattle.pieces.specs.Pieces.{largest, capped}
 use Rattle.reading.specs.Letters.{firstUnit}
 use Rattle.reading.specs.Written.{Written, numbers, letters, figures, lastOf, lastLetter, sizeAt, packedBy, turnsOf}
-use Rattle.reading.specs.Account.{layerOf, scaleless, few, bare, many, Blame, blame, ofNumbers, ofWhole, blames, foremost, faultBy, scopeAfter, faultFrom, atStart, faultOf, Checked}
+use Rattle.reading.specs.Account.{layerOf, scaleless, few, bare, many, Blame, blame, ofNumbers, ofWhole, blames, foremost, faultBy, scopeAfter, faultFrom, atStart, faultOf}
 use Rattle.reading.specs.Refusal.{faultSaid}
 use Rattle.reading.specs.declared.Scope.{Scope}
 use Rattle.reading.specs.declared.Fault.{Fault}
@@ -399,6 +399,3 @@ fits-start = record {
 pub fault-is : {t : List ℕ} {m : List Letter} → Marked t m → faultOf m ≡ faultSaid (firstFault (commands 0 m))
 unfolding firstFault
 fault-is k = fault-from (all-say k) atStart (outside []) fits-start (ordered k 0)
-
-pub checked-is : {t : List ℕ} {m : List Letter} {r : Fault} → Checked t r → Marked t m → r ≡ faultSaid (firstFault (commands 0 m))
-checked-is {m = m} c k = c .is m k ∙ fault-is k

@@ -7,7 +7,7 @@ use Rattle.grammar.specs.Viable.{Judged}
 use Rattle.grammar.specs.declared.Verdict.{Verdict}
 use Rattle.grammar.specs.declared.Verdict.the-variants.{InGrammar, StuckAt}
 use Rattle.grammar.proofs.Unique.{one-verdict}
-use Rattle.reading.specs.Account.{Checked}
+use Rattle.reading.specs.Refusal.{Checked}
 use Rattle.reading.specs.Refusal.{byVerdict, Refuses}
 use Rattle.reading.specs.declared.Fault.{Fault}
 use Rattle.reading.specs.declared.Fault.the-variants.{Refused}
@@ -16,7 +16,7 @@ pub one-fault : (t : List ℕ) (r s : Fault) → Checked t r → Checked t s →
 one-fault t r s h k = h .along ∙ sym (k .along)
 
 by-one : (t : List ℕ) (v : Verdict) → Judged t v → (r s : Fault) → byVerdict t v r → byVerdict t v s → r ≡ s
-by-one t InGrammar g r s h k = one-fault t r s h k
+by-one t InGrammar g r s h k = h (g .0) (g .1) ∙ sym (k (g .0) (g .1))
 by-one t (StuckAt n) g r s h k = h ∙ sym k
 
 pub one-refusal : (t : List ℕ) (r s : Fault) → Refuses t r → Refuses t s → r ≡ s

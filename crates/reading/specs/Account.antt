@@ -132,9 +132,3 @@ atStart = scope false 1 1 0 0
 -- the account's first fault of a marked text
 abbrev pub faultOf : List Letter → Fault
 faultOf m = faultFrom atStart (written (pieces 0 0 m))
-
--- the contract of `check`: the account of the letters as the recogniser marks them, as far as it goes; and so of any marking of the text by the
--- grammar
-pub record Checked (t : List ℕ) (r : Fault) : Type 0 where
-  pub along : r ≡ faultOf (marked 0 0 t)
-  pub is : (m : List Letter) → Marked t m → r ≡ faultOf m

@@ -1,28 +1,41 @@
--- Refusals 2 to 9 together: 2 by the recogniser's verdict, the others by the account.
+-- What `check` and `refusal` promise: refusals 3 to 9 of a text in the grammar are the definition's, and 2 is the recogniser's verdict. These contracts
+-- cite the definition; the account is named only for texts that are not in the grammar, on which the definition says nothing of 3 to 9.
 -- Assumes nothing.
 use mathlib.Core.Path.{_≡_}
 use mathlib.Core.List.{List}
 use mathlib.Core.Option.{Option, none, some}
 use Prim.Native.Nat.{ℕ}
-use Rattle.grammar.specs.Viable.{Judged}
+use Rattle.grammar.specs.Notation.{Letter}
+use Rattle.grammar.specs.Viable.{Marked, Judged}
+use Rattle.grammar.specs.Steps.{marked}
 use Rattle.grammar.specs.declared.Verdict.{Verdict}
 use Rattle.grammar.specs.declared.Verdict.the-variants.{InGrammar, StuckAt}
-use Rattle.definition.specs.Faults.{Refusal}
-use Rattle.reading.specs.Account.{Checked}
+use Rattle.definition.specs.Commands.{commands}
+use Rattle.definition.specs.Faults.{Refusal, firstFault}
+use Rattle.reading.specs.Account.{faultOf}
 use Rattle.reading.specs.declared.Fault.{Fault}
 use Rattle.reading.specs.declared.Fault.the-variants.{Clear, Refused}
 
+-- the definition's first of refusals 3 to 9, as the code says it
+abbrev pub faultSaid : Option Refusal → Fault
+faultSaid none = Clear
+faultSaid (some r) = Refused (r .what) (r .place)
+
+-- of a text in the grammar, r is the definition's first fault
+abbrev pub Faulted : List ℕ → Fault → Type 0
+Faulted t r = (m : List Letter) → Marked t m → r ≡ faultSaid (firstFault (commands 0 m))
+
+-- the contract of `check`: the definition's first fault; and on every text, the account of its letters as far as the recogniser goes
+pub record Checked (t : List ℕ) (r : Fault) : Type 0 where
+  pub is : Faulted t r
+  pub along : r ≡ faultOf (marked 0 0 t)
+
+-- the contract of `refusal`: refusals 2 to 9 together
 abbrev pub byVerdict : List ℕ → Verdict → Fault → Type 0
-byVerdict t InGrammar r = Checked t r
+byVerdict t InGrammar r = Faulted t r
 byVerdict t (StuckAt n) r = r ≡ Refused 2 n
 
--- the contract of `refusal`
 pub record Refuses (t : List ℕ) (r : Fault) : Type 0 where
   pub verdict : Verdict
   pub judged : Judged t verdict
   pub is : byVerdict t verdict r
-
--- the definition's first of refusals 3 to 9, as the account says it
-abbrev pub faultSaid : Option Refusal → Fault
-faultSaid none = Clear
-faultSaid (some r) = Refused (r .what) (r .place)

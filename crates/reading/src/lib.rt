@@ -9,9 +9,9 @@ ghost use Rattle.definition.specs.Words.{if_then_else_};
 ghost use Rattle.pieces.specs.Pieces.{tooLarge, farthest, stream, start, Fit};
 ghost use Rattle.reading.specs.Letters.{byteUnit, firstUnit, widest};
 ghost use Rattle.reading.specs.Written.{turning, one};
-ghost use Rattle.reading.specs.Account.{shapely, distance, vital, scaleless, few, bare, pointsOf, many, layerOf, scope, atStart, Checked};
+ghost use Rattle.reading.specs.Account.{shapely, distance, vital, scaleless, few, bare, pointsOf, many, layerOf, scope, atStart};
 ghost use Rattle.reading.specs.Along.{emptyNo, numberNo, wholeNo, lower, blamed, kept, fresh, idle, counted, worded, afterDoing, finished, runs, Fair, Sane};
-ghost use Rattle.reading.specs.Refusal.{Refuses};
+ghost use Rattle.reading.specs.Refusal.{Checked, Refuses};
 ghost use Rattle.reading.specs.Words.{held, word, valueOf, letterWords, closing, kindBy, Writes, Lined, lineNumber, lineLetter, Closed, outmost, ReadsCommand, ReadsItems};
 
 // 01, refusals 7 and 9.

@@ -1,4 +1,4 @@
--- `check` meets its contract: the marking that the code reads is the only one, and what it keeps comes to the account.
+-- `check` meets its contract: the marking that the code reads is the only one, what it keeps comes to the account, and the account to the definition.
 -- Assumes nothing.
 use mathlib.Core.Path.{sym, ap, _∙_}
 use borrow.Author.Needs.{needs}
@@ -9,6 +9,7 @@ use Rattle.grammar.proofs.Markings.{marking-is}
 use Rattle.pieces.specs.Pieces.{stream, start}
 use Rattle.reading.specs.Account.{atStart, faultOf}
 use Rattle.reading.proofs.Meaning.{runs-first}
+use Rattle.reading.proofs.Agree.{fault-is}
 use Rattle.reading.proofs.check.Statement.{statement}
 use Rattle.reading.proofs.check.Tie as tie
 
@@ -19,7 +20,7 @@ checked-requires c κs = search needs
 returns : tie.Need-returns
 returns c =
     let e = c .checked .ensures ∙ runs-first (stream (c .before .before .before .before .args .text .now) start) atStart in
-    record { along = e; is = λ m k. e ∙ ap (λ (l : List Letter). faultOf l) (sym (marking-is k)) }
+    record { along = e; is = λ m k. e ∙ (ap (λ (l : List Letter). faultOf l) (sym (marking-is k)) ∙ fault-is k) }
 
 pub check-spec : {M : Type 1} → statement M
 check-spec = tie.close (tie.spec checked-requires returns)

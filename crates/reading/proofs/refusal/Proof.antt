@@ -21,7 +21,7 @@ returns : tie.Need-returns
 returns c = refuses-stuck (c .before .before .before .before .before .args .text .now) (c .before .before .before .recognise .result) (c .before .before .before .recognise .ensures) _ (c .before .n .given .1)
 
 returns-2 : tie.Need-returns-2
-returns-2 c = refuses-checked (c .before .before .before .before .before .args .text .now) (c .before .before .before .recognise .result) (c .before .before .before .recognise .ensures) (c .before .enum-told .given .1) _ (c .check .ensures)
+returns-2 c = refuses-checked (c .before .before .before .before .before .args .text .now) (c .before .before .before .recognise .result) (c .before .before .before .recognise .ensures) (c .before .enum-told .given .1) _ (c .check .ensures .is)
 
 pub refusal-spec : {M : Type 1} → statement M
 refusal-spec =
