@@ -9,18 +9,17 @@ use native.Mathlib.Omega.{arith}
 use native.Mathlib.Numerals.{add-one}
 use borrow.Author.Tests.{eq-eqb, ne-eqb}
 use lib.Dec.{ltb, eqb}
-use lib.ListN.{length, getD, drop, drop-of-length-le}
+use lib.ListN.{length, getD, drop-of-length-le}
 use lib.Seq.{drop-cons}
-use Rattle.grammar.specs.Notation.{Role, Letter, dec, Role-discrete, has, 'S', 'F', skip, head, second, turn, axis, sign, lead, later, name, stop}
+use Rattle.grammar.specs.Notation.{Role, Letter, dec, has, 'S', 'F', skip, head, second, turn, axis, sign, lead, later, name, stop}
 use Rattle.grammar.specs.Tables.{stateCount, roleCount, stuck, roles, letter}
-use Rattle.grammar.specs.Steps.{choose, kindOf, modeAfter, markOf, roleOf, marked, mode, number, inside, Moved}
+use Rattle.grammar.specs.Steps.{choose, kindOf, modeAfter, roleOf, marked, mode, number, inside, Moved}
 use Rattle.grammar.specs.declared.Mode.{Mode}
 use Rattle.grammar.specs.declared.Move.{Move}
 use Rattle.grammar.proofs.Automaton.{mark-below, mark-number, number-mark, step-range}
 use Rattle.grammar.proofs.Steps.{step-depth}
 use Rattle.grammar.proofs.Fitting.{insideNext}
 use Rattle.grammar.proofs.Boundaries.{inside-step, stop-step, by-letter}
-use Rattle.definition.specs.Words.{if_then_else_}
 use Rattle.definition.specs.Commands.{worth}
 use Rattle.pieces.specs.Pieces.{tooLarge, capped, digitOf, pieces, left, stream, spot, behind, insideAfter, further, nextPlace, Fit, Small, Step, Reads, Rest, ReadsNumber}
 use Rattle.pieces.specs.declared.Spot.{Spot}

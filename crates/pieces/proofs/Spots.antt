@@ -10,7 +10,6 @@ use Rattle.grammar.specs.Notation.{Letter}
 use Rattle.grammar.specs.Viable.{Marked}
 use Rattle.grammar.proofs.Markings.{marking-is}
 use Rattle.pieces.specs.Pieces.{pieces, stream, start, behind, Fit}
-use Rattle.pieces.specs.declared.Piece.{Piece}
 
 pub start-fits : (t : List ℕ) → Fit t start
 start-fits t = record { within = omega arith; state = omega arith; depth = omega arith }

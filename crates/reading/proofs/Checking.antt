@@ -9,7 +9,6 @@ use native.Mathlib.Nat.{mul-le-mul-right}
 use native.Mathlib.Omega.{arith}
 use borrow.Author.Tests.{lt-ltb, le-ltb, ltb-false, eqb-false}
 use lib.Dec.{ltb, eqb}
-use lib.ListN.{length}
 use Rattle.grammar.specs.Steps.{choose}
 use Rattle.pieces.specs.Pieces.{tooLarge, stream, start, Fit, Step}
 use Rattle.pieces.specs.declared.Spot.{Spot}
@@ -25,7 +24,7 @@ use Rattle.reading.specs.declared.Doing.{Doing}
 use Rattle.reading.specs.declared.Ended.{Ended}
 use Rattle.reading.specs.declared.Ended.the-variants.{Then, Broken}
 use Rattle.reading.specs.declared.Fault.{Fault}
-use Rattle.reading.specs.declared.Fault.the-variants.{Clear, Refused}
+use Rattle.reading.specs.declared.Fault.the-variants.{Refused}
 
 -- the end of a command
 module _ (s : Scope) (c : Doing) (hb : c .busy ≡ true) (y : ℕ) (ey : y ≡ layerOf s) (k : ℕ) (ek : k ≡ wholeNo (c .letter) (c .word) (c .count) (c .turns) (c .a) (c .b) y) where

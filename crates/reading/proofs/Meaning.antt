@@ -22,7 +22,7 @@ use Rattle.reading.specs.declared.Scope.{Scope}
 use Rattle.reading.specs.declared.Doing.{Doing}
 use Rattle.reading.specs.declared.Ended.the-variants.{Then, Broken}
 use Rattle.reading.specs.declared.Fault.{Fault}
-use Rattle.reading.specs.declared.Fault.the-variants.{Clear, Refused}
+use Rattle.reading.specs.declared.Fault.the-variants.{Clear}
 
 -- the sooner of two
 module _ (x y z : Blame) where

@@ -12,7 +12,7 @@ use Rattle.grammar.specs.Steps.{choose}
 use Rattle.pieces.specs.Pieces.{largest}
 use Rattle.reading.specs.Letters.{noRefusal}
 use Rattle.reading.specs.Written.{Written, Figure, numbers, letters, lastLetter, sizeAt, turnsOf}
-use Rattle.reading.specs.Account.{distance, vital, scaleless, few, bare, many, layerOf, Blame, blame, when, ofNumber, ofNumbers, ofWhole, blames, sooner, foremost, faultBy, scopeAfter, faultFrom}
+use Rattle.reading.specs.Account.{distance, vital, scaleless, few, bare, many, layerOf, Blame, blame, when, ofNumber, ofNumbers, blames, sooner, foremost, faultBy, scopeAfter, faultFrom}
 use Rattle.reading.specs.declared.Scope.{Scope}
 use Rattle.reading.specs.declared.Fault.{Fault}
 use Rattle.reading.specs.declared.Fault.the-variants.{Clear, Refused}

@@ -7,11 +7,10 @@ use mathlib.Core.List.{List, [], _∷_, _++_, append-assoc, append-nil}
 use Prim.Native.Nat.{ℕ, zero, suc, _+_, _-_, _*_, _/_, _≤_, _<_}
 use native.Mathlib.Nat.{add-zero, zero-add, add-suc, suc-add, add-assoc, mul-div-right}
 use native.Mathlib.Omega.{arith}
-use borrow.Author.Tests.{lt-ltb, le-ltb}
-use lib.Dec.{ltb, eqb}
+use lib.Dec.{eqb}
 use lib.ListN.{length, set, length-append}
 use lib.Seq.{sets, length-sets, set-comm, set-out}
-use lib.IntN.{ℤ, pos, negsuc, negℤ, _-ℤ_, natAbs, +ℤ-idl}
+use lib.IntN.{ℤ, pos, negℤ, _-ℤ_, +ℤ-idl}
 use lib.Signed.{mag}
 use mir.Syntax.{w32}
 use mir.Val.{SFits, toZ, ofZ}
@@ -25,7 +24,7 @@ use Rattle.pieces.specs.declared.Piece.the-variants.{First, Second, Number, Wor
 use Rattle.reading.specs.Letters.{letterC, letterM, byteUnit, firstUnit, widest}
 use Rattle.reading.specs.Written.{Written, itemsOf, stops, written, writtenAt, letters, lastOf, packedBy, insideBehind}
 use Rattle.reading.specs.Account.{distance}
-use Rattle.reading.specs.Words.{held, signed, word, valueOf, letterWords, bodyOf, closing, tally, kindBy, framed, wordsOf, Writes, lineNumber, lineLetter, Lined, closed, Closed, Tells, insideFirst, DecodedOne, ReadsCommand, DecodedItems, ReadsItems}
+use Rattle.reading.specs.Words.{held, signed, word, valueOf, letterWords, bodyOf, tally, kindBy, framed, wordsOf, Writes, lineNumber, lineLetter, Lined, closed, Closed, Tells, insideFirst, ReadsCommand, ReadsItems}
 use Rattle.reading.specs.declared.Line.{Line}
 use Rattle.reading.specs.declared.Read.{Read}
 use Rattle.reading.specs.declared.Read.the-variants.{Decoded, Nothing}
