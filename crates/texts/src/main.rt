@@ -2,15 +2,15 @@
 // its text, with `\n`, `\t`, `\\` and `\xHH` for bytes that cannot stand there or are not printable; any other byte stands for itself. An answer has
 // fields parted by tabs, and further ones may be added behind them: what was found, a place, and the line as it stood.
 //
-//   2                PLACE   the text is not in the grammar, and stuck there
-//   in the grammar   0
+//   2 to 9           PLACE   the number of the first refusal up to 9, and where
+//   sound            0       none of them
 //   bad escape       PLACE   the line is no text: no escape begins with the backslash at that byte of the line
 //   too long         65536   the line has more than so many bytes, of which the first 32 are shown
 //
 // The last line need not end in a line feed. The input may have any number of lines.
-use grammar::Verdict;
 use libc::STDIN_FILENO;
 use libc::STDOUT_FILENO;
+use reading::Fault;
 ghost use Prim.Native.Nat.{_+_, _≤_, _<_};
 ghost use lib.ListN.{length};
 
@@ -165,9 +165,12 @@ fn answer(line: &[u8], room: &mut [u8])
 {
     match unescape(line, room) {
         Line::BadEscape(at) => print(b"bad escape", at, line),
-        Line::Text(n) => match grammar::recognise(first(room, n)) {
-            Verdict::InGrammar => print(b"in the grammar", 0, line),
-            Verdict::StuckAt(place) => print(b"2", place, line),
+        Line::Text(n) => match reading::refusal(first(room, n)) {
+            Fault::Clear => print(b"sound", 0, line),
+            Fault::Refused(number, place) => {
+                io::print_decimal(STDOUT_FILENO, number as u64);
+                print(b"", place, line);
+            }
         },
     }
 }
