@@ -11,7 +11,7 @@ ghost use Rattle.reading.specs.Letters.{byteUnit, firstUnit, widest};
 ghost use Rattle.reading.specs.Written.{turning, one};
 ghost use Rattle.reading.specs.Account.{shapely, distance, vital, scaleless, few, bare, pointsOf, many, layerOf, scope, atStart};
 ghost use Rattle.reading.specs.Along.{emptyNo, numberNo, wholeNo, lower, blamed, kept, fresh, idle, counted, worded, afterDoing, finished, runs, Fair, Sane};
-ghost use Rattle.reading.specs.Refusal.{Checked, Refuses};
+ghost use Rattle.reading.specs.Refusal.{Checked, Refuses, Told};
 ghost use Rattle.reading.specs.Words.{held, word, valueOf, letterWords, closing, kindBy, Writes, Lined, lineNumber, lineLetter, Closed, outmost, ReadsCommand, ReadsItems};
 
 // 01, refusals 7 and 9.
@@ -811,6 +811,21 @@ pub fn read_command(
                     spot = to;
                 }
             },
+        }
+    }
+}
+
+// The same for hosts: two words, 0 and 0 where there is none of refusals 2 to 9, else the number and the place.
+#[no_mangle]
+pub extern "C" fn cif_refusal(text: &[u8], answer: &mut [u64; 2])
+    ensures { λ _. ⌜ Told (now (text .entry)) (now (answer .exit)) ⌝ }
+{
+    match refusal(text) {
+        Fault::Clear => {
+            *answer = [0, 0];
+        }
+        Fault::Refused(number, place) => {
+            *answer = [number as u64, place as u64];
         }
     }
 }
