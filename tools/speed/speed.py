@@ -1,7 +1,8 @@
 #!/usr/bin/env python3
-"""How fast the proved recogniser is, and what memory it takes: tools/speed/speed.py [--times N] [FILE..], at the top of the repository.
+"""How fast the proved code is, and what memory it takes: tools/speed/speed.py [--of CRATE] [--times N] [FILE..], at the top of the repository.
 
-Links tools/speed/driver.c with target/staticlib/libgrammar.a (`rt staticlib grammar` writes it) by the kit's own compiler, and prints for each text
+CRATE is grammar (cif_recognise: refusal 2; the default) or reading (cif_refusal: refusals 2 to 9). Links tools/speed/driver.c with the archive that
+`rt staticlib CRATE` writes under target/staticlib, by the kit's own compiler, and prints for each text
 its length, the answer, the least processor time of N calls, ns a byte, and how many pages of memory the calls touched beyond those of the text and
 of a call on an empty text. Without FILE it makes texts of 16 MiB, and one of 1 MiB for comparison.
 """
@@ -18,7 +19,7 @@ KIT = os.path.dirname(os.path.dirname(os.path.realpath(shutil.which("rt"))))
 ON = os.path.join(KIT, "on", platform.machine())
 TOOLS = os.path.join(ON, "toolchain")
 TARGET = "x86_64-unknown-linux-gnu"
-ARCHIVE = "target/staticlib/libgrammar.a"
+CALLS = {"grammar": "cif_recognise", "reading": "cif_refusal"}
 
 
 def boxes(most):
@@ -54,12 +55,16 @@ def made(work):
         yield name, path
 
 
-def build(work):
+def archive(crate):
+    return f"target/staticlib/lib{crate}.a"
+
+
+def build(work, crate):
     """The command that runs the driver: under the kit's loader and C library, and on Arm its emulator."""
     obj, out = os.path.join(work, "driver.o"), os.path.join(work, "driver")
     here = os.path.dirname(os.path.abspath(__file__))
-    subprocess.run([os.path.join(TOOLS, "bin", "clang"), "--target=" + TARGET, "-O3", "-c", os.path.join(here, "driver.c"), "-o", obj], check=True)
-    subprocess.run([os.path.join(ON, "bin", "rattle-link"), "--target", TARGET, "--toolchain", TOOLS, "-o", out, obj, ARCHIVE],
+    subprocess.run([os.path.join(TOOLS, "bin", "clang"), "--target=" + TARGET, "-O3", "-DCALL=" + CALLS[crate], "-c", os.path.join(here, "driver.c"), "-o", obj], check=True)
+    subprocess.run([os.path.join(ON, "bin", "rattle-link"), "--target", TARGET, "--toolchain", TOOLS, "-o", out, obj, archive(crate)],
                    check=True, stderr=subprocess.DEVNULL)
     emulator = os.path.join(TOOLS, "bin", "qemu-x86_64")
     loader = [os.path.join(TOOLS, "lib", "ld-linux-x86-64.so.2"), "--library-path", os.path.join(TOOLS, "lib")]
@@ -68,14 +73,15 @@ def build(work):
 
 def main():
     a = argparse.ArgumentParser(description=__doc__, formatter_class=argparse.RawDescriptionHelpFormatter)
+    a.add_argument("--of", choices=sorted(CALLS), default="grammar")
     a.add_argument("--times", type=int, default=7)
     a.add_argument("files", nargs="*")
     given = a.parse_args()
-    if not os.path.exists(ARCHIVE):
-        sys.exit(f"no {ARCHIVE} here: run `rt staticlib grammar` at the top of the repository")
+    if not os.path.exists(archive(given.of)):
+        sys.exit(f"no {archive(given.of)} here: run `rt staticlib {given.of}` at the top of the repository")
     work = tempfile.mkdtemp()
     try:
-        command = build(work)
+        command = build(work, given.of)
         print(f"{'text':24} {'bytes':>9}  {'answer':>12} {'ms':>9} {'ns/byte':>8} {'pages':>6}")
         for name, path in [(f, f) for f in given.files] or made(work):
             got = subprocess.run([*command, path, str(given.times)], capture_output=True, text=True, check=True).stdout.split()
