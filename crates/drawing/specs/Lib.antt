@@ -1,1 +1,3 @@
 pub mod Painting
+pub mod Voices
+pub mod Rows

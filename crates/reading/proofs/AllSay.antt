@@ -219,9 +219,9 @@ literal : (k : Class) (b : ℕ) (Q : List Token → Type 0) → ((x : ℕ) → T
     → (n x : ℕ) (ts : List Token) → T (has k x) → Q ts → Saying n x ts
 literal k b Q f g n x ts h q = subst (λ (y : ℕ). Saying n y ts) (sym (eqb→eq x b (f x h))) (g n ts q)
 
-idle-of : (k : Class) → T (not (has k 80)) → T (not (has k 66)) → T (not (has k 82)) → T (not (has k 87)) → T (not (has k 76)) → T (not (has k 67)) → T (not (has k 68))
+idle-of : (k : Class) → T (not (has k 80)) → T (not (has k 66)) → T (not (has k 82)) → T (not (has k 87)) → T (not (has k 76)) → T (not (has k 67)) → T (not (has k 68)) → T (not (has k 83)) → T (not (has k 70))
     → ((b : ℕ) → T (has k b) → b < 256) → (b : ℕ) → T (has k b) → Idle b
-idle-of k p b r w l c d s x h = record {
+idle-of k p b r w l c d e f s x h = record {
   not-P = other k x 80 p h;
   not-B = other k x 66 b h;
   not-R = other k x 82 r h;
@@ -229,6 +229,8 @@ idle-of k p b r w l c d s x h = record {
   not-L = other k x 76 l h;
   not-C = other k x 67 c h;
   not-D = other k x 68 d h;
+  not-S = other k x 83 e h;
+  not-F = other k x 70 f h;
   small = s x h;
 }
 
@@ -290,11 +292,11 @@ idle-heads k r t s i = headed k r End s (λ w m n f. passing End m f t n) (λ n 
 
 user-heads : Tailed (one head Digit ▹ userText)
 unfolding everywhere silent calm has
-user-heads = idle-heads Digit userText tt tt (idle-of Digit tt tt tt tt tt tt tt (λ b h. let l = leb→le b 57 (and-right (leb 48 b) (leb b 57) h) in omega arith))
+user-heads = idle-heads Digit userText tt tt (idle-of Digit tt tt tt tt tt tt tt tt tt (λ b h. let l = leb→le b 57 (and-right (leb 48 b) (leb b 57) h) in omega arith))
 
 comment-heads : Tailed commentCommand
 unfolding everywhere silent calm has
-comment-heads = idle-heads lpar (commentText ▹ one skip rpar) tt tt (idle-of lpar tt tt tt tt tt tt tt (λ b h. let e = eqb→eq b 40 h in omega arith))
+comment-heads = idle-heads lpar (commentText ▹ one skip rpar) tt tt (idle-of lpar tt tt tt tt tt tt tt tt tt (λ b h. let e = eqb→eq b 40 h in omega arith))
 
 prim-heads : Tailed primCommand
 prim-heads w m (left k) = polygon-heads w m k
@@ -385,7 +387,7 @@ command-heads w m (right (right (both u v k (both x y s (both p q i f d) j) e)))
 end-opens : (a : Letter) (m : List Letter) → T (matches head 'E' a) → Match (many blank) m → Opens a m
 unfolding Opens has commandAt everywhere silent
 end-opens a m h k n =
-    let i = idle-of 'E' tt tt tt tt tt tt tt (λ b h. let e = eqb→eq b 69 h in omega arith) (a .byte) (byte-of head 'E' a h) in
+    let i = idle-of 'E' tt tt tt tt tt tt tt tt tt (λ b h. let e = eqb→eq b 69 h in omega arith) (a .byte) (byte-of head 'E' a h) in
     rw (items-are m (n + 1) (n + 1), over, i .not-P, i .not-B, i .not-R, i .not-W, i .not-L, i .not-C, i .not-D) (a-nothing i)
   where
     over : tokens (n + 1) (n + 1) m ≡ []

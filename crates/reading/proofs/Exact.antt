@@ -196,7 +196,7 @@ module _ (s : Standing) (hb : 0 < s .b) where
 
 -- ---- the two words in front
 
-kind-exact : {c : Written} {d : Placed Command} → Says c d → kindBy (c .letter) (lastLetter c) ≡ kindOf (d .what) (c .letter)
+pub kind-exact : {c : Written} {d : Placed Command} → Says c d → kindBy (c .letter) (lastLetter c) ≡ kindOf (d .what) (c .letter)
 unfolding letters lastOf kindOf letterOf
 kind-exact (a-polygon g h) = refl
 kind-exact (a-box x y z w) = refl
@@ -245,7 +245,7 @@ path-length s ps e =
     let k = length-map (scaledPoint s) ps in
     omega arith
 
-few-values : (s : Standing) {c : Written} {d : Placed Command} → Says c d → tooMany (d .what) ≡ false → length (valuesOf s (d .what)) ≤ 2049
+pub few-values : (s : Standing) {c : Written} {d : Placed Command} → Says c d → tooMany (d .what) ≡ false → length (valuesOf s (d .what)) ≤ 2049
 unfolding valuesOf scaledShape tooMany partsOf any
 few-values s (a-polygon {ps = ps} g h) e = let n = path-length s ps e in omega arith
 few-values s (a-box x y z w) e = omega arith

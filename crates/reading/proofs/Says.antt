@@ -41,7 +41,7 @@ pub data Turns : List Piece → List (Turn Number) → Type 0 where
   a-mirror-y : {xs : List Piece} {ts : List (Turn Number)} → Turns xs ts → Turns (Word letterM ∷ Word letterY ∷ xs) (mirrorY ∷ ts)
   a-rotation : {x y : Piece} {a b : Number} {xs : List Piece} {ts : List (Turn Number)} → Tells x a → Tells y b → Turns xs ts → Turns (Word letterR ∷ x ∷ y ∷ xs) (rotate (point a b) ∷ ts)
 
--- the first letter of a command that does nothing: a comment's, a user extension's, and E
+-- the first letter of a command that does nothing: a comment's, a user extension's, and E. It is neither a command's first letter nor the second of a D command
 pub record Idle (b : ℕ) : Type 0 where
   pub not-P : eqb b letterP ≡ false
   pub not-B : eqb b letterB ≡ false
@@ -50,6 +50,8 @@ pub record Idle (b : ℕ) : Type 0 where
   pub not-L : eqb b letterL ≡ false
   pub not-C : eqb b letterC ≡ false
   pub not-D : eqb b letterD ≡ false
+  pub not-S : eqb b letterS ≡ false
+  pub not-F : eqb b letterF ≡ false
   pub small : b < 256
 
 abbrev pub wrote : ℕ → ℕ → List Piece → Bool → Written
