@@ -6,28 +6,33 @@ use mathlib.Core.List.{List, [], _∷_, _++_, map, flatMap}
 use mathlib.Core.Option.{none}
 use Prim.Native.Nat.{ℕ, _+_, _*_, _≤_, _<_}
 use native.Mathlib.Omega.{arith}
-use lib.Dec.{eqb}
+use borrow.Author.Tests.{eqb-false, ltb-false}
 use lib.IntN.{ℤ, pos, natAbs}
 use lib.ListN.{length}
 use Rattle.grammar.specs.Notation.{Letter}
 use Rattle.grammar.specs.Viable.{Marked}
-use Rattle.definition.specs.Words.{Placed}
+use Rattle.definition.specs.Words.{Placed, any}
 use Rattle.definition.specs.Commands.{Turn, translate, mirrorX, mirrorY, rotate, Kind, box, flash, wire, polygon, Command, commands}
 use Rattle.definition.specs.Standing.{Standing, outside, after, scaledShape, scaledTurn}
-use Rattle.definition.specs.Faults.{firstFault}
+use Rattle.definition.specs.Faults.{firstFault, numbersOf, partsOf, zeroScale, tooMany, zero?}
 use Rattle.definition.specs.Flat.{letterOf}
+use Rattle.definition.proofs.Range.{All}
+use Rattle.definition.proofs.Made.{Name}
+use Rattle.definition.proofs.Said.{or-first, or-second}
 use Rattle.definition.proofs.Ordered.{Ordered, Allowed, after-inside, ordered}
 use Rattle.turns.specs.Words.{turnWords, turnsWords}
-use Rattle.pen.specs.Names.{nameOf}
-use Rattle.pieces.specs.Pieces.{pieces}
+use Rattle.pen.specs.Names.{nameOf, packed}
+use Rattle.pen.proofs.Names.{a-name, name-back}
+use Rattle.pieces.specs.Pieces.{pieces, letterS, letterF}
 use Rattle.reading.specs.Account.{atStart}
+use Rattle.reading.specs.Letters.{letterC, letterD, letterL, firstUnit}
 use Rattle.reading.specs.Written.{Written, written, letters, lastOf, lastLetter, insideBehind, packedBy}
-use Rattle.reading.specs.Words.{wordsOf, kindBy}
+use Rattle.reading.specs.Words.{signed, wordsOf, kindBy}
 use Rattle.reading.specs.declared.Scope.{Scope}
 use Rattle.reading.proofs.Says.{tells, Says, Idle}
 use Rattle.reading.proofs.Says.{a-polygon, a-box, a-turned-box, a-flash, a-wire, a-scaled-start, a-deletion}
 use Rattle.reading.proofs.Says.{a-layer as says-layer, a-call as says-call, a-start as says-start, a-finish as says-finish, a-nothing as says-nothing}
-use Rattle.reading.proofs.Agree.{Fits, Faultless}
+use Rattle.reading.proofs.Agree.{Fits, Faultless, near-most, not-zero}
 use Rattle.reading.proofs.Exact.{turnValues, valuesOf, kindOf, exactWords, kind-exact, few-values, AllExact, none-left, one-exact, all-exact}
 use Rattle.drawing.specs.Voices.{Shaped, Silent, Voice, a-shape, a-call, a-layer, a-start, a-finish, a-delete, a-nothing, Voiced, Told, none-told, one-told, sizeCount, directionCount, mostValues}
 
@@ -39,3 +44,53 @@ turns-kept (translate p ∷ ts) = ap (λ (l : List ℤ). pos 84 ∷ p .x ∷ p .
 turns-kept (mirrorX ∷ ts) = ap (λ (l : List ℤ). pos 88 ∷ l) (turns-kept ts)
 turns-kept (mirrorY ∷ ts) = ap (λ (l : List ℤ). pos 89 ∷ l) (turns-kept ts)
 turns-kept (rotate d ∷ ts) = ap (λ (l : List ℤ). pos 82 ∷ d .x ∷ d .y ∷ l) (turns-kept ts)
+
+-- a layer's name comes back from its number
+packed-four : (l : List ℕ) → length l ≤ 4 → packedBy firstUnit l ≡ packed l
+unfolding packedBy packed
+packed-four [] h = refl
+packed-four (a ∷ []) h = omega arith
+packed-four (a ∷ b ∷ []) h = omega arith
+packed-four (a ∷ b ∷ c ∷ []) h = omega arith
+packed-four (a ∷ b ∷ c ∷ d ∷ []) h = omega arith
+packed-four (a ∷ b ∷ c ∷ d ∷ e ∷ l) h = absurd (omega arith)
+
+name-kept : (l : List ℕ) → Name l → nameOf (packedBy firstUnit l) ≡ l
+name-kept l n = ap nameOf (packed-four l (n .short)) ∙ name-back l (a-name l (n .short) (n .chars))
+
+silent : (b : ℕ) → Idle b → Silent b
+unfolding letterOf
+silent b i = record {
+  no-shape = go;
+  no-call = eqb-false b letterC (i .not-C);
+  no-layer = eqb-false b letterL (i .not-L);
+  no-start = eqb-false b letterS (i .not-S);
+  no-finish = eqb-false b letterF (i .not-F);
+  no-delete = eqb-false b letterD (i .not-D);
+}
+  where
+    go : (k : Kind) → b ≡ letterOf k → ⊥
+    go box e = eqb-false b 66 (i .not-B) (unfold letterOf in e)
+    go flash e = eqb-false b 82 (i .not-R) (unfold letterOf in e)
+    go wire e = eqb-false b 87 (i .not-W) (unfold letterOf in e)
+    go polygon e = eqb-false b 80 (i .not-P) (unfold letterOf in e)
+
+abbrev Speaks : Standing → Written → Command → Type 0
+Speaks σ c d = Voice σ c (kindBy (c .letter) (lastLetter c)) (valuesOf σ d) d
+
+voice-of : (σ : Standing) {c : Written} {d : Placed Command} → Says c d → Faultless σ d → Allowed (σ .inside) (d .what) → Speaks σ c (d .what)
+unfolding letters lastOf valuesOf scaledShape sizeCount directionCount letterOf Allowed insideBehind numbersOf partsOf zeroScale any All tooMany
+voice-of σ (a-polygon g h) f o = a-shape (record { letter-is = refl; values-are = refl; sizes = refl; directions = refl })
+voice-of σ (a-box x y z w) f o = a-shape (record { letter-is = refl; values-are = refl; sizes = refl; directions = refl })
+voice-of σ (a-turned-box x y z w u v) f o = a-shape (record { letter-is = refl; values-are = refl; sizes = refl; directions = refl })
+voice-of σ (a-flash x y z) f o = a-shape (record { letter-is = refl; values-are = refl; sizes = refl; directions = refl })
+voice-of σ (a-wire x g h) f o = a-shape (record { letter-is = refl; values-are = refl; sizes = refl; directions = refl })
+voice-of σ (says-layer {l = l} h n) f o = a-layer (packedBy firstUnit l) refl refl (name-kept l n)
+voice-of σ (says-call {a = a} {ts = ts} x g) f o =
+    a-call refl (ap (λ (vs : List ℤ). a .what ∷ vs) (turns-kept (map (scaledTurn σ) ts))) (ltb-false 32 (length ts) (f .not-many))
+voice-of σ (says-start (tells i α v)) f o = a-start refl refl o (omega arith) (omega arith) refl (λ j. refl)
+voice-of σ (a-scaled-start {b = b} {c = c} (tells i α v) (tells j τ w) (tells k υ x)) f o =
+    a-start refl refl o (let h = near-most (signed τ w) (f .near .1 .0) in omega arith) (not-zero (natAbs (signed υ x)) (or-first _ _ (or-second (zero? (signed τ w)) _ (f .scale)))) refl (λ j. refl)
+voice-of σ says-finish f o = a-finish refl o
+voice-of σ (a-deletion (tells i α v)) f o = a-delete refl refl o
+voice-of σ (says-nothing {b = b} i) f o = a-nothing (subst Silent (sym (rw (i .not-D) refl)) (silent b i))

@@ -252,11 +252,11 @@ near-exact : (σ : Bool) (v : ℕ) → beyond (signed σ v) ≡ false → capped
 unfolding beyond
 near-exact σ v e = capped-exact v (ap (λ (n : ℕ). ltb largest n) (sym (abs-signed σ v)) ∙ e) ∙ sym (abs-signed σ v)
 
-near-most : (z : ℤ) → beyond z ≡ false → natAbs z ≤ largest
+pub near-most : (z : ℤ) → beyond z ≡ false → natAbs z ≤ largest
 unfolding beyond
 near-most z e = ltb-false largest (natAbs z) e
 
-not-zero : (n : ℕ) → eqb n 0 ≡ false → 0 < n
+pub not-zero : (n : ℕ) → eqb n 0 ≡ false → 0 < n
 not-zero n e = let h = eqb-false n 0 e in omega arith
 
 -- a name that is set
