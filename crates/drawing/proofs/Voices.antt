@@ -23,15 +23,18 @@ use Rattle.definition.proofs.Ordered.{Ordered, Allowed, after-inside, ordered}
 use Rattle.turns.specs.Words.{turnWords, turnsWords}
 use Rattle.pen.specs.Names.{nameOf, packed}
 use Rattle.pen.proofs.Names.{a-name, name-back}
-use Rattle.pieces.specs.Pieces.{pieces, letterS, letterF}
+use Rattle.pieces.specs.Pieces.{pieces, letterS, letterF, stream, start}
+use Rattle.pieces.specs.declared.Piece.{Piece}
+use Rattle.pieces.proofs.Spots.{start-pieces}
 use Rattle.reading.specs.Account.{atStart}
-use Rattle.reading.specs.Letters.{letterC, letterD, letterL, firstUnit}
+use Rattle.reading.specs.Letters.{letterC, letterD, letterL, byteUnit, firstUnit}
 use Rattle.reading.specs.Written.{Written, written, letters, lastOf, lastLetter, insideBehind, packedBy}
 use Rattle.reading.specs.Words.{signed, wordsOf, kindBy}
 use Rattle.reading.specs.declared.Scope.{Scope}
 use Rattle.reading.proofs.Says.{tells, Says, Idle}
 use Rattle.reading.proofs.Says.{a-polygon, a-box, a-turned-box, a-flash, a-wire, a-scaled-start, a-deletion}
 use Rattle.reading.proofs.Says.{a-layer as says-layer, a-call as says-call, a-start as says-start, a-finish as says-finish, a-nothing as says-nothing}
+use Rattle.reading.proofs.Facing.{faces}
 use Rattle.reading.proofs.Agree.{Fits, Faultless, near-most, not-zero}
 use Rattle.reading.proofs.Exact.{turnValues, valuesOf, kindOf, exactWords, kind-exact, few-values, AllExact, none-left, one-exact, all-exact}
 use Rattle.drawing.specs.Voices.{Shaped, Silent, Voice, a-shape, a-call, a-layer, a-start, a-finish, a-delete, a-nothing, Voiced, Told, none-told, one-told, sizeCount, directionCount, mostValues}
@@ -94,3 +97,26 @@ voice-of σ (a-scaled-start {b = b} {c = c} (tells i α v) (tells j τ w) (tells
 voice-of σ says-finish f o = a-finish refl o
 voice-of σ (a-deletion (tells i α v)) f o = a-delete refl refl o
 voice-of σ (says-nothing {b = b} i) f o = a-nothing (subst Silent (sym (rw (i .not-D) refl)) (silent b i))
+
+module _ (s : Scope) (σ : Standing) {c : Written} {d : Placed Command} (x : Says c d) (g : Fits s σ) (f : Faultless σ d) (e : wordsOf (s .a) (s .b) c ≡ exactWords σ (c .letter) d) (o : Allowed (σ .inside) (d .what)) where
+  voiced : Voiced σ c d
+  voiced = record {
+    values = valuesOf σ (d .what);
+    x = pos (kindOf (d .what) (c .letter) + byteUnit * length (valuesOf σ (d .what)));
+    y = pos (d .place);
+    words = ap₂ {C = List ℤ} (λ (a b : ℕ). wordsOf a b c) (sym (g .scale .same-a)) (sym (g .scale .same-b)) ∙ e;
+    few = few-values σ x (f .not-many);
+    place = faces x .place;
+    voice = voice-of σ x f o;
+  }
+
+told-from : {s : Scope} {σ : Standing} {cs : List Written} {ds : List (Placed Command)} → AllExact s σ cs ds → Ordered (σ .inside) ds → Told σ cs ds
+unfolding Ordered
+told-from none-left o = none-told
+told-from (one-exact {s = s} {σ = σ} {d = d} {ds = ds} x g f e r) o =
+    one-told (voiced s σ x g f e (o .0)) (told-from r (subst (λ (i : Bool). Ordered i ds) (sym (after-inside (d .what) σ)) (o .1)))
+
+-- a text that refusals 1 to 9 let pass is told from its start to its end
+pub told-text : {t : List ℕ} {m : List Letter} → Marked t m → length t ≤ 16777216 → firstFault (commands 0 m) ≡ none → Told (outside []) (written (stream t start)) (commands 0 m)
+told-text {m = m} k h e =
+    subst (λ (xs : List Piece). Told (outside []) (written xs) (commands 0 m)) (sym (start-pieces k)) (told-from (all-exact k h e) (ordered k 0))
