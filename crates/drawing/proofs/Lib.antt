@@ -1,3 +1,5 @@
 pub mod Painting
 pub mod Rows
 pub mod Voices
+pub mod Reading
+pub mod Steps
