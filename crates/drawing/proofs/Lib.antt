@@ -3,3 +3,5 @@ pub mod Rows
 pub mod Voices
 pub mod Reading
 pub mod Steps
+pub mod Opened
+pub mod Moves

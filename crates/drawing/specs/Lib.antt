@@ -1,3 +1,4 @@
 pub mod Painting
 pub mod Voices
 pub mod Rows
+pub mod Moves

@@ -1,5 +1,16 @@
 // The drawing: a body draws its calls and a call draws its body, with refusals 10 to 17 (01, "Drawing"). One cycle measures, on an empty part, and
 // writes: what is stored past the room's end is dropped.
+ghost use mathlib.Core.Path.{_≡_};
+ghost use mathlib.Core.Bool.{_||_};
+ghost use mathlib.Core.List.{List, _∷_, []};
+ghost use Prim.Native.Nat.{ℕ, _+_, _*_, _^_, _<_, _≤_};
+ghost use lib.Dec.{eqb};
+ghost use lib.IntN.{ℤ, pos, natAbs};
+ghost use lib.ListN.{length, take, set, getD};
+ghost use lib.Seq.{sets};
+ghost use Rattle.definition.specs.Words.{any};
+ghost use Rattle.turns.specs.Nets.{Near};
+ghost use Rattle.drawing.specs.Moves.{Pointed, Moves};
 
 // The running counts of 01, carried along by value.
 pub struct Counts {
@@ -18,4 +29,57 @@ pub struct Pen {
 pub enum Drawn {
     Done(Counts, Pen),
     Refused(usize, usize),
+}
+
+// Whether a symbol is being drawn: the first `level` of these are (refusal 13).
+fn is_open(symbols: &[usize], level: usize, symbol: usize) -> bool
+    requires { ⌜ level ≤ length (now symbols) ⌝ }
+    ensures { λ r. ⌜ r ≡ any (λ x. eqb x symbol) (take level (now (symbols .entry))) ⌝ }
+{
+    let mut i = 0;
+    while i < level {
+        if symbols[i] == symbol {
+            return true;
+        }
+        i += 1;
+    }
+    false
+}
+
+// A size goes to its place as it is.
+fn copy_number(words: &[i32], numbers: &mut [i64], i: usize)
+    requires { ⌜ (i < length (now words)) × (i < length (now numbers)) ⌝ }
+    ensures { λ _. ⌜ now (numbers .exit) ≡ set (now (numbers .entry)) i (getD (now (words .entry)) i (pos 0)) ⌝ }
+{
+    numbers[i] = words[i] as i64;
+}
+
+fn set_point(numbers: &mut [i64], i: usize, p: turns::Pair) -> usize
+    requires { ⌜ i + 1 < length (now numbers) ⌝ }
+    ensures { λ r. ⌜ (r ≡ i + 2) × (now (numbers .exit) ≡ sets (now (numbers .entry)) i (p .x ∷ p .y ∷ [])) ⌝ }
+{
+    let j = i + 1;
+    let x = p.x;
+    let y = p.y;
+    numbers[i] = x;
+    numbers[j] = y;
+    i + 2
+}
+
+// Points go to their final places, up to the first that is beyond the range (refusal 16).
+fn move_points(words: &[i32], numbers: &mut [i64], from: usize, end: usize, net: turns::Net) -> bool
+    requires { ⌜ Pointed (now words) from end × (end ≤ length (now numbers)) ⌝ }
+    requires { ⌜ Near (2 ^ 61) net ⌝ }
+    ensures { λ r. ⌜ ((h : Pointed (now (words .entry)) from end) → Moves net (h .points) (now (numbers .entry)) from r (now (numbers .exit))) ⌝ }
+{
+    let mut i = from;
+    while i < end {
+        let j = i + 1;
+        let p = turns::place_point(net, words[i], words[j]);
+        if turns::is_beyond(p) {
+            return true;
+        }
+        i = set_point(numbers, i, p);
+    }
+    false
 }
