@@ -9,8 +9,9 @@ ghost use lib.IntN.{ℤ, pos, natAbs};
 ghost use lib.ListN.{length, take, set, getD};
 ghost use lib.Seq.{sets};
 ghost use Rattle.definition.specs.Words.{any};
-ghost use Rattle.turns.specs.Nets.{Near};
-ghost use Rattle.drawing.specs.Moves.{Pointed, Moves};
+ghost use Rattle.definition.specs.Words.{Point, point};
+ghost use Rattle.turns.specs.Nets.{Near, turned};
+ghost use Rattle.drawing.specs.Moves.{Pointed, Moves, ShapedAt, MovesShape};
 
 // The running counts of 01, carried along by value.
 pub struct Counts {
@@ -82,4 +83,34 @@ fn move_points(words: &[i32], numbers: &mut [i64], from: usize, end: usize, net:
         i = set_point(numbers, i, p);
     }
     false
+}
+
+// A direction takes the turns and not the steps.
+fn aim_at(words: &[i32], numbers: &mut [i64], i: usize, net: turns::Net)
+    requires { ⌜ (i + 1 < length (now words)) × (i + 1 < length (now numbers)) ⌝ }
+    ensures { λ _. ⌜ ((p : Point ℤ) → p ≡ turned net (point (getD (now (words .entry)) i (pos 0)) (getD (now (words .entry)) (i + 1) (pos 0))) → now (numbers .exit) ≡ sets (now (numbers .entry)) i (p .x ∷ p .y ∷ [])) ⌝ }
+{
+    let j = i + 1;
+    let d = turns::aim_direction(net, words[i], words[j]);
+    set_point(numbers, i, d);
+}
+
+// All numbers of a shape go to their final places, each where its word stands; a polygon has no size, a box two and a direction, the others one.
+fn move_shape(words: &[i32], numbers: &mut [i64], letter: u8, end: usize, net: turns::Net) -> bool
+    requires { ⌜ ShapedAt (now words) letter end × (end ≤ length (now numbers)) ⌝ }
+    requires { ⌜ Near (2 ^ 61) net ⌝ }
+    ensures { λ r. ⌜ ((h : ShapedAt (now (words .entry)) letter end) → MovesShape net (h .shape) (now (numbers .entry)) r (now (numbers .exit))) ⌝ }
+{
+    if letter == b'P' {
+        return move_points(words, numbers, 2, end, net);
+    }
+    copy_number(words, numbers, 2);
+    if letter != b'B' {
+        return move_points(words, numbers, 3, end, net);
+    }
+    copy_number(words, numbers, 3);
+    let last = end - 2;
+    let far = move_points(words, numbers, 4, last, net);
+    aim_at(words, numbers, last, net);
+    far
 }
