@@ -5,3 +5,4 @@ pub mod Reading
 pub mod Steps
 pub mod Opened
 pub mod Moves
+pub mod Shapes

@@ -11,7 +11,15 @@ ghost use lib.Seq.{sets};
 ghost use Rattle.definition.specs.Words.{any};
 ghost use Rattle.definition.specs.Words.{Point, point};
 ghost use Rattle.turns.specs.Nets.{Near, turned};
+ghost use Rattle.turns.specs.Nets.{Carries};
+ghost use Rattle.definition.specs.Commands.{Turn};
+ghost use Rattle.definition.specs.Drawing.{Chain, drawShape};
+ghost use Rattle.pen.specs.Names.{nameOf};
+ghost use Rattle.drawing.specs.Painting.{Reached, Painted};
 ghost use Rattle.drawing.specs.Moves.{Pointed, Moves, ShapedAt, MovesShape};
+
+// 01, refusal 17: the most shapes that are drawn.
+const MOST_SHAPES: usize = 1_048_576;
 
 // The running counts of 01, carried along by value.
 pub struct Counts {
@@ -113,4 +121,38 @@ fn move_shape(words: &[i32], numbers: &mut [i64], letter: u8, end: usize, net: t
     let far = move_points(words, numbers, 4, last, net);
     aim_at(words, numbers, last, net);
     far
+}
+
+// One shape (refusals 16 and 17): an L line, if its layer is not the last one's, and its own line.
+fn draw_shape(
+    words: &[i32],
+    numbers: &mut [i64],
+    room: &mut [u8],
+    letter: u8,
+    end: usize,
+    net: turns::Net,
+    layer: u32,
+    place: usize,
+    counts: Counts,
+    before: Pen,
+) -> Drawn
+    requires { ⌜ ShapedAt (now words) letter end × (end ≤ length (now numbers)) ⌝ }
+    requires { ⌜ Near (2 ^ 61) net × Reached counts before ⌝ }
+    ensures { λ r. ⌜ ((h : ShapedAt (now (words .entry)) letter end) (chain : Chain) (ts : List (Turn ℤ)) → Carries ts net → Painted counts before (drawShape chain ts place (nameOf layer) (h .shape) ∷ []) (now (room .entry)) r (now (room .exit))) ⌝ }
+{
+    if move_shape(words, numbers, letter, end, net) {
+        return Drawn::Refused(16, place);
+    }
+    if MOST_SHAPES <= counts.shapes {
+        return Drawn::Refused(17, place);
+    }
+    let at = before.at;
+    let next = pen::put_layer_line(room, at, before.layer, layer);
+    let last = pen::put_line(room, next, letter, &numbers[2..end]);
+    let drawn = Counts {
+        calls: counts.calls,
+        shapes: counts.shapes + 1,
+        redefinitions: counts.redefinitions,
+    };
+    Drawn::Done(drawn, Pen { at: last, layer })
 }

@@ -81,6 +81,7 @@ pub fn put_end_of_line(room: &mut [u8], at: usize) -> usize
 pub fn put_line(room: &mut [u8], at: usize, letter: u8, numbers: &[i64]) -> usize
     requires { ⌜ (at ≤ 2 ^ 58) × (length (now numbers) ≤ 2 ^ 50) ⌝ }
     ensures { λ r. ⌜ Writes (now (room .entry)) (now (room .exit)) at r (line letter (spaced (now (numbers .entry)))) ⌝ }
+    ensures { λ r. ⌜ r ≤ at + 21 * length (now (numbers .entry)) + 3 ⌝ }
 {
     let first = put(room, at, letter);
     let next = put_numbers(room, first, numbers);

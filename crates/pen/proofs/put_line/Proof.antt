@@ -1,5 +1,6 @@
 -- `pen::put_line` meets its contract: the letter, the numbers and the line's end, one write after the other.
 -- Assumes nothing.
+use native.Mathlib.Omega.{arith}
 use Rattle.pen.proofs.Writing.{both}
 use borrow.Author.Needs.{needs}
 use Rattle.pen.proofs.put_line.Statement.{statement}
@@ -18,7 +19,7 @@ same-length : tie.Need-same-length
 same-length c = search needs
 
 returns : tie.Need-returns
-returns c = both (c .before .before .before .before .before .before .before .before .before .before .put .ensures) (both (c .before .before .before .before .before .before .put-numbers .ensures .0) (c .before .before .put-end-of-line .ensures))
+returns c = (both (c .before .before .before .before .before .before .before .before .before .before .put .ensures) (both (c .before .before .before .before .before .before .put-numbers .ensures .0) (c .before .before .put-end-of-line .ensures)), omega (arith, c .before .before .before .before .before .before .before .before .before .before .put .ensures .ends, c .before .before .before .before .before .before .put-numbers .ensures .1, c .before .before .put-end-of-line .ensures .ends))
 
 pub put-line-spec : {M : Type 1} → statement M
 put-line-spec =
