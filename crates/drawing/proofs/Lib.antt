@@ -6,3 +6,4 @@ pub mod Steps
 pub mod Opened
 pub mod Moves
 pub mod Shapes
+pub mod Calls
