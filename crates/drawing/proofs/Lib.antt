@@ -7,3 +7,5 @@ pub mod Opened
 pub mod Moves
 pub mod Shapes
 pub mod Calls
+pub mod Letters
+pub mod Bodies
