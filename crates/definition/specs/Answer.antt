@@ -1,6 +1,5 @@
 -- What the reader answers of a text and a room: the order of refusals, what is given back, and what is left in the room. The exported contract is
 -- `Promised`, at the end.
--- Assumes nothing.
 use mathlib.Core.Path.{_≡_}
 use mathlib.Core.Bool.{Bool, true, false, _&&_}
 use mathlib.Core.List.{List, [], _∷_, _++_}

@@ -1,6 +1,5 @@
 -- The commands of a text, each with its place, read off the roles that the grammar gives the text's characters. Each is read by looking ahead
 -- from its first letter, so no parser stands beside the grammar.
--- Assumes nothing.
 use mathlib.Core.Bool.{Bool, true, false, _||_}
 use mathlib.Core.List.{List, [], _∷_}
 use Prim.Native.Nat.{ℕ, _+_, _-_, _*_}

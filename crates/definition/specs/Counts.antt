@@ -1,5 +1,4 @@
 -- The counts of a drawing and how it ends: the story's events counted along, up to the first refusal.
--- Assumes nothing.
 use mathlib.Core.Bool.{Bool, true, false}
 use mathlib.Core.List.{List, [], _∷_}
 use Prim.Native.Nat.{ℕ, _+_}

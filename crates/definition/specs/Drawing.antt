@@ -1,6 +1,5 @@
 -- The drawing of 7.1.2.4 as a story: the list of all that happens, in order, refusals among it. It runs nowhere, so it may be as long as it likes;
 -- Counts reads it up to the first refusal, and everything that is given back is read off it.
--- Assumes nothing.
 use mathlib.Core.Bool.{Bool, true, false}
 use mathlib.Core.List.{List, [], _∷_, _++_, map}
 use mathlib.Core.Option.{Option, none, some}

@@ -1,5 +1,4 @@
--- The lines of the list program (01, "The list program").
--- Assumes nothing.
+-- The lines of the list program (01, "The list program"): read off the outcome, so that the program adds nothing of its own.
 use mathlib.Core.Bool.{Bool, true, false}
 use mathlib.Core.List.{List, [], _∷_, _++_, map, flatMap}
 use Prim.Native.Nat.{ℕ, _+_, _<_, _≤_}

@@ -1,6 +1,5 @@
 -- What stands while a command is read: whether a definition is open, its scale, and the layer. So scale and layer of a shape can be told from the
 -- text alone, and nothing is carried out of a called symbol.
--- Assumes nothing.
 use mathlib.Core.Bool.{Bool, true, false}
 use mathlib.Core.List.{List, [], _∷_, map}
 use Prim.Native.Nat.{ℕ, _*_, _/_, _%_}

@@ -1,6 +1,5 @@
 -- What the transformations of a call do to points, directions and shapes, exactly, over the whole numbers: the range is looked at by Drawing, at the
 -- final points.
--- Assumes nothing.
 use mathlib.Core.Bool.{Bool, true, false, not, _&&_}
 use mathlib.Core.List.{List, [], _∷_, map}
 use lib.IntN.{ℤ, pos, negsuc, negℤ, _+ℤ_}

@@ -1,6 +1,5 @@
 -- The notation of section 7.1.1: characters, expressions, and the texts that an expression stands for. It stands before the productions, which are
 -- written in it. Each character of an expression also has a role, by which commands and numbers are found later; a role shuts no text out.
--- Assumes nothing.
 use mathlib.Core.Path.{_≡_}
 use mathlib.Core.Bool.{Bool, true, false, not, _&&_}
 use mathlib.Core.List.{List, [], _∷_, _++_}

@@ -1,6 +1,5 @@
 -- The grammar of section 7.1.1, rule by rule, each as printed and under its printed name; docs/BELIEVE.md has the print beside it. A name has to
 -- stand above its use here, so the rules come in the opposite of the printed order. `one ρ c` is a character of class c in the role ρ.
--- Assumes nothing.
 use Rattle.grammar.specs.Notation.{Expression, one, _▹_, _∣_, many, option, commentText, Digit, Upper, Blank, User, '-', lpar, rpar, semicolon}
 use Rattle.grammar.specs.Notation.{'B', 'C', 'D', 'E', 'F', 'L', 'M', 'P', 'R', 'S', 'T', 'W', 'X', 'Y'}
 use Rattle.grammar.specs.Notation.{skip, head, second, turn, axis, sign, lead, later, name, stop}

@@ -1,5 +1,4 @@
 -- Which texts are CIF and which can still become CIF: what refusal 2 goes by, and all that the recogniser's contract cites.
--- Assumes nothing.
 use mathlib.Core.Path.{_≡_}
 use mathlib.Core.List.{List, [], _∷_, _++_}
 use Prim.Native.Nat.{ℕ, _≤_}
