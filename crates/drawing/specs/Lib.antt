@@ -2,3 +2,4 @@ pub mod Painting
 pub mod Voices
 pub mod Rows
 pub mod Moves
+pub mod Scenes

@@ -156,3 +156,22 @@ fn draw_shape(
     };
     Drawn::Done(drawn, Pen { at: last, layer })
 }
+
+// Whether the letter is a shape's.
+fn is_drawable(letter: u8) -> bool
+    ensures { λ r. ⌜ r ≡ any (λ x. eqb letter x) (66 ∷ 82 ∷ 87 ∷ 80 ∷ []) ⌝ }
+{
+    if letter == b'B' {
+        return true;
+    }
+    if letter == b'R' {
+        return true;
+    }
+    if letter == b'W' {
+        return true;
+    }
+    if letter == b'P' {
+        return true;
+    }
+    false
+}
