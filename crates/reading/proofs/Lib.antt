@@ -1,10 +1,9 @@
 -- What crates above cite. The account as the code goes along is the account: Meaning.runs-first. Two refusals that are allowed are one:
--- Unique.one-refusal. What holds of the commands of a text with no refusal of 3 to 9: Sound.clear-first.
+-- Unique.one-refusal. The account is the definition's: AllSay.all-say, Agree.fault-is; words are exact after no fault: Exact.all-exact.
 pub mod Scaling
 pub mod Checking
 pub mod Meaning
 pub mod Unique
-pub mod Sound
 pub mod Wording
 pub mod Texts
 pub mod Tokens
