@@ -1,4 +1,4 @@
-// The live definitions: at most 512, sorted by symbol number, in six columns that the caller lends. Sorted, so that a look-up takes ten comparisons
+// The live definitions: at most 512, sorted by symbol number, in six columns that the caller lends. Sorted, so that a look-up takes eleven comparisons
 // and that DD cuts the count, and in columns because a slice of structs would leave every walk to be proved by hand.
 ghost use mathlib.Core.Path.{_≡_};
 ghost use Prim.Native.Nat.{_+_, _<_, _≤_};
@@ -34,7 +34,7 @@ pub enum Entered {
 }
 
 // The place in the column where the number stands or would stand, by halves: `reach` is how far behind `at` it can be, and goes through 1023, 511,
-// .. 1, so that there are ten comparisons.
+// .. 1, so that seeking takes ten comparisons.
 fn seek(symbols: &[usize; MOST], count: usize, symbol: usize) -> usize
     requires { ⌜ Sorted (now symbols) count ⌝ }
     ensures { λ r. ⌜ Parted (now (symbols .entry)) count symbol r ⌝ }
