@@ -7,5 +7,16 @@ pub mod Opened
 pub mod Moves
 pub mod Shapes
 pub mod Calls
+pub mod CallWords
+pub mod Magnitudes
 pub mod Letters
 pub mod Bodies
+pub mod Skipping
+pub mod Defining
+pub mod Carried
+pub mod Scenes
+pub mod Underway
+pub mod Outer
+pub mod Redefinitions
+pub mod Onward
+pub mod Passing

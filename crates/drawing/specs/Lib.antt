@@ -3,3 +3,6 @@ pub mod Voices
 pub mod Rows
 pub mod Moves
 pub mod Scenes
+pub mod Calls
+pub mod Passed
+pub mod Outside

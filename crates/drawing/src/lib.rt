@@ -16,10 +16,39 @@ ghost use Rattle.definition.specs.Commands.{Turn};
 ghost use Rattle.definition.specs.Drawing.{Chain, drawShape};
 ghost use Rattle.pen.specs.Names.{nameOf};
 ghost use Rattle.drawing.specs.Painting.{Reached, Painted};
+ghost use mathlib.Core.List.{_++_};
+ghost use Prim.Native.Nat.{_-_};
+ghost use Rattle.definition.specs.Turns.{offAxes};
+ghost use Rattle.definition.specs.Drawing.{retained, drawBody, drawCall};
+ghost use Rattle.grammar.specs.Steps.{KindsLent, NextLent};
+ghost use Rattle.table.specs.Rows.{columns, rowsOf, Sorted};
+ghost use Rattle.drawing.specs.Voices.{mostValues};
+ghost use Rattle.drawing.specs.Rows.{Body};
+ghost use Rattle.drawing.specs.Scenes.{Scene};
+ghost use Rattle.drawing.specs.Calls.{CalledAt, ReadsCall};
+ghost use Rattle.pieces.specs.Pieces.{behind};
+ghost use mathlib.Core.Bool.{true};
 ghost use Rattle.drawing.specs.Moves.{Pointed, Moves, ShapedAt, MovesShape};
+ghost use Rattle.definition.specs.Words.{Placed};
+ghost use Rattle.definition.specs.Commands.{Command};
+ghost use Rattle.definition.specs.Standing.{Standing};
+ghost use Rattle.definition.specs.Table.{Table};
+ghost use Rattle.pieces.specs.Pieces.{tooLarge, stream, Fit};
+ghost use Rattle.reading.specs.Written.{written};
+ghost use Rattle.table.specs.Rows.{Sized};
+ghost use Rattle.drawing.specs.Voices.{Told};
+ghost use Rattle.drawing.specs.Rows.{Stands};
+ghost use Rattle.drawing.specs.Outside.{drawnBy, Speaks, Opens, Passes, Defines};
+ghost use Rattle.drawing.specs.Passed.{Passed, toDraw, noneYet, atStart};
 
 // 01, refusal 17: the most shapes that are drawn.
 const MOST_SHAPES: usize = 1_048_576;
+// 01, refusals 14 and 15: the deepest call, and the most calls.
+const DEEPEST: usize = 32;
+
+const MOST_CALLS: usize = 1_048_576;
+// A command has at most 2,049 numbers (01, refusal 9: 1,024 points, and a width), and two words in front.
+const MOST_WORDS: usize = 2051;
 
 // The running counts of 01, carried along by value.
 pub struct Counts {
@@ -157,6 +186,251 @@ fn draw_shape(
     Drawn::Done(drawn, Pen { at: last, layer })
 }
 
+// A symbol's number and a scale have no sign.
+fn magnitude(word: i32) -> usize
+    ensures { λ r. ⌜ r ≡ natAbs word ⌝ }
+{
+    let z = word as i64;
+    if z < 0 {
+        return (-z) as usize;
+    }
+    z as usize
+}
+
+// What a call's words say where this net transformation is in force: its symbol, whether an R of its list is off the axes, and what its list and
+// those of the open calls do together.
+struct Call {
+    symbol: usize,
+    askew: bool,
+    net: turns::Net,
+}
+
+fn read_call(words: &[i32], end: usize, outer: turns::Net) -> Call
+    requires { ⌜ CalledAt (now words) end × Near (32 * 2 ^ 36) outer ⌝ }
+    ensures { λ r. ⌜ ((h : CalledAt (now (words .entry)) end) → ReadsCall (h .symbol) (h .turns) outer r) ⌝ }
+{
+    let list = turns::list_net(words, 3, end);
+    let own = list.net;
+    let net = turns::compose(own, outer);
+    Call {
+        symbol: magnitude(words[2]),
+        askew: list.askew,
+        net,
+    }
+}
+
+// Where a body is read from: the state behind the semicolon of a DS is known.
+fn body_at(from: usize) -> pieces::Spot
+    ensures { λ r. ⌜ r ≡ behind true from ⌝ }
+{
+    pieces::Spot {
+        at: from,
+        state: grammar::tables::INSIDE_STATE,
+        depth: 0,
+    }
+}
+
+// One call (refusals 11 to 15): its body is drawn one level down, with its symbol open. `net` is what the call's list and those of the open calls do.
+fn draw_call<'a>(
+    text: &[u8],
+    kinds: &[u8; 256],
+    next: &[u16; grammar::tables::ENTRY_COUNT],
+    symbols: &'a [usize; table::MOST],
+    places: &'a [usize; table::MOST],
+    starts: &'a [usize; table::MOST],
+    ends: &'a [usize; table::MOST],
+    factors: &'a [usize; table::MOST],
+    divisors: &'a [usize; table::MOST],
+    count: usize,
+    words: &mut [i32],
+    numbers: &mut [i64],
+    drawing: &mut [usize],
+    room: &mut [u8],
+    net: turns::Net,
+    depth: usize,
+    askew: bool,
+    place: usize,
+    symbol: usize,
+    counts: Counts,
+    before: Pen,
+) -> Drawn
+    requires { ⌜ KindsLent (now kinds) × NextLent (now next) ⌝ }
+    requires { ⌜ Sorted (now symbols) count × Scene (now text) (rowsOf (columns (now symbols) (now places) (now starts) (now ends) (now factors) (now divisors)) count) (now drawing) (32 - depth) ⌝ }
+    requires { ⌜ (length (now text) ≤ 16777216) × (depth ≤ 32) × (length (now drawing) ≡ 32) ⌝ }
+    requires { ⌜ (mostValues + 2 ≤ length (now words)) × (mostValues + 2 ≤ length (now numbers)) ⌝ }
+    requires { ⌜ Near ((33 - depth) * 2 ^ 36) net × Reached counts before ⌝ }
+    ensures { λ r. ⌜ ((s : Scene (now (text .entry)) (rowsOf (columns (now (symbols .entry)) (now (places .entry)) (now (starts .entry)) (now (ends .entry)) (now (factors .entry)) (now (divisors .entry))) count) (now (drawing .entry)) (32 - depth)) (outer ts : List (Turn ℤ)) → askew ≡ offAxes ts → Carries (ts ++ outer) net → Painted counts before (drawCall depth (s .table) (s .chain) outer place symbol ts) (now (room .entry)) r (now (room .exit))) ⌝ }
+    ensures { λ r. ⌜ take (32 - depth) (now (drawing .exit)) ≡ take (32 - depth) (now (drawing .entry)) ⌝ }
+{
+    if askew {
+        return Drawn::Refused(11, place);
+    }
+    match table::find(
+        symbols,
+        places,
+        starts,
+        ends,
+        factors,
+        divisors,
+        count,
+        symbol,
+    ) {
+        table::Found::Nothing => {
+            return Drawn::Refused(12, place);
+        }
+        table::Found::Live(row) => {
+            let level = DEEPEST - depth;
+            if is_open(drawing, level, symbol) {
+                return Drawn::Refused(13, place);
+            }
+            if depth == 0 {
+                return Drawn::Refused(14, place);
+            }
+            if MOST_CALLS <= counts.calls {
+                return Drawn::Refused(15, place);
+            }
+            drawing[level] = symbol;
+            let more = Counts {
+                calls: counts.calls + 1,
+                shapes: counts.shapes,
+                redefinitions: counts.redefinitions,
+            };
+            draw_body(
+                text,
+                kinds,
+                next,
+                symbols,
+                places,
+                starts,
+                ends,
+                factors,
+                divisors,
+                count,
+                words,
+                numbers,
+                drawing,
+                room,
+                net,
+                depth - 1,
+                row.start,
+                row.a,
+                row.b,
+                more,
+                before,
+            )
+        }
+    }
+}
+
+// A body: its commands in written order, from the place behind its DS up to its DF. The layer that is set in it is its own.
+fn draw_body<'a>(
+    text: &[u8],
+    kinds: &[u8; 256],
+    next: &[u16; grammar::tables::ENTRY_COUNT],
+    symbols: &'a [usize; table::MOST],
+    places: &'a [usize; table::MOST],
+    starts: &'a [usize; table::MOST],
+    ends: &'a [usize; table::MOST],
+    factors: &'a [usize; table::MOST],
+    divisors: &'a [usize; table::MOST],
+    count: usize,
+    words: &mut [i32],
+    numbers: &mut [i64],
+    drawing: &mut [usize],
+    room: &mut [u8],
+    net: turns::Net,
+    depth: usize,
+    from: usize,
+    a: usize,
+    b: usize,
+    counts: Counts,
+    before: Pen,
+) -> Drawn
+    requires { ⌜ KindsLent (now kinds) × NextLent (now next) ⌝ }
+    requires { ⌜ Sorted (now symbols) count × Scene (now text) (rowsOf (columns (now symbols) (now places) (now starts) (now ends) (now factors) (now divisors)) count) (now drawing) (32 - depth) ⌝ }
+    requires { ⌜ (length (now text) ≤ 16777216) × (depth ≤ 32) × (length (now drawing) ≡ 32) ⌝ }
+    requires { ⌜ (mostValues + 2 ≤ length (now words)) × (mostValues + 2 ≤ length (now numbers)) ⌝ }
+    requires { ⌜ Near ((32 - depth) * 2 ^ 36) net × Reached counts before ⌝ }
+    requires { ⌜ Body (now text) from a b ⌝ }
+    ensures { λ r. ⌜ ((s : Scene (now (text .entry)) (rowsOf (columns (now (symbols .entry)) (now (places .entry)) (now (starts .entry)) (now (ends .entry)) (now (factors .entry)) (now (divisors .entry))) count) (now (drawing .entry)) (32 - depth)) (k : Body (now (text .entry)) from a b) (outer : List (Turn ℤ)) → Carries outer net → Painted counts before (drawBody (drawCall depth (s .table) (s .chain) outer) (s .chain) outer (retained (k .standing) (k .commands))) (now (room .entry)) r (now (room .exit))) ⌝ }
+    ensures { λ r. ⌜ take (32 - depth) (now (drawing .exit)) ≡ take (32 - depth) (now (drawing .entry)) ⌝ }
+{
+    let mut spot = body_at(from);
+    let mut layer: u32 = 0;
+    let mut done = counts;
+    let mut pen = before;
+    loop {
+        match reading::read_command(text, kinds, next, words, spot, a, b) {
+            reading::Read::Nothing => {
+                return Drawn::Done(done, pen);
+            }
+            reading::Read::Decoded(kind, place, end, to) => {
+                if kind == b'F' {
+                    return Drawn::Done(done, pen);
+                }
+                spot = to;
+                if kind == b'L' {
+                    layer = words[2] as u32;
+                } else if kind == b'C' {
+                    let call = read_call(words, end, net);
+                    match draw_call(
+                        text,
+                        kinds,
+                        next,
+                        symbols,
+                        places,
+                        starts,
+                        ends,
+                        factors,
+                        divisors,
+                        count,
+                        words,
+                        numbers,
+                        drawing,
+                        room,
+                        call.net,
+                        depth,
+                        call.askew,
+                        place,
+                        call.symbol,
+                        done,
+                        pen,
+                    ) {
+                        Drawn::Done(c, q) => {
+                            done = c;
+                            pen = q;
+                        }
+                        Drawn::Refused(no, p) => {
+                            return Drawn::Refused(no, p);
+                        }
+                    }
+                } else if is_drawable(kind) {
+                    match draw_shape(
+                        words,
+                        numbers,
+                        room,
+                        kind,
+                        end,
+                        net,
+                        layer,
+                        place,
+                        done,
+                        pen,
+                    ) {
+                        Drawn::Done(c, q) => {
+                            done = c;
+                            pen = q;
+                        }
+                        Drawn::Refused(no, p) => {
+                            return Drawn::Refused(no, p);
+                        }
+                    }
+                }
+            }
+        }
+    }
+}
+
 // Whether the letter is a shape's.
 fn is_drawable(letter: u8) -> bool
     ensures { λ r. ⌜ r ≡ any (λ x. eqb letter x) (66 ∷ 82 ∷ 87 ∷ 80 ∷ []) ⌝ }
@@ -174,4 +448,323 @@ fn is_drawable(letter: u8) -> bool
         return true;
     }
     false
+}
+
+// A body that was passed over: the place of its DF, and where the next command begins.
+struct Skipped {
+    place: usize,
+    to: pieces::Spot,
+}
+
+// What came of a definition: it was taken, and so many are live, with the counts and where the next command begins; or it is one too many.
+enum Defined {
+    Taken(usize, Counts, pieces::Spot),
+    Overfull,
+}
+
+fn size_at(words: &[i32], i: usize) -> usize
+    requires { ⌜ i < length (now words) ⌝ }
+    ensures { λ r. ⌜ r ≡ natAbs (getD (now (words .entry)) i (pos 0)) ⌝ }
+{
+    magnitude(words[i])
+}
+
+// Passes over the commands of a definition, up to its DF. Where the text ends before it, which no text of the grammar does, nothing is left behind.
+fn skip_body(
+    text: &[u8],
+    kinds: &[u8; 256],
+    next: &[u16; grammar::tables::ENTRY_COUNT],
+    words: &mut [i32],
+    from: pieces::Spot,
+    a: usize,
+    b: usize,
+) -> Skipped
+    requires { ⌜ KindsLent (now kinds) × NextLent (now next) ⌝ }
+    requires { ⌜ Fit (now text) from × (a ≤ tooLarge) × (1 ≤ b) × (mostValues + 2 ≤ length (now words)) ⌝ }
+    ensures { λ r. ⌜ ((σ : Standing) (cs : List (Placed Command)) → Told σ (written (stream (now (text .entry)) from)) cs → σ .inside ≡ true → σ .a ≡ a → σ .b ≡ b → Passes (now (text .entry)) σ cs (r .to)) ⌝ }
+    ensures { λ r. ⌜ Fit (now (text .entry)) (r .to) × (from .at ≤ r .to .at) ⌝ }
+{
+    let mut spot = from;
+    loop {
+        match reading::read_command(text, kinds, next, words, spot, a, b) {
+            reading::Read::Nothing => {
+                return Skipped {
+                    place: spot.at,
+                    to: spot,
+                };
+            }
+            reading::Read::Decoded(kind, place, _, to) => {
+                if kind == b'F' {
+                    return Skipped { place, to };
+                }
+                spot = to;
+            }
+        }
+    }
+}
+
+// One definition (refusal 10): its row is entered, under the place of its DS, and its body passed over.
+fn define<'a>(
+    text: &[u8],
+    kinds: &[u8; 256],
+    next: &[u16; grammar::tables::ENTRY_COUNT],
+    symbols: &'a mut [usize; table::MOST],
+    places: &'a mut [usize; table::MOST],
+    starts: &'a mut [usize; table::MOST],
+    ends: &'a mut [usize; table::MOST],
+    factors: &'a mut [usize; table::MOST],
+    divisors: &'a mut [usize; table::MOST],
+    count: usize,
+    words: &mut [i32],
+    place: usize,
+    from: pieces::Spot,
+    counts: Counts,
+) -> Defined
+    requires { ⌜ KindsLent (now kinds) × NextLent (now next) ⌝ }
+    requires { ⌜ Sorted (now symbols) count × Sized (columns (now symbols) (now places) (now starts) (now ends) (now factors) (now divisors)) ⌝ }
+    requires { ⌜ Fit (now text) from × Opens (now text) (now words) from × (mostValues + 2 ≤ length (now words)) ⌝ }
+    requires { ⌜ (length (now text) ≤ 16777216) × (counts .redefinitions ≤ length (now text)) ⌝ }
+    ensures { λ r. ⌜ ((h : Opens (now (text .entry)) (now (words .entry)) from) (table : Table) → Stands (now (text .entry)) (rowsOf (columns (now (symbols .entry)) (now (places .entry)) (now (starts .entry)) (now (ends .entry)) (now (factors .entry)) (now (divisors .entry))) count) table → Defines (now (text .entry)) (columns (now (symbols .exit)) (now (places .exit)) (now (starts .exit)) (now (ends .exit)) (now (factors .exit)) (now (divisors .exit))) (now (words .entry)) from place counts h table r) ⌝ }
+{
+    let symbol = size_at(words, 2);
+    let a = size_at(words, 3);
+    let b = size_at(words, 4);
+    let body = skip_body(text, kinds, next, words, from, a, b);
+    let behind = body.to;
+    let row = table::Row {
+        symbol,
+        place,
+        start: from.at,
+        end: body.place,
+        a,
+        b,
+    };
+    match table::enter(symbols, places, starts, ends, factors, divisors, count, row) {
+        table::Entered::Replaced => {
+            let more = Counts {
+                calls: counts.calls,
+                shapes: counts.shapes,
+                redefinitions: counts.redefinitions + 1,
+            };
+            Defined::Taken(count, more, behind)
+        }
+        table::Entered::Added => Defined::Taken(count + 1, counts, behind),
+        table::Entered::Full => Defined::Overfull,
+    }
+}
+
+// A command outside of definitions that draws: a call (01: an executable call has depth 1) or a shape. Any other draws nothing.
+fn draw_outer<'a>(
+    text: &[u8],
+    kinds: &[u8; 256],
+    next: &[u16; grammar::tables::ENTRY_COUNT],
+    symbols: &'a [usize; table::MOST],
+    places: &'a [usize; table::MOST],
+    starts: &'a [usize; table::MOST],
+    ends: &'a [usize; table::MOST],
+    factors: &'a [usize; table::MOST],
+    divisors: &'a [usize; table::MOST],
+    count: usize,
+    words: &mut [i32],
+    numbers: &mut [i64],
+    drawing: &mut [usize],
+    room: &mut [u8],
+    kind: u8,
+    place: usize,
+    end: usize,
+    layer: u32,
+    counts: Counts,
+    before: Pen,
+) -> Drawn
+    requires { ⌜ KindsLent (now kinds) × NextLent (now next) ⌝ }
+    requires { ⌜ Sorted (now symbols) count × ((table : Table) × Stands (now text) (rowsOf (columns (now symbols) (now places) (now starts) (now ends) (now factors) (now divisors)) count) table) ⌝ }
+    requires { ⌜ (length (now text) ≤ 16777216) × (length (now drawing) ≡ 32) ⌝ }
+    requires { ⌜ (mostValues + 2 ≤ length (now words)) × (mostValues + 2 ≤ length (now numbers)) ⌝ }
+    requires { ⌜ Speaks (now words) kind end × Reached counts before ⌝ }
+    ensures { λ r. ⌜ ((h : Speaks (now (words .entry)) kind end) (table : Table) → Stands (now (text .entry)) (rowsOf (columns (now (symbols .entry)) (now (places .entry)) (now (starts .entry)) (now (ends .entry)) (now (factors .entry)) (now (divisors .entry))) count) table → nameOf layer ≡ h .standing .layer-set → Painted counts before (drawnBy table (h .standing) place (h .command)) (now (room .entry)) r (now (room .exit))) ⌝ }
+{
+    let still = turns::still();
+    if kind == b'C' {
+        let call = read_call(words, end, still);
+        return draw_call(
+            text,
+            kinds,
+            next,
+            symbols,
+            places,
+            starts,
+            ends,
+            factors,
+            divisors,
+            count,
+            words,
+            numbers,
+            drawing,
+            room,
+            call.net,
+            DEEPEST,
+            call.askew,
+            place,
+            call.symbol,
+            counts,
+            before,
+        );
+    }
+    if is_drawable(kind) {
+        return draw_shape(
+            words,
+            numbers,
+            room,
+            kind,
+            end,
+            still,
+            layer,
+            place,
+            counts,
+            before,
+        );
+    }
+    Drawn::Done(counts, before)
+}
+
+// The commands of a text from its start on: layers, definitions and deletions change what stands, all else is drawn.
+fn draw_text<'a>(
+    text: &[u8],
+    kinds: &[u8; 256],
+    next: &[u16; grammar::tables::ENTRY_COUNT],
+    symbols: &'a mut [usize; table::MOST],
+    places: &'a mut [usize; table::MOST],
+    starts: &'a mut [usize; table::MOST],
+    ends: &'a mut [usize; table::MOST],
+    factors: &'a mut [usize; table::MOST],
+    divisors: &'a mut [usize; table::MOST],
+    words: &mut [i32],
+    numbers: &mut [i64],
+    drawing: &mut [usize],
+    room: &mut [u8],
+) -> Drawn
+    requires { ⌜ KindsLent (now kinds) × NextLent (now next) ⌝ }
+    requires { ⌜ Passed (now text) × Sized (columns (now symbols) (now places) (now starts) (now ends) (now factors) (now divisors)) ⌝ }
+    requires { ⌜ (mostValues + 2 ≤ length (now words)) × (mostValues + 2 ≤ length (now numbers)) × (length (now drawing) ≡ 32) ⌝ }
+    ensures { λ r. ⌜ ((p : Passed (now (text .entry))) → Painted noneYet atStart (toDraw p) (now (room .entry)) r (now (room .exit))) ⌝ }
+{
+    let mut spot = pieces::Spot {
+        at: 0,
+        state: 0,
+        depth: 0,
+    };
+    let mut layer: u32 = 0;
+    let mut count: usize = 0;
+    let mut done = Counts {
+        calls: 0,
+        shapes: 0,
+        redefinitions: 0,
+    };
+    let mut pen = Pen { at: 0, layer: 0 };
+    loop {
+        match reading::read_command(text, kinds, next, words, spot, 1, 1) {
+            reading::Read::Nothing => {
+                return Drawn::Done(done, pen);
+            }
+            reading::Read::Decoded(kind, place, end, to) => {
+                spot = to;
+                if kind == b'L' {
+                    layer = words[2] as u32;
+                } else if kind == b'D' {
+                    let symbol = size_at(words, 2);
+                    count = table::delete(symbols, count, symbol);
+                } else if kind == b'S' {
+                    match define(
+                        text,
+                        kinds,
+                        next,
+                        symbols,
+                        places,
+                        starts,
+                        ends,
+                        factors,
+                        divisors,
+                        count,
+                        words,
+                        place,
+                        to,
+                        done,
+                    ) {
+                        Defined::Taken(n, c, behind) => {
+                            spot = behind;
+                            count = n;
+                            done = c;
+                        }
+                        Defined::Overfull => {
+                            return Drawn::Refused(10, place);
+                        }
+                    }
+                } else {
+                    match draw_outer(
+                        text,
+                        kinds,
+                        next,
+                        symbols,
+                        places,
+                        starts,
+                        ends,
+                        factors,
+                        divisors,
+                        count,
+                        words,
+                        numbers,
+                        drawing,
+                        room,
+                        kind,
+                        place,
+                        end,
+                        layer,
+                        done,
+                        pen,
+                    ) {
+                        Drawn::Done(c, q) => {
+                            done = c;
+                            pen = q;
+                        }
+                        Drawn::Refused(no, p) => {
+                            return Drawn::Refused(no, p);
+                        }
+                    }
+                }
+            }
+        }
+    }
+}
+
+// All that a text draws, counted, and its lines in the room up to the first refusal. Lines past the room's end are counted and dropped.
+pub fn draw(text: &[u8], room: &mut [u8]) -> Drawn
+    requires { ⌜ Passed (now text) ⌝ }
+    ensures { λ r. ⌜ ((p : Passed (now (text .entry))) → Painted noneYet atStart (toDraw p) (now (room .entry)) r (now (room .exit))) ⌝ }
+{
+    let kinds = grammar::tables::KINDS;
+    let next = grammar::tables::NEXT;
+    let mut symbols = [0usize; table::MOST];
+    let mut places = [0usize; table::MOST];
+    let mut starts = [0usize; table::MOST];
+    let mut ends = [0usize; table::MOST];
+    let mut factors = [0usize; table::MOST];
+    let mut divisors = [0usize; table::MOST];
+    let mut words = [0i32; MOST_WORDS];
+    let mut numbers = [0i64; MOST_WORDS];
+    let mut drawing = [0usize; DEEPEST];
+    draw_text(
+        text,
+        &kinds,
+        &next,
+        &mut symbols,
+        &mut places,
+        &mut starts,
+        &mut ends,
+        &mut factors,
+        &mut divisors,
+        &mut words,
+        &mut numbers,
+        &mut drawing,
+        room,
+    )
 }

@@ -23,7 +23,7 @@ row-is : (s p f e a b : ℕ) (r : Row) → s ≡ r .symbol → p ≡ r .place �
     → _≡_ {A = Row} (record { symbol = s; place = p; start = f; end = e; a = a; b = b }) r
 row-is s p f e a b r h₁ h₂ h₃ h₄ h₅ h₆ = rw (h₁, h₂, h₃, h₄, h₅, h₆)
 
-rows-length : (c : Columns) (n j : ℕ) → length (rowsFrom c j n) ≡ n
+pub rows-length : (c : Columns) (n j : ℕ) → length (rowsFrom c j n) ≡ n
 unfolding rowsFrom
 rows-length c zero j = refl
 rows-length c (suc n) j = ap suc (rows-length c n (j + 1))

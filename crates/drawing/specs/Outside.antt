@@ -1,0 +1,96 @@
+-- The pass over a text, outside its definitions: a command that draws, and a definition that is entered and passed over. A running account, not to be
+-- believed: what is drawn is said in crates/definition's events, and proofs/Onward.antt joins it to the story of the whole text.
+-- Assumes nothing.
+use mathlib.Core.Path.{_≡_}
+use mathlib.Core.Bool.{true}
+use mathlib.Core.List.{List, [], _∷_, _++_, map}
+use Prim.Native.Nat.{ℕ, _+_, _≤_}
+use lib.IntN.{ℤ, natAbs}
+use lib.ListN.{length, drop}
+use Rattle.definition.specs.Words.{Placed}
+use Rattle.definition.specs.Commands.{Number, Command, draw, layer, call, start, finish, delete, nothing}
+use Rattle.definition.specs.Standing.{Standing, outside, after, scaledShape, scaledTurn}
+use Rattle.definition.specs.Table.{Definition, Table, enter}
+use Rattle.definition.specs.Drawing.{retained, define, deeds, Event, drawShape, drawCall, happens, story}
+use Rattle.table.specs.Rows.{Columns, rowsOf, Sorted, Sized}
+use Rattle.pieces.specs.Pieces.{stream, behind, tooLarge, Fit}
+use Rattle.pieces.specs.declared.Spot.{Spot}
+use Rattle.reading.specs.Written.{Written, written}
+use Rattle.drawing.specs.declared.Counts.{Counts}
+use Rattle.drawing.specs.declared.Pen.{Pen}
+use Rattle.drawing.specs.declared.Drawn.the-variants.{Done, Refused}
+use Rattle.drawing.specs.declared.Defined.{Defined}
+use Rattle.drawing.specs.declared.Defined.the-variants.{Taken, Overfull}
+use Rattle.drawing.specs.Painting.{Reached, Painted}
+use Rattle.drawing.specs.Voices.{mostValues, Voice, Told}
+use Rattle.drawing.specs.Rows.{Stands}
+
+-- ---- a command that draws
+
+-- what a command outside of definitions draws: shapes and calls do, the others not
+unfoldable pub drawnBy : Table → Standing → ℕ → Command → List Event
+drawnBy t σ p (draw k) = drawShape [] [] p (σ .layer-set) (scaledShape σ k) ∷ []
+drawnBy t σ p (call n ts) = drawCall 32 t [] [] p (natAbs (n .what)) (map (scaledTurn σ) ts)
+drawnBy t σ p (layer l) = []
+drawnBy t σ p (start n a b) = []
+drawnBy t σ p finish = []
+drawnBy t σ p (delete n) = []
+drawnBy t σ p nothing = []
+
+-- the words behind the first two, up to this place, speak of a command of this kind
+pub record Speaks (words : List ℤ) (kind end : ℕ) : Type 0 where
+  pub standing : Standing
+  pub account : Written
+  pub command : Command
+  pub values : List ℤ
+  pub voice : Voice standing account kind values command
+  pub rest : List ℤ
+  pub are : drop 2 words ≡ values ++ rest
+  pub ends : end ≡ 2 + length values
+  pub few : length values ≤ mostValues
+
+-- ---- a definition
+
+-- the words behind the first two are a DS's; behind it, its body and what follows are told
+pub record Opens (t : List ℕ) (words : List ℤ) (to : Spot) : Type 0 where
+  pub before : Standing
+  pub symbol : Number
+  pub a : Number
+  pub b : Number
+  pub rest : List ℤ
+  pub are : drop 2 words ≡ symbol .what ∷ a .what ∷ b .what ∷ rest
+  pub commands : List (Placed Command)
+  pub told : Told (after (start symbol a b) before) (written (stream t to)) commands
+  pub known : to ≡ behind true (to .at)
+  pub most-a : natAbs (a .what) ≤ tooLarge
+  pub some-b : 1 ≤ natAbs (b .what)
+
+abbrev pub behindStart : {t : List ℕ} {words : List ℤ} {to : Spot} → Opens t words to → Standing
+behindStart h = after (start (h .symbol) (h .a) (h .b)) (h .before)
+
+abbrev pub definitionAt : {t : List ℕ} {words : List ℤ} {to : Spot} → Opens t words to → ℕ → Definition
+definitionAt h p = record { symbol = natAbs (h .symbol .what); place = p; body = retained (behindStart h) (h .commands) }
+
+-- commands of a definition are passed over: behind its DF, the rest of the text is left to happen, whatever stands in the table
+pub record Passes (t : List ℕ) (σ : Standing) (cs : List (Placed Command)) (to : Spot) : Type 0 where
+  pub rest : List (Placed Command)
+  pub told : Told (outside (σ .layer-outside)) (written (stream t to)) rest
+  pub left : (table : Table) → story table (deeds σ cs) ≡ story table (deeds (outside (σ .layer-outside)) rest)
+
+-- a definition was taken: the rows are those of the table that it is entered in, and the next command is the first behind its DF
+pub record Takes (t : List ℕ) (new : Columns) (words : List ℤ) (from : Spot) (place : ℕ) (counts : Counts) (h : Opens t words from) (table : Table)
+    (count : ℕ) (after-it : Counts) (to : Spot) : Type 0 where
+  pub sized : Sized new
+  pub sorted : Sorted (new .symbols) count
+  pub stands : Stands t (rowsOf new count) (enter (definitionAt h place) table)
+  pub happened : (pen : Pen) (room : List ℕ) → Reached counts pen → Painted counts pen (happens table (define (definitionAt h place))) room (Done after-it pen) room
+  pub redefined : after-it .redefinitions ≤ counts .redefinitions + 1
+  pub passes : Passes t (behindStart h) (h .commands) to
+  pub fit : Fit t to
+  pub ahead : from .at ≤ to .at
+
+-- or it is the 513th (refusal 10)
+unfoldable pub Defines : (t : List ℕ) (new : Columns) (words : List ℤ) (from : Spot) (place : ℕ) (counts : Counts) → Opens t words from → Table → Defined → Type 0
+Defines t new words from place counts h table (Taken count after-it to) = Takes t new words from place counts h table count after-it to
+Defines t new words from place counts h table Overfull =
+    (pen : Pen) (room : List ℕ) → Painted counts pen (happens table (define (definitionAt h place))) room (Refused 10 place) room

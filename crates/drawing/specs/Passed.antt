@@ -1,0 +1,32 @@
+-- What a whole text is to draw: the story of its commands, from nothing drawn and nothing written. Not to be believed: only names for what
+-- crates/definition says.
+-- Assumes nothing.
+use mathlib.Core.Path.{_≡_}
+use mathlib.Core.List.{List}
+use mathlib.Core.Option.{none}
+use Prim.Native.Nat.{ℕ, _≤_}
+use lib.ListN.{length}
+use Rattle.grammar.specs.Notation.{Letter}
+use Rattle.grammar.specs.Viable.{Marked}
+use Rattle.definition.specs.Commands.{commands}
+use Rattle.definition.specs.Faults.{firstFault}
+use Rattle.definition.specs.Drawing.{Event}
+use Rattle.definition.specs.Answer.{drawingOf}
+use Rattle.drawing.specs.declared.Counts.{Counts}
+use Rattle.drawing.specs.declared.Pen.{Pen}
+
+-- a text that refusals 1 to 9 let pass
+pub record Passed (t : List ℕ) : Type 0 where
+  pub letters : List Letter
+  pub marked : Marked t letters
+  pub short : length t ≤ 16777216
+  pub clear : firstFault (commands 0 letters) ≡ none
+
+abbrev pub toDraw : {t : List ℕ} → Passed t → List Event
+toDraw p = drawingOf (commands 0 (p .letters))
+
+abbrev pub noneYet : Counts
+noneYet = record { calls = 0; shapes = 0; redefinitions = 0 }
+
+abbrev pub atStart : Pen
+atStart = record { at = 0; layer = 0 }
