@@ -1,0 +1,2 @@
+-- What a reader's promise means in the user's words: Demands. How the code keeps it: Promises.
+pub mod Promises

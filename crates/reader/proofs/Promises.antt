@@ -1,0 +1,152 @@
+-- From what reading and drawing promise to what the reader promises: one law for each way through the code, in the order of refusals.
+-- Assumes nothing.
+use mathlib.Core.Path.{_≡_, refl, sym, ap, _∙_, subst}
+use mathlib.Core.List.{List, [], _∷_}
+use mathlib.Core.Option.{Option, none, some}
+use Prim.Native.Nat.{ℕ, _+_, _≤_, _<_, _^_}
+use native.Mathlib.Omega.{arith}
+use lib.ListN.{length, length-append}
+use lib.Seq.{sets}
+use Rattle.grammar.specs.Viable.{Judged}
+use Rattle.grammar.specs.declared.Verdict.{Verdict}
+use Rattle.grammar.specs.declared.Verdict.the-variants.{InGrammar, StuckAt}
+use Rattle.definition.specs.declared.Answer.{Answer}
+use Rattle.definition.specs.Commands.{commands}
+use Rattle.definition.specs.Faults.{Refusal, firstFault}
+use Rattle.definition.specs.Drawing.{Chain, Event}
+use Rattle.definition.specs.Counts.{counts, shapesOf}
+use Rattle.definition.specs.Flat.{lines, flat}
+use Rattle.definition.specs.Answer.{Outcome, accepted, rejected, flatFile, answer, given-back, drawn, outcomeOf, Answers, too-long, not-cif, read, Promised}
+use Rattle.definition.proofs.FaultRules.{no-first-fault}
+use Rattle.definition.proofs.Outcomes
+use Rattle.definition.proofs.Outcomes.{flatLength, TooLong, by-drawing, by-flat-file, Accepting, refusal, acceptance}
+use Rattle.definition.proofs.Right.{one-answer}
+use Rattle.reading.specs.Refusal.{faultSaid, byVerdict, Refuses}
+use Rattle.reading.specs.declared.Fault.{Fault}
+use Rattle.reading.specs.declared.Fault.the-variants.{Clear, Refused}
+use Rattle.pen.specs.Names.{nameOf}
+use Rattle.pen.specs.Writes.{Writes}
+use Rattle.pen.proofs.Names.{no-name}
+use Rattle.pen.proofs.Writing.{both, written, begins}
+use Rattle.drawing.specs.declared.Counts.{Counts}
+use Rattle.drawing.specs.declared.Pen.{Pen}
+use Rattle.drawing.specs.declared.Drawn.{Drawn}
+use Rattle.drawing.specs.declared.Drawn.the-variants as drawing
+use Rattle.drawing.specs.Painting.{tally, bytesOf, Goes, Answered, Painted}
+use Rattle.drawing.specs.Passed.{Passed, toDraw, noneYet, atStart}
+use Rattle.drawing.proofs.Painting.{until-all}
+use Rattle.reader.specs.Host.{answerWords, Told}
+
+-- a refusal leaves the room as it was
+refusing : {t room : List ℕ} {r : Answer} {n p : ℕ} (chain : Chain) → Answers t (length room) (rejected n p chain) → r ≡ answer n p 0 (counts 0 0 0)
+    → Promised t room r room
+unfolding given-back flatFile
+refusing {n = n} {p} chain a e = record { outcome = rejected n p chain; answers = a; given = e; kept = refl }
+
+-- ---- 1, and 2 to 9
+
+pub too-long-told : {t room : List ℕ} {r : Answer} → 16777216 < length t → r ≡ answer 1 0 0 (counts 0 0 0) → Promised t room r room
+too-long-told h e = refusing [] (too-long h) e
+
+never-clear : {n p : ℕ} → Clear ≡ Refused n p → ⊥
+never-clear e = let z : _≡_ {A = ℕ} 0 1 = cc in omega arith
+
+-- how a text with this fault comes out; one without is not asked
+abbrev outcomeBy : Fault → Outcome
+outcomeBy Clear = rejected 0 0 []
+outcomeBy (Refused n p) = rejected n p []
+
+fault-answers : {t : List ℕ} {room n p : ℕ} → length t ≤ 16777216 → (v : Verdict) → Judged t v → byVerdict t v (Refused n p) → Answers t room (rejected n p [])
+fault-answers {t} {room} {n} {p} h InGrammar g e = go (firstFault (commands 0 (g .0))) refl (e (g .0) (g .1))
+  where
+    go : (f : Option Refusal) → firstFault (commands 0 (g .0)) ≡ f → Refused n p ≡ faultSaid f → Answers t room (rejected n p [])
+    go none q x = absurd (never-clear (sym x))
+    go (some r) q x = unfold outcomeOf drawn in
+        subst (Answers t room) (ap (λ (f : Option Refusal). drawn f (commands 0 (g .0)) room) q ∙ ap outcomeBy (sym x)) (read {m = g .0} h (g .1))
+fault-answers {t} {room} h (StuckAt i) g e = subst (Answers t room) (ap outcomeBy (sym e)) (not-cif h (g .0) (g .1))
+
+pub fault-told : {t room : List ℕ} {r : Answer} {d : Fault} {n p : ℕ} → length t ≤ 16777216 → Refuses t d → d ≡ Refused n p → r ≡ answer n p 0 (counts 0 0 0)
+    → Promised t room r room
+fault-told {t} h f is e = refusing [] (fault-answers h (f .verdict) (f .judged) (subst (byVerdict t (f .verdict)) is (f .is))) e
+
+clear-passes : {t : List ℕ} → length t ≤ 16777216 → (v : Verdict) → Judged t v → byVerdict t v Clear → Passed t
+clear-passes {t} h InGrammar g e = go (firstFault (commands 0 (g .0))) refl (e (g .0) (g .1))
+  where
+    go : (f : Option Refusal) → firstFault (commands 0 (g .0)) ≡ f → Clear ≡ faultSaid f → Passed t
+    go none q x = record { letters = g .0; marked = g .1; short = h; clear = q }
+    go (some r) q x = absurd (never-clear x)
+clear-passes h (StuckAt i) g e = absurd (never-clear e)
+
+pub passes : {t : List ℕ} {d : Fault} → length t ≤ 16777216 → Refuses t d → d ≡ Clear → Passed t
+passes {t} h f is = clear-passes h (f .verdict) (f .judged) (subst (byVerdict t (f .verdict)) is (f .is))
+
+-- ---- 10 to 17, 18, and the flat file
+
+module _ {t : List ℕ} (p : Passed t) where
+  let-pass : Outcomes.Passed t (p .letters)
+  let-pass = record { within = p .short; marked = p .marked; unbroken = no-first-fault (p .marked) .0 (p .clear) }
+
+  pub stopped-told : {scrap scrap′ room : List ℕ} {r : Answer} {d : Drawn} {n q : ℕ} → Painted noneYet atStart (toDraw p) scrap d scrap′ → d ≡ drawing.Refused n q
+      → r ≡ answer n q 0 (counts 0 0 0) → Promised t room r room
+  unfolding Answered
+  stopped-told x is e = let y = subst (Answered noneYet atStart (toDraw p)) is (x .answer) in refusing (y .0) (refusal .1 (by-drawing let-pass (y .1))) e
+
+  -- the drawing finished on some room, with these counts and the pen there
+  module _ {scrap scrap′ : List ℕ} {d : Drawn} (x : Painted noneYet atStart (toDraw p) scrap d scrap′) {c : Counts} {pen : Pen} (is : d ≡ drawing.Done c pen) where
+    goes : Goes noneYet atStart (toDraw p) c pen
+    unfolding Answered
+    goes = subst (Answered noneYet atStart (toDraw p)) is (x .answer)
+
+    pub far-below : pen .at ≤ 2 ^ 60
+    far-below = omega (arith, goes .reached .place-most, goes .reached .shapes-most)
+
+    -- no layer stands before the first shape
+    first-lines : lines (nameOf 0) (shapesOf (toDraw p)) ≡ lines [] (shapesOf (toDraw p))
+    first-lines = ap (λ (l : List ℕ). lines l (shapesOf (toDraw p))) (no-name 0 refl)
+
+    pub file-length : flatLength (p .letters) ≡ pen .at + 2
+    unfolding flat
+    file-length = omega (arith, goes .next, ap length first-lines, length-append (lines [] (shapesOf (toDraw p))) (69 ∷ 10 ∷ []))
+
+    pub over-told : {room : List ℕ} {r : Answer} → TooLong (pen .at + 2) (length room) → r ≡ answer 18 0 0 (counts 0 0 0) → Promised t room r room
+    over-told {room} h e =
+        refusing [] (refusal .1 (by-flat-file let-pass (goes .ends) (subst (λ (n : ℕ). TooLong n (length room)) (sym file-length) h))) e
+
+    accepting : {room : ℕ} → pen .at + 2 ≤ room → pen .at + 2 ≤ 16777216 → Accepting t room (tally c) (toDraw p)
+    accepting h k = record {
+      roles = p .letters;
+      passed = let-pass;
+      is-drawing = refl;
+      finishes = goes .ends;
+      room-fits = omega (arith, h, file-length);
+      limit-fits = omega (arith, k, file-length);
+    }
+
+    -- all is before the end, so the lines in the room are those of all shapes
+    all-lines : bytesOf noneYet atStart (toDraw p) ≡ lines [] (shapesOf (toDraw p))
+    all-lines =
+        ap (λ (es : List Event). lines (nameOf 0) (shapesOf es)) (until-all (counts 0 0 0) (toDraw p) (tally c) (goes .ends)) ∙ first-lines
+
+    file-in : {room left : List ℕ} → left ≡ sets (sets room 0 (bytesOf noneYet atStart (toDraw p))) (pen .at) (69 ∷ 10 ∷ [])
+        → Writes room left 0 (pen .at + 2) (flat (shapesOf (toDraw p)))
+    unfolding flat
+    file-in {room} {left} e =
+        both {a = lines [] (shapesOf (toDraw p))} (written (ap (sets room 0) all-lines) (goes .next ∙ ap (λ (l : List ℕ). 0 + length l) first-lines)) (written {bytes = 69 ∷ 10 ∷ []} e refl)
+
+    pub written-told : {room left : List ℕ} {r : Answer} → pen .at + 2 ≤ length room → pen .at + 2 ≤ 16777216
+        → left ≡ sets (sets room 0 (bytesOf noneYet atStart (toDraw p))) (pen .at) (69 ∷ 10 ∷ []) → r ≡ answer 0 0 (pen .at + 2) (tally c) → Promised t room r left
+    unfolding given-back flatFile
+    written-told h k e g = record {
+      outcome = accepted (tally c) (toDraw p);
+      answers = acceptance .1 (accepting h k);
+      given = g ∙ ap (λ (n : ℕ). answer 0 0 n (tally c)) (sym file-length);
+      kept = begins (file-in e) (omega (arith, h, file-length));
+    }
+
+-- ---- hosts
+
+-- the words that a host is told, and the room, are settled
+pub told-once : {t room words words′ left left′ : List ℕ} → Told t room words left → Told t room words′ left′ → (words ≡ words′) × (left ≡ left′)
+told-once a b =
+    let one = one-answer (a .promised) (b .promised) in
+    (a .said ∙ ap (λ (r : Answer). answerWords r) (one .0) ∙ sym (b .said), one .1)
