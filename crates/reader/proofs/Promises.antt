@@ -3,7 +3,7 @@
 use mathlib.Core.Path.{_≡_, refl, sym, ap, _∙_, subst}
 use mathlib.Core.List.{List, [], _∷_}
 use mathlib.Core.Option.{Option, none, some}
-use Prim.Native.Nat.{ℕ, _+_, _≤_, _<_, _^_}
+use Prim.Native.Nat.{ℕ, _+_, _≤_, _^_}
 use native.Mathlib.Omega.{arith}
 use lib.ListN.{length, length-append}
 use lib.Seq.{sets}
@@ -21,7 +21,7 @@ use Rattle.definition.proofs.FaultRules.{no-first-fault}
 use Rattle.definition.proofs.Outcomes
 use Rattle.definition.proofs.Outcomes.{flatLength, TooLong, by-drawing, by-flat-file, Accepting, refusal, acceptance}
 use Rattle.definition.proofs.Right.{one-answer}
-use Rattle.reading.specs.Refusal.{faultSaid, byVerdict, Refuses}
+use Rattle.reading.specs.Refusal.{faultSaid, byVerdict}
 use Rattle.reading.specs.declared.Fault.{Fault}
 use Rattle.reading.specs.declared.Fault.the-variants.{Clear, Refused}
 use Rattle.pen.specs.Names.{nameOf}
@@ -36,6 +36,7 @@ use Rattle.drawing.specs.Painting.{tally, bytesOf, Goes, Answered, Painted}
 use Rattle.drawing.specs.Passed.{Passed, toDraw, noneYet, atStart}
 use Rattle.drawing.proofs.Painting.{until-all}
 use Rattle.reader.specs.Host.{answerWords, Told}
+use Rattle.reader.specs.Screened.{Screened, over, within}
 
 -- a refusal leaves the room as it was
 refusing : {t room : List ℕ} {r : Answer} {n p : ℕ} (chain : Chain) → Answers t (length room) (rejected n p chain) → r ≡ answer n p 0 (counts 0 0 0)
@@ -43,10 +44,7 @@ refusing : {t room : List ℕ} {r : Answer} {n p : ℕ} (chain : Chain) → Answ
 unfolding given-back flatFile
 refusing {n = n} {p} chain a e = record { outcome = rejected n p chain; answers = a; given = e; kept = refl }
 
--- ---- 1, and 2 to 9
-
-pub too-long-told : {t room : List ℕ} {r : Answer} → 16777216 < length t → r ≡ answer 1 0 0 (counts 0 0 0) → Promised t room r room
-too-long-told h e = refusing [] (too-long h) e
+-- ---- 1 to 9
 
 never-clear : {n p : ℕ} → Clear ≡ Refused n p → ⊥
 never-clear e = let z : _≡_ {A = ℕ} 0 1 = cc in omega arith
@@ -56,18 +54,21 @@ abbrev outcomeBy : Fault → Outcome
 outcomeBy Clear = rejected 0 0 []
 outcomeBy (Refused n p) = rejected n p []
 
-fault-answers : {t : List ℕ} {room n p : ℕ} → length t ≤ 16777216 → (v : Verdict) → Judged t v → byVerdict t v (Refused n p) → Answers t room (rejected n p [])
-fault-answers {t} {room} {n} {p} h InGrammar g e = go (firstFault (commands 0 (g .0))) refl (e (g .0) (g .1))
+judged-answers : {t : List ℕ} {room n p : ℕ} → length t ≤ 16777216 → (v : Verdict) → Judged t v → byVerdict t v (Refused n p) → Answers t room (rejected n p [])
+judged-answers {t} {room} {n} {p} h InGrammar g e = go (firstFault (commands 0 (g .0))) refl (e (g .0) (g .1))
   where
     go : (f : Option Refusal) → firstFault (commands 0 (g .0)) ≡ f → Refused n p ≡ faultSaid f → Answers t room (rejected n p [])
     go none q x = absurd (never-clear (sym x))
     go (some r) q x = unfold outcomeOf drawn in
         subst (Answers t room) (ap (λ (f : Option Refusal). drawn f (commands 0 (g .0)) room) q ∙ ap outcomeBy (sym x)) (read {m = g .0} h (g .1))
-fault-answers {t} {room} h (StuckAt i) g e = subst (Answers t room) (ap outcomeBy (sym e)) (not-cif h (g .0) (g .1))
+judged-answers {t} {room} h (StuckAt i) g e = subst (Answers t room) (ap outcomeBy (sym e)) (not-cif h (g .0) (g .1))
 
-pub fault-told : {t room : List ℕ} {r : Answer} {d : Fault} {n p : ℕ} → length t ≤ 16777216 → Refuses t d → d ≡ Refused n p → r ≡ answer n p 0 (counts 0 0 0)
-    → Promised t room r room
-fault-told {t} h f is e = refusing [] (fault-answers h (f .verdict) (f .judged) (subst (byVerdict t (f .verdict)) is (f .is))) e
+fault-answers : {t : List ℕ} {room n p : ℕ} {d : Fault} → Screened t d → d ≡ Refused n p → Answers t room (rejected n p [])
+fault-answers {t} {room} (over h) is = subst (Answers t room) (ap outcomeBy is) (too-long h)
+fault-answers {t} (within h f) is = judged-answers h (f .verdict) (f .judged) (subst (byVerdict t (f .verdict)) is (f .is))
+
+pub fault-told : {t room : List ℕ} {r : Answer} {d : Fault} {n p : ℕ} → Screened t d → d ≡ Refused n p → r ≡ answer n p 0 (counts 0 0 0) → Promised t room r room
+fault-told s is e = refusing [] (fault-answers s is) e
 
 clear-passes : {t : List ℕ} → length t ≤ 16777216 → (v : Verdict) → Judged t v → byVerdict t v Clear → Passed t
 clear-passes {t} h InGrammar g e = go (firstFault (commands 0 (g .0))) refl (e (g .0) (g .1))
@@ -77,8 +78,9 @@ clear-passes {t} h InGrammar g e = go (firstFault (commands 0 (g .0))) refl (e (
     go (some r) q x = absurd (never-clear x)
 clear-passes h (StuckAt i) g e = absurd (never-clear e)
 
-pub passes : {t : List ℕ} {d : Fault} → length t ≤ 16777216 → Refuses t d → d ≡ Clear → Passed t
-passes {t} h f is = clear-passes h (f .verdict) (f .judged) (subst (byVerdict t (f .verdict)) is (f .is))
+pub passes : {t : List ℕ} {d : Fault} → Screened t d → d ≡ Clear → Passed t
+passes (over h) is = absurd (never-clear (sym is))
+passes {t} (within h f) is = clear-passes h (f .verdict) (f .judged) (subst (byVerdict t (f .verdict)) is (f .is))
 
 -- ---- 10 to 17, 18, and the flat file
 

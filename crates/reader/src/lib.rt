@@ -12,6 +12,7 @@ ghost use Rattle.definition.specs.Answer.{answer, Promised};
 ghost use Rattle.drawing.specs.Painting.{bytesOf};
 ghost use Rattle.drawing.specs.Passed.{Passed, toDraw, noneYet, atStart};
 ghost use Rattle.reader.specs.Host.{Told};
+ghost use Rattle.reader.specs.Screened.{Screened};
 
 // 01, refusals 1 and 18: the longest text, and the longest flat file.
 const MOST_BYTES: usize = 16_777_216;
@@ -40,14 +41,13 @@ fn write_file(text: &[u8], room: &mut [u8], end: usize)
     pen::put_end(room, end);
 }
 
-// A text that refusals 1 to 9 let pass. It is drawn twice, since no byte of the room may change before all is known: onto nothing, which tells how the
-// drawing ends and how long the flat file is, and then onto the room.
-fn flatten_passed(text: &[u8], room: &mut [u8]) -> Answer
+// A text that refusals 1 to 9 let pass. It is drawn twice, since no byte of the room may change before all is known: onto `scrap`, which tells how the
+// drawing ends and how long the flat file is, whatever its length, and then onto the room.
+fn flatten_passed(text: &[u8], scrap: &mut [u8], room: &mut [u8]) -> Answer
     requires { ⌜ Passed (now text) ⌝ }
     ensures { λ r. ⌜ Promised (now (text .entry)) (now (room .entry)) r (now (room .exit)) ⌝ }
 {
-    let mut nothing: [u8; 0] = [];
-    match drawing::draw(text, &mut nothing) {
+    match drawing::draw(text, scrap) {
         Drawn::Refused(number, place) => refused(number, place),
         Drawn::Done(counts, last) => {
             let end = last.at;
@@ -71,17 +71,27 @@ fn flatten_passed(text: &[u8], room: &mut [u8]) -> Answer
     }
 }
 
+// The first of refusals 1 to 9.
+fn first_fault(text: &[u8]) -> Fault
+    ensures { λ r. ⌜ Screened (now (text .entry)) r ⌝ }
+{
+    if MOST_BYTES < text.len() {
+        return Fault::Refused(1, 0);
+    }
+    reading::refusal(text)
+}
+
 // Two outcomes that this contract allows are equal, the room's bytes included: `one-answer` of definition's proofs/Right.antt. What it means in the user's
 // words stands in proofs/Demands.antt.
 pub fn flatten(text: &[u8], room: &mut [u8]) -> Answer
     ensures { λ r. ⌜ Promised (now (text .entry)) (now (room .entry)) r (now (room .exit)) ⌝ }
 {
-    if MOST_BYTES < text.len() {
-        return refused(1, 0);
-    }
-    match reading::refusal(text) {
+    match first_fault(text) {
         Fault::Refused(number, place) => refused(number, place),
-        Fault::Clear => flatten_passed(text, room),
+        Fault::Clear => {
+            let mut nothing: [u8; 0] = [];
+            flatten_passed(text, &mut nothing, room)
+        }
     }
 }
 

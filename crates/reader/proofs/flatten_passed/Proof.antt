@@ -8,9 +8,6 @@ use borrow.Author.Needs.{needs}
 use Rattle.reader.proofs.flatten_passed.Statement.{statement}
 use Rattle.reader.proofs.flatten_passed.Tie as tie
 
-slice-aggregate-draw : tie.Need-slice-aggregate-draw
-slice-aggregate-draw c = search needs
-
 draw-requires : tie.Need-draw-requires
 draw-requires c κs = search needs
 
@@ -24,47 +21,62 @@ enum-known-counts : tie.Need-enum-known-counts
 enum-known-counts c = search needs
 
 add-length : tie.Need-add-length
-add-length c = omega (arith, far-below (c .before .before .before .before .before .before .before .before .pre) (c .before .before .before .before .draw .ensures (c .before .before .before .before .before .before .before .before .pre)) (c .before .counts .given .1))
+add-length c = omega (arith, far-below (c .before .before .before .before .before .before .before .before .before .before .pre) (c .before .before .before .before .before .draw .ensures (c .before .before .before .before .before .before .before .before .before .before .pre)) (c .before .counts .given .1))
 
 refused-requires-2 : tie.Need-refused-requires-2
 refused-requires-2 c κs = search needs
 
+same-length : tie.Need-same-length
+same-length c = search needs
+
 returns : tie.Need-returns
-returns c = over-told (c .before .before .before .before .before .before .before .before .before .before .pre) (c .before .before .before .before .before .before .draw .ensures (c .before .before .before .before .before .before .before .before .before .before .pre)) (c .before .before .before .counts .given .1) (inl (c .before .if1 .taken)) (c .refused2 .ensures)
+returns c = over-told (c .before .before .before .before .before .before .before .before .before .before .before .before .pre) (c .before .before .before .before .before .before .before .draw .ensures (c .before .before .before .before .before .before .before .before .before .before .before .before .pre)) (c .before .before .before .counts .given .1) (inl (c .before .if1 .taken)) (c .refused2 .ensures)
 
 refused-requires-3 : tie.Need-refused-requires-3
 refused-requires-3 c κs = search needs
 
+same-length-2 : tie.Need-same-length-2
+same-length-2 c = search needs
+
 returns-2 : tie.Need-returns-2
-returns-2 c = over-told (c .before .before .before .before .before .before .before .before .before .before .before .pre) (c .before .before .before .before .before .before .before .draw .ensures (c .before .before .before .before .before .before .before .before .before .before .before .pre)) (c .before .before .before .before .counts .given .1) (inr (c .before .if2 .taken)) (c .refused3 .ensures)
+returns-2 c = over-told (c .before .before .before .before .before .before .before .before .before .before .before .before .before .pre) (c .before .before .before .before .before .before .before .before .draw .ensures (c .before .before .before .before .before .before .before .before .before .before .before .before .before .pre)) (c .before .before .before .before .counts .given .1) (inr (c .before .if2 .taken)) (c .refused3 .ensures)
 
 write-file-requires : tie.Need-write-file-requires
 write-file-requires c κs = search needs
 
-returns-3 : tie.Need-returns-3
-returns-3 c = stopped-told (c .before .before .before .before .before .before .before .before .before .pre) (c .before .before .before .before .before .draw .ensures (c .before .before .before .before .before .before .before .before .before .pre)) (c .before .before .number .given .1) (c .refused .ensures)
-
-same-length : tie.Need-same-length
-same-length c = search needs
-
 returns-4 : tie.Need-returns-4
-returns-4 c = written-told (c .before .before .before .before .before .before .before .before .before .before .before .before .before .before .pre) (c .before .before .before .before .before .before .before .before .before .before .draw .ensures (c .before .before .before .before .before .before .before .before .before .before .before .before .before .before .pre)) (c .before .before .before .before .before .before .before .counts .given .1) (omega (arith, c .before .before .before .before .before .if1 .left)) (omega (arith, c .before .before .before .before .if2 .left)) (c .before .before .write-file .ensures (c .before .before .before .before .before .before .before .before .before .before .before .before .before .before .pre)) refl
+returns-4 c = written-told (c .before .before .before .before .before .before .before .before .before .before .before .before .before .before .before .before .pre) (c .before .before .before .before .before .before .before .before .before .before .before .draw .ensures (c .before .before .before .before .before .before .before .before .before .before .before .before .before .before .before .before .pre)) (c .before .before .before .before .before .before .before .counts .given .1) (omega (arith, c .before .before .before .before .before .if1 .left)) (omega (arith, c .before .before .before .before .if2 .left)) (c .before .before .write-file .ensures (c .before .before .before .before .before .before .before .before .before .before .before .before .before .before .before .before .pre)) refl
+
+same-length-3 : tie.Need-same-length-3
+same-length-3 c = search needs
+
+returns-3 : tie.Need-returns-3
+returns-3 c = stopped-told (c .before .before .before .before .before .before .before .before .before .before .before .pre) (c .before .before .before .before .before .before .draw .ensures (c .before .before .before .before .before .before .before .before .before .before .before .pre)) (c .before .before .number .given .1) (c .refused .ensures)
+
+same-length-4 : tie.Need-same-length-4
+same-length-4 c = search needs
+
+same-length-5 : tie.Need-same-length-5
+same-length-5 c = search needs
 
 pub flatten-passed-spec : {M : Type 1} → statement M
 flatten-passed-spec =
     tie.close
     (tie.spec
-    slice-aggregate-draw
     draw-requires
     enum-known-number
     refused-requires
     enum-known-counts
     add-length
     refused-requires-2
+    same-length
     returns
     refused-requires-3
+    same-length-2
     returns-2
     write-file-requires
+    same-length-3
     returns-3
-    same-length
+    same-length-4
+    same-length-5
     returns-4)
