@@ -6,7 +6,7 @@ use mathlib.Core.List.{List}
 use mathlib.Core.Logic.{_↔_, Iff·trans}
 use Prim.Native.Nat.{ℕ, _≤_, _<_}
 use native.Mathlib.Omega.{arith}
-use lib.ListN.{length, take, drop}
+use lib.ListN.{length, take, drop, length-append}
 use lib.Seq.{take-at}
 use Rattle.grammar.specs.Viable.{Grammatical, LongestViable}
 use Rattle.definition.specs.declared.Answer.{Answer}
@@ -85,6 +85,16 @@ module _ {t room left : List ℕ} {r : Answer} (h : Promised t room r left) wher
   -- room's bytes included, is Right.one-answer
   pub refusals-hold : (r .number ≡ 0 → ⊥) → RefusalHolds room r left (r .number) (r .place) × ((chain : Chain) × Located t (r .number) (r .place) chain)
   refusals-hold e = let s = stopped e in let k = refusal-holds h (s .is) in (k .0, (s .open-calls, k .1))
+
+  -- the length told lies within the room that is left
+  pub length-within : r .length ≤ length left
+  length-within = go (h .outcome) refl
+    where
+      go : (o : Outcome) → h .outcome ≡ o → r .length ≤ length left
+      go (rejected n p chain) is = omega (arith, refusal-holds h is .0 .no-length)
+      go (accepted c es) is =
+          let k = success-holds h is in
+          omega (arith, k .length-is, ap length (k .room-holds), length-append (flat (shapesOf es)) (drop (length (flat (shapesOf es))) room))
 
   -- ---- demand 2
 
