@@ -169,34 +169,34 @@ module _ {t : List ℕ} {words : List ℤ} {from : Spot} (h : Opens t words from
         took-over k q =
             let e = subst (Enters old new count row) q k in
             record {
-          sized = e .sized;
-          sorted = e .sorted;
-          stands = stands-now count (e .rows .0);
-          happened =
-              entered-so table d c (ap (λ (n : ℕ). none? (find n table)) (sym symbol-is) ∙ old-number stands s (e .rows .1))
-              (let r = e .sorted .room in omega (arith, long-now count (e .rows .0)));
-          redefined = omega arith;
-          passes = passes;
-          fit = fit-to;
-          ahead = ahead;
-        }
+              sized = e .sized;
+              sorted = e .sorted;
+              stands = stands-now count (e .rows .0);
+              happened =
+                  entered-so table d c (ap (λ (n : ℕ). none? (find n table)) (sym symbol-is) ∙ old-number stands s (e .rows .1))
+                  (let r = e .sorted .room in omega (arith, long-now count (e .rows .0)));
+              redefined = omega arith;
+              passes = passes;
+              fit = fit-to;
+              ahead = ahead;
+            }
 
         pub took-new : {r : Entered} → Enters old new count row r → r ≡ Added → Takes t new words from place c h table (count + 1) c to
         unfolding Entering countAfter
         took-new k q =
             let e = subst (Enters old new count row) q k in
             record {
-          sized = e .sized;
-          sorted = e .sorted;
-          stands = stands-now (count + 1) (e .rows .0);
-          happened =
-              entered-so table d c (ap (λ (n : ℕ). none? (find n table)) (sym symbol-is) ∙ new-number stands s (e .rows .1))
-              (let r = e .sorted .room in omega (arith, long-now (count + 1) (e .rows .0)));
-          redefined = omega arith;
-          passes = passes;
-          fit = fit-to;
-          ahead = ahead;
-        }
+              sized = e .sized;
+              sorted = e .sorted;
+              stands = stands-now (count + 1) (e .rows .0);
+              happened =
+                  entered-so table d c (ap (λ (n : ℕ). none? (find n table)) (sym symbol-is) ∙ new-number stands s (e .rows .1))
+                  (let r = e .sorted .room in omega (arith, long-now (count + 1) (e .rows .0)));
+              redefined = omega arith;
+              passes = passes;
+              fit = fit-to;
+              ahead = ahead;
+            }
 
       pub one-too-many : {r : Entered} → Enters old new count row r → r ≡ Full → (pen : Pen) (room : List ℕ) → Painted c pen (happens table (define d)) room (Refused 10 place) room
       unfolding Entering

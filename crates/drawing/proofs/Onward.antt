@@ -3,12 +3,11 @@
 use mathlib.Core.Path.{_≡_, refl, sym, ap, _∙_, subst}
 use mathlib.Core.Bool.{Bool, true, false}
 use mathlib.Core.List.{List, [], _∷_, _++_}
-use Prim.Native.Nat.{ℕ, _+_, _≤_}
+use Prim.Native.Nat.{ℕ, _+_}
 use native.Mathlib.Omega.{arith}
 use lib.IntN.{ℤ, natAbs}
-use lib.ListN.{length}
 use Rattle.definition.specs.Words.{Placed, at}
-use Rattle.definition.specs.Commands.{Command, layer, start, delete, commands}
+use Rattle.definition.specs.Commands.{Command, layer, delete, commands}
 use Rattle.definition.specs.Standing.{Standing, outside, after}
 use Rattle.definition.specs.Table.{Table, enter, forget}
 use Rattle.definition.specs.Drawing.{define, deeds, Event, removed, happens, story}
@@ -16,7 +15,7 @@ use Rattle.definition.specs.Counts.{counted, shapesOf}
 use Rattle.pen.specs.Names.{nameOf}
 use Rattle.pen.proofs.Names.{no-name}
 use Rattle.table.specs.declared.Row.{Row}
-use Rattle.table.specs.Rows.{rowsFrom, forgetRow}
+use Rattle.table.specs.Rows.{forgetRow}
 use Rattle.pieces.specs.Pieces.{stream, letterS}
 use Rattle.pieces.specs.Pieces.{start as textStart}
 use Rattle.pieces.specs.declared.Spot.{Spot}
@@ -25,7 +24,7 @@ use Rattle.reading.specs.Written.{Written, written}
 use Rattle.drawing.specs.declared.Counts.{Counts}
 use Rattle.drawing.specs.declared.Pen.{Pen}
 use Rattle.drawing.specs.declared.Drawn.the-variants.{Done, Refused}
-use Rattle.drawing.specs.Painting.{Reached, Painted}
+use Rattle.drawing.specs.Painting.{Painted}
 use Rattle.drawing.specs.Voices.{Voice, a-shape, a-call, a-layer, a-start, a-finish, a-delete, a-nothing, Told}
 use Rattle.drawing.specs.Rows.{Stands, none-stand}
 use Rattle.drawing.specs.Outside.{drawnBy, Opens, behindStart, definitionAt, Passes}

@@ -2,8 +2,7 @@
 -- and the runs are lent to callees, so what they ask for is kept beside it; and so is that no more definitions were replaced than bytes were read.
 -- Assumes nothing.
 use mathlib.Core.Path.{_≡_, refl, sym, ap, _∙_, subst}
-use mathlib.Core.Bool.{true, false}
-use mathlib.Core.List.{List, [], _∷_, _++_}
+use mathlib.Core.List.{List}
 use Prim.Native.Nat.{ℕ, _+_, _-_, _≤_, _<_}
 use native.Mathlib.Omega.{arith}
 use lib.Dec.{T}
@@ -16,7 +15,7 @@ use mir.Facts.{toZ-ofZ}
 use Rattle.definition.specs.Commands.{layer}
 use Rattle.definition.specs.Table.{Table}
 use Rattle.pen.specs.Names.{nameOf}
-use Rattle.table.specs.Rows.{Columns, columns, rowsFrom, rowsOf, Sorted, Sized, Forgets, forgetRow}
+use Rattle.table.specs.Rows.{Columns, rowsFrom, rowsOf, Sorted, Sized, Forgets, forgetRow}
 use Rattle.table.specs.declared.Row.{Row}
 use Rattle.pieces.specs.Pieces.{letterS, Fit}
 use Rattle.pieces.specs.Pieces.{start as textStart}

@@ -1,6 +1,5 @@
 -- `read_call` meets its contract: the list by crates/turns, the symbol by its size (proofs/CallWords.antt).
 -- Assumes nothing.
-use Prim.Native.Nat.{_^_}
 use native.Mathlib.Omega.{arith}
 use Rattle.turns.proofs.Nets.{near-more}
 use Rattle.drawing.proofs.CallWords.{symbol-there, call-list, call-read}

@@ -1,6 +1,6 @@
 -- `skip_body` meets its contract: `Skims` holds before each command, and what is left of the text falls.
 -- Assumes nothing.
-use mathlib.Core.Path.{subst, sym, _∙_}
+use mathlib.Core.Path.{_∙_}
 use Prim.Native.Nat.{_-_}
 use native.Mathlib.Omega.{arith}
 use lib.ListN.{length}
