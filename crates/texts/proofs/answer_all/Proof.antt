@@ -1,4 +1,4 @@
--- `answer_all` is safe and ends: the line and the room keep their lengths, and the turns that are left fall.
+-- `answer_all` is safe and ends: the line and the rooms keep their lengths, and the turns that are left fall.
 -- Assumes nothing.
 use mathlib.Core.Path.{_≡_}
 use lib.ListN.{length}
@@ -7,10 +7,10 @@ use Rattle.texts.proofs.answer_all.Statement.{statement}
 use Rattle.texts.proofs.answer_all.Tie as tie
 
 abbrev Inv-loop : tie.InvT-loop
-Inv-loop line₀ room₀ turns₀ held₀ line room turns held = (length line ≡ length line₀) × (length room ≡ length room₀)
+Inv-loop line₀ text₀ room₀ again₀ turns₀ held₀ line text room again turns held = (length line ≡ length line₀) × (length text ≡ length text₀) × (length room ≡ length room₀) × (length again ≡ length again₀)
 
 abbrev μ-loop : tie.MeasureT-loop
-μ-loop line₀ room₀ turns₀ held₀ line room turns held = turns
+μ-loop line₀ text₀ room₀ again₀ turns₀ held₀ line text room again turns held = turns
 
 loop-holds : tie.Need-loop-holds Inv-loop μ-loop
 loop-holds c = search needs
@@ -27,14 +27,26 @@ same-length c = search needs
 same-length-2 : tie.Need-same-length-2 Inv-loop μ-loop
 same-length-2 c = search needs
 
-returns : tie.Need-returns Inv-loop μ-loop
-returns c = search needs
-
 same-length-3 : tie.Need-same-length-3 Inv-loop μ-loop
 same-length-3 c = search needs
 
 same-length-4 : tie.Need-same-length-4 Inv-loop μ-loop
 same-length-4 c = search needs
+
+returns : tie.Need-returns Inv-loop μ-loop
+returns c = search needs
+
+same-length-5 : tie.Need-same-length-5 Inv-loop μ-loop
+same-length-5 c = search needs
+
+same-length-6 : tie.Need-same-length-6 Inv-loop μ-loop
+same-length-6 c = search needs
+
+same-length-7 : tie.Need-same-length-7 Inv-loop μ-loop
+same-length-7 c = search needs
+
+same-length-8 : tie.Need-same-length-8 Inv-loop μ-loop
+same-length-8 c = search needs
 
 returns-2 : tie.Need-returns-2 Inv-loop μ-loop
 returns-2 c = search needs
@@ -48,11 +60,17 @@ loop-less c = search needs
 loop-again : tie.Need-loop-again Inv-loop μ-loop
 loop-again c = search needs
 
-same-length-5 : tie.Need-same-length-5 Inv-loop μ-loop
-same-length-5 c = search needs
+same-length-9 : tie.Need-same-length-9 Inv-loop μ-loop
+same-length-9 c = search needs
 
-same-length-6 : tie.Need-same-length-6 Inv-loop μ-loop
-same-length-6 c = search needs
+same-length-10 : tie.Need-same-length-10 Inv-loop μ-loop
+same-length-10 c = search needs
+
+same-length-11 : tie.Need-same-length-11 Inv-loop μ-loop
+same-length-11 c = search needs
+
+same-length-12 : tie.Need-same-length-12 Inv-loop μ-loop
+same-length-12 c = search needs
 
 returns-3 : tie.Need-returns-3 Inv-loop μ-loop
 returns-3 c = search needs
@@ -68,13 +86,19 @@ answer-all-spec =
     end-line-requires
     same-length
     same-length-2
-    returns
     same-length-3
     same-length-4
+    returns
+    same-length-5
+    same-length-6
+    same-length-7
+    same-length-8
     returns-2
     sub-turns
     loop-less
     loop-again
-    same-length-5
-    same-length-6
+    same-length-9
+    same-length-10
+    same-length-11
+    same-length-12
     returns-3)

@@ -1,17 +1,17 @@
--- `feed_all` is safe and ends: the line and the room keep their lengths, and each turn takes a byte of the chunk.
+-- `feed_all` is safe and ends: the line and the rooms keep their lengths, and each turn takes a byte of the chunk.
 -- Assumes nothing.
 use mathlib.Core.Path.{_≡_}
-use Prim.Native.Nat.{_-_}
 use lib.ListN.{length}
+use Prim.Native.Nat.{_-_}
 use borrow.Author.Needs.{needs}
 use Rattle.texts.proofs.feed_all.Statement.{statement}
 use Rattle.texts.proofs.feed_all.Tie as tie
 
 abbrev Inv-loop : tie.InvT-loop
-Inv-loop chunk line₀ held room₀ n₀ i₀ line room n i = (length line ≡ length line₀) × (length room ≡ length room₀)
+Inv-loop chunk line₀ held text₀ room₀ again₀ n₀ i₀ line text room again n i = (length line ≡ length line₀) × (length text ≡ length text₀) × (length room ≡ length room₀) × (length again ≡ length again₀)
 
 abbrev μ-loop : tie.MeasureT-loop
-μ-loop chunk line₀ held room₀ n₀ i₀ line room n i = length chunk - i
+μ-loop chunk line₀ held text₀ room₀ again₀ n₀ i₀ line text room again n i = length chunk - i
 
 loop-holds : tie.Need-loop-holds Inv-loop μ-loop
 loop-holds c = search needs
@@ -37,6 +37,12 @@ same-length c = search needs
 same-length-2 : tie.Need-same-length-2 Inv-loop μ-loop
 same-length-2 c = search needs
 
+same-length-3 : tie.Need-same-length-3 Inv-loop μ-loop
+same-length-3 c = search needs
+
+same-length-4 : tie.Need-same-length-4 Inv-loop μ-loop
+same-length-4 c = search needs
+
 returns : tie.Need-returns Inv-loop μ-loop
 returns c = search needs
 
@@ -54,4 +60,6 @@ feed-all-spec =
     loop-again
     same-length
     same-length-2
+    same-length-3
+    same-length-4
     returns)
