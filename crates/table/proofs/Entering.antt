@@ -14,8 +14,8 @@ use lib.ListN.{length, getD, set, length-set}
 use lib.Seq.{getD-set-same, getD-set-other}
 use Rattle.table.specs.declared.Row.{Row}
 use Rattle.table.specs.declared.Entered.the-variants.{Replaced, Added, Full}
-use Rattle.table.specs.Rows.{most, enterRow, Columns, columns, rowAt, rowsFrom, rowsOf, Sorted, Parted, Inserted, Sized, countAfter, Told, Enters}
-use Rattle.table.proofs.Seeking.{above-strict}
+use Rattle.table.specs.Rows.{most, enterRow, Columns, columns, rowAt, rowsFrom, rowsOf, Sorted, Nearest, Parted, Inserted, Sized, countAfter, Told, Enters}
+use Rattle.table.proofs.Seeking.{above-strict, parted-near}
 use Rattle.table.proofs.InColumns.{found-row, no-row, replaced, put-in}
 
 -- a row by its fields
@@ -34,6 +34,9 @@ module _ (old : Columns) (count i : ℕ) (r : Row) (sized : Sized old) (sorted :
       columns (old .symbols) (set (old .places) i (r .place)) (set (old .starts) i (r .start)) (set (old .ends) i (r .end)) (set (old .factors) i (r .a))
       (set (old .divisors) i (r .b))
 
+  near-by : Nearest (old .symbols) count (r .symbol) i
+  near-by = parted-near (old .symbols) count (r .symbol) i sorted parted
+
   -- in the place of one of its number
   pub enters-over : (i < count) × (getD (old .symbols) i 0 ≡ r .symbol) → Enters old over count r Replaced
   unfolding countAfter Told
@@ -49,7 +52,7 @@ module _ (old : Columns) (count i : ℕ) (r : Row) (sized : Sized old) (sorted :
     sorted = sorted;
     rows = (
       replaced old over r i count 0 i (omega arith) (h .0) (λ k a b. parted .below k b) (h .1) here elsewhere,
-      λ n. absurd (clash (sym n ∙ found-row old count (r .symbol) i sorted parted h)),
+      λ n. absurd (clash (sym n ∙ found-row old count (r .symbol) i near-by h)),
     );
   }
     where
@@ -75,7 +78,7 @@ module _ (old : Columns) (count i : ℕ) (r : Row) (sized : Sized old) (sorted :
     pub enters-none : count ≡ most → Enters old old count r Full
     unfolding countAfter Told
     enters-none e =
-        record { sized = sized; sorted = sorted; rows = (refl, no-row old count (r .symbol) i sorted parted absent, rows-length old count 0 ∙ e) }
+        record { sized = sized; sorted = sorted; rows = (refl, no-row old count (r .symbol) i near-by absent, rows-length old count 0 ∙ e) }
 
     module _ (new : Columns) (room : count < most) (s : Inserted (old .symbols) (new .symbols) count i (r .symbol))
         (p : Inserted (old .places) (new .places) count i (r .place)) (f : Inserted (old .starts) (new .starts) count i (r .start))
@@ -141,6 +144,6 @@ module _ (old : Columns) (count i : ℕ) (r : Row) (sized : Sized old) (sorted :
               (λ k x. row-is _ _ _ _ _ _ (rowAt old k) (s .below k x) (p .below k x) (f .below k x) (e .below k x) (a .below k x) (b .below k x))
               (row-is _ _ _ _ _ _ r (s .here) (p .here) (f .here) (e .here) (a .here) (b .here))
               (λ k x y. let z : k < count = omega arith in row-is _ _ _ _ _ _ (rowAt old k) (s .above k x z) (p .above k x z) (f .above k x z) (e .above k x z) (a .above k x z) (b .above k x z))),
-          no-row old count (r .symbol) i sorted parted absent,
+          no-row old count (r .symbol) i near-by absent,
         );
       }

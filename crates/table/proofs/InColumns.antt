@@ -13,8 +13,7 @@ use lib.Dec.{ltb, eqb}
 use lib.ListN.{getD}
 use Rattle.definition.specs.Words.{if_then_else_, those}
 use Rattle.table.specs.declared.Row.{Row}
-use Rattle.table.specs.Rows.{findRow, enterRow, forgetRow, Columns, rowAt, rowsFrom, rowsOf, Sorted, Parted}
-use Rattle.table.proofs.Seeking.{above-strict}
+use Rattle.table.specs.Rows.{findRow, enterRow, forgetRow, Columns, rowAt, rowsFrom, rowsOf, Nearest, Parted}
 
 abbrev symbolAt : Columns → ℕ → ℕ
 symbolAt c k = getD (c .symbols) k 0
@@ -53,22 +52,26 @@ module _ (c : Columns) (s : ℕ) where
       rw (lt-ltb (symbolAt c j) s (h j (omega arith) (omega arith)))
       (ap (λ (t : List Row). rowAt c j ∷ t) (forget-some m n (j + 1) i (omega arith) (omega arith) (λ k a b. h k (omega arith) b) (λ k a b. g k a (omega arith))))
 
--- by the place that parts the numbers
-module _ (c : Columns) (count s i : ℕ) (sorted : Sorted (c .symbols) count) (parted : Parted (c .symbols) count s i) where
+-- by the place of the nearest number
+module _ (c : Columns) (count s i : ℕ) (near : Nearest (c .symbols) count s i) where
   pub found-row : (i < count) × (symbolAt c i ≡ s) → findRow s (rowsOf c count) ≡ some (rowAt c i)
   found-row h =
-      find-some c s i count 0 i (omega arith) (h .0) (λ k a b e. let l = parted .below k b in omega arith) (h .1)
+      find-some c s i count 0 i (omega arith) (h .0) (λ k a b e. let l = near .below k b in omega arith) (h .1)
 
   pub no-row : (i < count → symbolAt c i ≡ s → ⊥) → findRow s (rowsOf c count) ≡ none
-  no-row n = find-none c s count 0 (λ k a b e. go k b e (ltb k i) refl)
+  no-row n = find-none c s count 0 (λ k a b e. go k b e (ltb k i) (ltb i k) refl refl)
     where
-      go : (k : ℕ) → k < 0 + count → symbolAt c k ≡ s → (b : Bool) → ltb k i ≡ b → ⊥
-      go k l e true t = let h = parted .below k (ltb-true k i t) in omega arith
-      go k l e false t = let h = above-strict (c .symbols) count s i sorted parted n k (ltb-false k i t) (omega arith) in omega arith
+      go : (k : ℕ) → k < 0 + count → symbolAt c k ≡ s → (b d : Bool) → ltb k i ≡ b → ltb i k ≡ d → ⊥
+      go k l e true d t u = let h = near .below k (ltb-true k i t) in omega arith
+      go k l e false true t u = let h = near .above k (ltb-true i k u) (omega arith) in omega arith
+      go k l e false false t u =
+          let q : k ≡ i = omega (arith, ltb-false k i t, ltb-false i k u) in
+          n (omega arith) (subst (λ (x : ℕ). symbolAt c x ≡ s) q e)
 
-  pub rows-left : rowsOf c i ≡ forgetRow s (rowsOf c count)
-  rows-left =
-      sym (forget-some c s i count 0 i (omega arith) (parted .within) (λ k a b. parted .below k b) (λ k a b. parted .above k a (omega arith)))
+-- by the place that parts the numbers
+pub rows-left : (c : Columns) (count s i : ℕ) → Parted (c .symbols) count s i → rowsOf c i ≡ forgetRow s (rowsOf c count)
+rows-left c count s i parted =
+    sym (forget-some c s i count 0 i (omega arith) (parted .within) (λ k a b. parted .below k b) (λ k a b. parted .above k a (omega arith)))
 
 same-rows : (old new : Columns) (n j : ℕ) → ((k : ℕ) → j ≤ k → k < j + n → rowAt new k ≡ rowAt old k) → rowsFrom new j n ≡ rowsFrom old j n
 unfolding rowsFrom

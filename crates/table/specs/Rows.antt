@@ -68,6 +68,12 @@ pub record Sorted (symbols : List ℕ) (count : ℕ) : Type 0 where
   pub room : count ≤ most
   pub rising : (i j : ℕ) → i < j → j < count → getD symbols i 0 < getD symbols j 0
 
+-- below place i stand lower numbers and behind it higher ones, so the number stands there or nowhere
+pub record Nearest (symbols : List ℕ) (count symbol i : ℕ) : Type 0 where
+  pub within : i ≤ count
+  pub below : (k : ℕ) → k < i → getD symbols k 0 < symbol
+  pub above : (k : ℕ) → i < k → k < count → symbol < getD symbols k 0
+
 -- place i parts the numbers: below it stand lower ones, and from it on none
 pub record Parted (symbols : List ℕ) (count symbol i : ℕ) : Type 0 where
   pub within : i ≤ count

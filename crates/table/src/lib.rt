@@ -1,11 +1,11 @@
-// The live definitions: at most 512, sorted by symbol number, in six columns that the caller lends. Sorted, so that a look-up takes eleven comparisons
+// The live definitions: at most 512, sorted by symbol number, in six columns that the caller lends. Sorted, so that a look-up takes ten comparisons
 // and that DD cuts the count, and in columns because a slice of structs would leave every walk to be proved by hand.
 ghost use mathlib.Core.Path.{_≡_};
 ghost use Prim.Native.Nat.{_+_, _<_, _≤_};
 ghost use mathlib.Core.Bool.{_&&_};
-ghost use lib.Dec.{ltb, eqb};
+ghost use lib.Dec.{ltb, leb, eqb};
 ghost use lib.ListN.{length, getD};
-ghost use Rattle.table.specs.Rows.{most, findRow, enterRow, forgetRow, columns, rowsOf, Sorted, Parted, Inserted, Forgets, Sized, Enters, foundBy};
+ghost use Rattle.table.specs.Rows.{most, findRow, enterRow, forgetRow, columns, rowsOf, Sorted, Nearest, Parted, Inserted, Forgets, Sized, Enters, foundBy};
 
 // The most live definitions that there can be.
 pub const MOST: usize = 512;
@@ -33,22 +33,45 @@ pub enum Entered {
     Full,
 }
 
-// The place in the column where the number stands or would stand, by halves: `reach` is how far behind `at` it can be, and goes through 1023, 511,
-// .. 1, so that seeking takes ten comparisons.
+// The last place whose number is at most the symbol, or 0, by halves: a live number stands there or nowhere. It is one of the `reach` places from `at`
+// on; `reach` goes through 512, 256, .. 2, so that this takes nine comparisons.
+fn nearest(symbols: &[usize; MOST], count: usize, symbol: usize) -> usize
+    requires { ⌜ Sorted (now symbols) count ⌝ }
+    ensures { λ r. ⌜ Nearest (now (symbols .entry)) count symbol r ⌝ }
+{
+    let mut at: usize = 0;
+    let mut reach: usize = MOST;
+    while 1 < reach {
+        let half = reach / 2;
+        reach -= half;
+        if at_most(symbols, count, at + half, symbol) {
+            at += half;
+        }
+    }
+    at
+}
+
+// The place where the number stands or would stand: that of the nearest number, or the one behind it.
 fn seek(symbols: &[usize; MOST], count: usize, symbol: usize) -> usize
     requires { ⌜ Sorted (now symbols) count ⌝ }
     ensures { λ r. ⌜ Parted (now (symbols .entry)) count symbol r ⌝ }
 {
-    let mut at: usize = 0;
-    let mut reach: usize = 1023;
-    while 0 < reach {
-        let half = reach / 2;
-        if below(symbols, count, at + half, symbol) {
-            at = at + half + 1;
-        }
-        reach = half;
+    let i = nearest(symbols, count, symbol);
+    if below(symbols, count, i, symbol) {
+        return i + 1;
     }
-    at
+    i
+}
+
+// Whether a number that is at most the symbol stands at i.
+fn at_most(symbols: &[usize; MOST], count: usize, i: usize, symbol: usize) -> bool
+    requires { ⌜ count ≤ most ⌝ }
+    ensures { λ r. ⌜ r ≡ (ltb i count && leb (getD (now (symbols .entry)) i 0) symbol) ⌝ }
+{
+    if i < count {
+        return symbols[i] <= symbol;
+    }
+    false
 }
 
 // Whether a number below the symbol stands at i.
@@ -86,7 +109,7 @@ fn stands(symbols: &[usize; MOST], count: usize, i: usize, symbol: usize) -> boo
     false
 }
 
-// The live definition of a number (refusal 12 where there is none).
+// The live definition of a number (refusal 12 where there is none), in ten comparisons: nine to come to the nearest number, one to see whether it is this.
 pub fn find<'a>(
     symbols: &'a [usize; MOST],
     places: &'a [usize; MOST],
@@ -100,7 +123,7 @@ pub fn find<'a>(
     requires { ⌜ Sorted (now symbols) count ⌝ }
     ensures { λ r. ⌜ r ≡ foundBy (findRow symbol (rowsOf (columns (now (symbols .entry)) (now (places .entry)) (now (starts .entry)) (now (ends .entry)) (now (factors .entry)) (now (divisors .entry))) count)) ⌝ }
 {
-    let i = seek(symbols, count, symbol);
+    let i = nearest(symbols, count, symbol);
     if stands(symbols, count, i, symbol) {
         return Found::Live(Row {
             symbol: symbols[i],
@@ -122,7 +145,8 @@ pub fn delete(symbols: &[usize; MOST], count: usize, symbol: usize) -> usize
     seek(symbols, count, symbol)
 }
 
-// Enters a definition under its number, in the place of one of that number or between the others (refusal 10 where it would be the 513th).
+// Enters a definition under its number, in the place of one of that number or between the others (refusal 10 where it would be the 513th). This makes
+// eleven comparisons, since it also asks where a number that is not live would stand; a look-up does not.
 pub fn enter<'a>(
     symbols: &'a mut [usize; MOST],
     places: &'a mut [usize; MOST],

@@ -1,60 +1,25 @@
--- `seek` meets its contract: each comparison halves what is left between the numbers known to be lower and those known not to be.
+-- `seek` meets its contract: the numbers part at the nearest number, or behind it where that one is lower.
 -- Assumes nothing.
-use Prim.Native.Nat.{_+_, _/_, _≤_}
 use native.Mathlib.Omega.{arith}
-use Rattle.table.proofs.Seeking.{Seeking, lower, not-lower, seek-up, seek-down, sought}
+use Rattle.table.proofs.Seeking.{lower, not-lower, part-behind, part-here}
+use borrow.Author.Needs.{needs}
 use Rattle.table.proofs.seek.Statement.{statement}
 use Rattle.table.proofs.seek.Tie as tie
 
-abbrev Inv-loop : tie.InvT-loop
-Inv-loop symbols count symbol at₀ reach₀ at reach = Seeking symbols count symbol at reach × (reach ≤ 1023)
+nearest-requires : tie.Need-nearest-requires
+nearest-requires c κs = search needs
 
-abbrev μ-loop : tie.MeasureT-loop
-μ-loop symbols count symbol at₀ reach₀ at reach = reach
+below-requires : tie.Need-below-requires
+below-requires c κs = c .before .pre .room
 
-loop-holds : tie.Need-loop-holds Inv-loop μ-loop
-loop-holds c = (record { within = omega arith; below = λ k l. absurd (omega arith); above = λ k l m. absurd (let h = c .pre .room in omega arith) }, omega arith)
+add-result : tie.Need-add-result
+add-result c = let h = c .before .before .nearest .ensures .within in let k = c .before .before .before .pre .room in omega arith
 
-add-below : tie.Need-add-below Inv-loop μ-loop
-add-below c = let h = c .before .loop .inv .0 .within in let k = c .before .before .pre .room in omega (arith, c .before .loop .inv .1)
+returns : tie.Need-returns
+returns c = part-behind (c .before .before .before .args .symbols .now) (c .before .before .before .args .count) (c .before .before .before .args .symbol) (c .before .before .nearest .result) (c .before .before .nearest .ensures) (lower (c .before .before .before .args .symbols .now) (c .before .before .before .args .count) (c .before .before .nearest .result) (c .before .before .before .args .symbol) _ (c .before .below .ensures) (c .if1 .taken))
 
-below-requires : tie.Need-below-requires Inv-loop μ-loop
-below-requires c κs = c .before .before .pre .room
-
-add-at : tie.Need-add-at Inv-loop μ-loop
-add-at c = let h = c .before .before .before .loop .inv .0 .within in let k = c .before .before .before .before .pre .room in omega (arith, c .before .before .before .loop .inv .1)
-
-add-at-2 : tie.Need-add-at-2 Inv-loop μ-loop
-add-at-2 c = let h = c .before .before .before .loop .inv .0 .within in let k = c .before .before .before .before .pre .room in omega (arith, c .before .before .before .loop .inv .1)
-
-loop-less : tie.Need-loop-less Inv-loop μ-loop
-loop-less c = omega arith
-
-loop-again : tie.Need-loop-again Inv-loop μ-loop
-loop-again c = (seek-up (c .before .before .before .before .args .symbols .now) (c .before .before .before .before .args .count) (c .before .before .before .before .args .symbol) (c .before .before .before .loop .at) (c .before .before .before .loop .reach) (c .before .before .before .before .pre) (c .before .before .before .loop .inv .0) (c .before .before .loop-test .taken) (lower (c .before .before .before .before .args .symbols .now) (c .before .before .before .before .args .count) (c .before .before .before .loop .at + c .before .before .before .loop .reach / 2) (c .before .before .before .before .args .symbol) _ (c .before .below .ensures) (c .if1 .taken)), omega (arith, c .before .before .before .loop .inv .1))
-
-loop-less-2 : tie.Need-loop-less-2 Inv-loop μ-loop
-loop-less-2 c = omega arith
-
-loop-again-2 : tie.Need-loop-again-2 Inv-loop μ-loop
-loop-again-2 c = (seek-down (c .before .before .before .before .args .symbols .now) (c .before .before .before .before .args .count) (c .before .before .before .before .args .symbol) (c .before .before .before .loop .at) (c .before .before .before .loop .reach) (c .before .before .before .before .pre) (c .before .before .before .loop .inv .0) (not-lower (c .before .before .before .before .args .symbols .now) (c .before .before .before .before .args .count) (c .before .before .before .loop .at + c .before .before .before .loop .reach / 2) (c .before .before .before .before .args .symbol) _ (c .before .below .ensures) (c .if1 .left)), omega (arith, c .before .before .before .loop .inv .1))
-
-returns : tie.Need-returns Inv-loop μ-loop
-returns c = sought (c .before .before .args .symbols .now) (c .before .before .args .count) (c .before .before .args .symbol) (c .before .loop .at) (c .before .loop .reach) (c .before .loop .inv .0) (c .loop-test .left)
+returns-2 : tie.Need-returns-2
+returns-2 c = part-here (c .before .before .before .args .symbols .now) (c .before .before .before .args .count) (c .before .before .before .args .symbol) (c .before .before .nearest .result) (c .before .before .nearest .ensures) (not-lower (c .before .before .before .args .symbols .now) (c .before .before .before .args .count) (c .before .before .nearest .result) (c .before .before .before .args .symbol) _ (c .before .below .ensures) (c .if1 .left))
 
 pub seek-spec : {M : Type 1} → statement M
-seek-spec =
-    tie.close
-    (tie.spec
-    Inv-loop
-    μ-loop
-    loop-holds
-    add-below
-    below-requires
-    add-at
-    add-at-2
-    loop-less
-    loop-again
-    loop-less-2
-    loop-again-2
-    returns)
+seek-spec = tie.close (tie.spec nearest-requires below-requires add-result returns returns-2)
