@@ -19,7 +19,8 @@ use Rattle.pen.specs.Names.{nameOf}
 use Rattle.pieces.specs.Pieces.{letterS, letterF, tooLarge}
 use Rattle.reading.specs.Letters.{letterC, letterD, letterL}
 use Rattle.reading.specs.Written.{Written, insideBehind}
-use Rattle.drawing.specs.Voices.{Shaped, Voice, a-shape, a-call, a-layer, a-start, a-finish, a-delete, a-nothing}
+use Rattle.drawing.specs.Voices.{Voice, a-shape, a-call, a-layer, a-start, a-finish, a-delete, a-nothing}
+use Rattle.pen.specs.Moves.{Shaped}
 
 -- no shape has the letter of another command
 record Drawable (n : ℕ) : Type 0 where

@@ -4,7 +4,6 @@ pub mod Voices
 pub mod Reading
 pub mod Steps
 pub mod Opened
-pub mod Moves
 pub mod Shapes
 pub mod Calls
 pub mod CallWords

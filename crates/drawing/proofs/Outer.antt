@@ -27,10 +27,11 @@ use Rattle.drawing.specs.declared.Drawn.{Drawn}
 use Rattle.drawing.specs.declared.Drawn.the-variants.{Done}
 use Rattle.drawing.specs.declared.Call.{Call}
 use Rattle.drawing.specs.Painting.{Reached, Painted}
-use Rattle.drawing.specs.Voices.{mostValues, Shaped, Voice, a-shape, a-call, a-layer, a-start, a-finish, a-delete, a-nothing}
+use Rattle.drawing.specs.Voices.{Voice, a-shape, a-call, a-layer, a-start, a-finish, a-delete, a-nothing}
+use Rattle.pen.specs.Moves.{mostValues, Shaped}
 use Rattle.drawing.specs.Rows.{Stands}
 use Rattle.drawing.specs.Scenes.{Scene}
-use Rattle.drawing.specs.Moves.{ShapedAt}
+use Rattle.pen.specs.Moves.{ShapedAt}
 use Rattle.drawing.specs.Calls.{CalledAt, ReadsCall}
 use Rattle.drawing.specs.Outside.{drawnBy, Speaks}
 use Rattle.drawing.proofs.Letters.{is-shape, is-call, some-kind, no-kind}

@@ -32,7 +32,7 @@ use Rattle.drawing.specs.declared.Drawn.the-variants.{Done, Refused}
 use Rattle.drawing.specs.declared.Defined.{Defined}
 use Rattle.drawing.specs.declared.Defined.the-variants.{Taken, Overfull}
 use Rattle.drawing.specs.Painting.{Reached, Answered, Painted}
-use Rattle.drawing.specs.Voices.{mostValues}
+use Rattle.pen.specs.Moves.{mostValues}
 use Rattle.drawing.specs.Rows.{Stands}
 use Rattle.drawing.specs.Outside.{drawnBy, Speaks, Opens, Takes, Defines}
 use Rattle.drawing.specs.Passed.{Passed, toDraw, noneYet, atStart}

@@ -21,8 +21,9 @@ use Rattle.reading.specs.Written.{Written, written, insideBehind}
 use Rattle.reading.specs.declared.Read.{Read}
 use Rattle.reading.specs.declared.Read.the-variants.{Decoded, Nothing}
 use Rattle.reading.specs.Words.{wordsOf, insideFirst, DecodedOne, ReadsCommand}
-use Rattle.drawing.specs.Voices.{mostValues, Shaped, Voice, Voiced, Told, none-told, one-told}
-use Rattle.drawing.specs.Moves.{ShapedAt}
+use Rattle.drawing.specs.Voices.{Voice, Voiced, Told, none-told, one-told}
+use Rattle.pen.specs.Moves.{mostValues, Shaped}
+use Rattle.pen.specs.Moves.{ShapedAt}
 use Rattle.drawing.specs.Calls.{CalledAt}
 use Rattle.drawing.specs.Outside.{Speaks}
 use Rattle.drawing.proofs.Letters.{is-layer}

@@ -19,7 +19,8 @@ use Rattle.reading.specs.Written.{Written, written}
 use Rattle.reading.specs.declared.Read.{Read}
 use Rattle.reading.specs.declared.Read.the-variants.{Nothing}
 use Rattle.reading.specs.Words.{DecodedOne, ReadsCommand}
-use Rattle.drawing.specs.Voices.{mostValues, Voice, a-shape, a-call, a-layer, a-start, a-finish, a-delete, a-nothing, Told, none-told}
+use Rattle.drawing.specs.Voices.{Voice, a-shape, a-call, a-layer, a-start, a-finish, a-delete, a-nothing, Told, none-told}
+use Rattle.pen.specs.Moves.{mostValues}
 use Rattle.drawing.specs.Outside.{Passes}
 use Rattle.drawing.proofs.Letters.{is-finish}
 use Rattle.drawing.proofs.Reading.{Met, meets, run-kept, read-none, none-met}

@@ -37,10 +37,10 @@ use Rattle.drawing.specs.declared.Drawn.{Drawn}
 use Rattle.drawing.specs.declared.Drawn.the-variants.{Done, Refused}
 use Rattle.drawing.specs.declared.Call.{Call}
 use Rattle.drawing.specs.Painting.{Reached, Painted}
-use Rattle.drawing.specs.Voices.{mostValues, Shaped}
+use Rattle.pen.specs.Moves.{mostValues, Shaped}
 use Rattle.drawing.specs.Rows.{Body}
 use Rattle.drawing.specs.Scenes.{Scene}
-use Rattle.drawing.specs.Moves.{ShapedAt}
+use Rattle.pen.specs.Moves.{ShapedAt}
 use Rattle.drawing.specs.Calls.{CalledAt, ReadsCall}
 use Rattle.drawing.proofs.Painting.{so-far, room-kept}
 use Rattle.drawing.proofs.Reading.{Met, meets, run-kept, speaks, spoken-layer, shaped-at, called-at}

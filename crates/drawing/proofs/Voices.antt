@@ -37,7 +37,8 @@ use Rattle.reading.proofs.Says.{a-layer as says-layer, a-call as says-call, a-s
 use Rattle.reading.proofs.Facing.{faces}
 use Rattle.reading.proofs.Agree.{Fits, Faultless, near-most, not-zero}
 use Rattle.reading.proofs.Exact.{turnValues, valuesOf, kindOf, exactWords, kind-exact, few-values, AllExact, none-left, one-exact, all-exact}
-use Rattle.drawing.specs.Voices.{Shaped, Silent, Voice, a-shape, a-call, a-layer, a-start, a-finish, a-delete, a-nothing, Voiced, Told, none-told, one-told, sizeCount, directionCount, mostValues}
+use Rattle.drawing.specs.Voices.{Silent, Voice, a-shape, a-call, a-layer, a-start, a-finish, a-delete, a-nothing, Voiced, Told, none-told, one-told}
+use Rattle.pen.specs.Moves.{Shaped, sizeCount, directionCount, mostValues}
 
 -- the transformations of a call are kept in the words that crates/turns reads
 turns-kept : (ts : List (Turn ℤ)) → flatMap turnValues ts ≡ turnsWords ts

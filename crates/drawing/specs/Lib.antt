@@ -1,7 +1,6 @@
 pub mod Painting
 pub mod Voices
 pub mod Rows
-pub mod Moves
 pub mod Scenes
 pub mod Calls
 pub mod Passed

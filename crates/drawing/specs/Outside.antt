@@ -22,7 +22,8 @@ use Rattle.drawing.specs.declared.Drawn.the-variants.{Done, Refused}
 use Rattle.drawing.specs.declared.Defined.{Defined}
 use Rattle.drawing.specs.declared.Defined.the-variants.{Taken, Overfull}
 use Rattle.drawing.specs.Painting.{Reached, Painted}
-use Rattle.drawing.specs.Voices.{mostValues, Voice, Told}
+use Rattle.drawing.specs.Voices.{Voice, Told}
+use Rattle.pen.specs.Moves.{mostValues}
 use Rattle.drawing.specs.Rows.{Stands}
 
 -- ---- a command that draws

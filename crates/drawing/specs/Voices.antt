@@ -4,43 +4,20 @@
 use mathlib.Core.Path.{_≡_}
 use mathlib.Core.Bool.{Bool, true, false}
 use mathlib.Core.List.{List, [], _∷_, map}
-use Prim.Native.Nat.{ℕ, _+_, _≤_}
+use Prim.Native.Nat.{ℕ, _≤_}
 use lib.IntN.{ℤ, pos, natAbs}
 use lib.ListN.{length}
-use Rattle.definition.specs.Words.{if_then_else_, Placed, at}
-use Rattle.definition.specs.Commands.{Number, Shape, Turn, Kind, box, flash, wire, polygon, Command, draw, layer, call, start, finish, delete, nothing}
+use Rattle.definition.specs.Words.{Placed}
+use Rattle.definition.specs.Commands.{Number, Shape, Turn, Kind, Command, draw, layer, call, start, finish, delete, nothing}
 use Rattle.definition.specs.Standing.{Standing, after, scaledShape, scaledTurn}
-use Rattle.definition.specs.Flat.{letterOf, numbersOfShape}
+use Rattle.definition.specs.Flat.{letterOf}
 use Rattle.turns.specs.Words.{turnsWords}
 use Rattle.pen.specs.Names.{nameOf}
+use Rattle.pen.specs.Moves.{mostValues, Shaped}
 use Rattle.pieces.specs.Pieces.{letterS, letterF, tooLarge}
 use Rattle.reading.specs.Letters.{letterC, letterD, letterL}
 use Rattle.reading.specs.Written.{Written, lastLetter, insideBehind}
 use Rattle.reading.specs.Words.{wordsOf, kindBy}
-
--- how many sizes and directions a shape of each kind has
-unfoldable pub sizeCount : Kind → ℕ
-sizeCount box = 2
-sizeCount flash = 1
-sizeCount wire = 1
-sizeCount polygon = 0
-
-unfoldable pub directionCount : Kind → ℕ
-directionCount box = 1
-directionCount flash = 0
-directionCount wire = 0
-directionCount polygon = 0
-
--- the most numbers of a command
-abbrev pub mostValues : ℕ
-mostValues = 2049
-
--- a letter and numbers that are a shape's
-pub record Shaped (letter : ℕ) (values : List ℤ) (k : Shape ℤ) : Type 0 where
-  pub letter-is : letter ≡ letterOf (k .kind)
-  pub values-are : values ≡ numbersOfShape k
-  pub sizes : length (k .sizes) ≡ sizeCount (k .kind)
-  pub directions : length (k .directions) ≡ directionCount (k .kind)
 
 -- no letter that drawing knows
 pub record Silent (letter : ℕ) : Type 0 where

@@ -4,3 +4,5 @@ pub mod Signs
 pub mod Numbers
 pub mod Names
 pub mod Lines
+pub mod Moves
+pub mod Shapes

@@ -9,7 +9,7 @@ use lib.ListN.{length, set, drop, length-append}
 use lib.Seq.{sets, length-sets, sets-eq}
 use Rattle.pen.specs.Writes.{Writes}
 
-sets-append : (l : List ℕ) (i : ℕ) (a b : List ℕ) → sets (sets l i a) (i + length a) b ≡ sets l i (a ++ b)
+pub sets-append : {A : Type 0} (l : List A) (i : ℕ) (a b : List A) → sets (sets l i a) (i + length a) b ≡ sets l i (a ++ b)
 sets-append l i [] b = ap (λ (k : ℕ). sets l k b) (add-zero i)
 sets-append l i (x ∷ a) b =
     ap (λ (k : ℕ). sets (sets (set l i x) (suc i) a) k b) (add-suc i (length a) ∙ sym (suc-add i (length a))) ∙ sets-append (set l i x) (suc i) a b

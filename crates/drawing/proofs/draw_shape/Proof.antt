@@ -1,16 +1,15 @@
 -- `draw_shape` meets its contract: what is beyond the range or one too many is refused, and else its lines are written (proofs/Shapes.antt).
 -- Assumes nothing.
-use mathlib.Core.Path.{_≡_, refl, sym, ap, _∙_}
 use native.Mathlib.Omega.{arith}
 use borrow.Author.Needs.{needs}
-use lib.ListN.{length}
 use Rattle.pen.proofs.Lines.{layer-line-length}
-use Rattle.drawing.proofs.Shapes.{shape-far, shape-many, shape-near, part-is, part-few}
+use Rattle.pen.proofs.Shapes.{part-few}
+use Rattle.drawing.proofs.Shapes.{shape-far, shape-many, shape-near, part-is}
 use Rattle.drawing.proofs.draw_shape.Statement.{statement}
 use Rattle.drawing.proofs.draw_shape.Tie as tie
 use Rattle.drawing.proofs.draw_shape.Reads as reads
 use Rattle.drawing.proofs.draw_shape.Lts as lts
-use Rattle.drawing.proofs.move_shape.Reads as move-shape-reads
+use Rattle.pen.proofs.move_shape.Reads as move-shape-reads
 use Rattle.pen.proofs.put_layer_line.Reads as put-layer-line-reads
 use Rattle.pen.proofs.put_line.Reads as put-line-reads
 
@@ -68,7 +67,7 @@ same-length-4 c = search needs
 
 -- src/lib.rt:127:1
 returns-3 : tie.Need-returns-3
-returns-3 c = λ h chain ts carries. shape-near h chain ts (c .before .before .before .before .before .before .before .before .before .before .before .before .before .before .before .before .before .before .args .net) carries (c .before .before .before .before .before .before .before .before .before .before .before .before .before .before .before .before .before .before .args .place) (c .before .before .before .before .before .before .before .before .before .before .before .before .before .before .before .before .before .before .args .layer) (c .before .before .before .before .before .before .before .before .before .before .before .before .before .before .before .move-shape .ensures h) (c .before .before .before .before .before .before .before .before .before .before .before .before .before .before .before .before .before .before .args .counts) (c .before .before .before .before .before .before .before .before .before .before .before .before .before .before .before .before .before .before .args .before) (c .before .before .before .before .before .before .before .before .before .before .before .before .before .if1 .left) (c .before .before .before .before .before .before .before .before .before .before .before .if2 .left) (c .before .before .before .before .before .before .before .before .before .before .before .before .before .before .before .before .before .before .pre .1 .1) (part-is h chain ts (c .before .before .before .before .before .before .before .before .before .before .before .before .before .before .before .before .before .before .args .net) carries (c .before .before .before .before .before .before .before .before .before .before .before .before .before .before .before .before .before .before .args .place) (c .before .before .before .before .before .before .before .before .before .before .before .before .before .before .before .before .before .before .args .layer) (c .before .before .before .before .before .before .before .before .before .before .before .before .before .before .before .move-shape .ensures h) (c .before .before .before .before .before .before .before .before .before .before .before .before .before .if1 .left) (c .before .before .before .before .before .before .before .before .before .before .before .before .before .before .before .before .before .before .pre .0 .1)) (c .before .before .before .before .before .before .before .before .before .put-layer-line .ensures) (c .before .before .before .put-line .ensures .0) (c .before .before .before .put-line .ensures .1) (part-few h (c .before .before .before .before .before .before .before .before .before .before .before .before .before .before .before .move-shape .last .1 .0))
+returns-3 c = λ h chain ts carries. shape-near h chain ts (c .before .before .before .before .before .before .before .before .before .before .before .before .before .before .before .before .before .before .args .net) carries (c .before .before .before .before .before .before .before .before .before .before .before .before .before .before .before .before .before .before .args .place) (c .before .before .before .before .before .before .before .before .before .before .before .before .before .before .before .before .before .before .args .layer) (c .before .before .before .before .before .before .before .before .before .before .before .before .before .before .before .move-shape .ensures h) (c .before .before .before .before .before .before .before .before .before .before .before .before .before .before .before .before .before .before .args .counts) (c .before .before .before .before .before .before .before .before .before .before .before .before .before .before .before .before .before .before .args .before) (c .before .before .before .before .before .before .before .before .before .before .before .before .before .if1 .left) (c .before .before .before .before .before .before .before .before .before .before .before .if2 .left) (c .before .before .before .before .before .before .before .before .before .before .before .before .before .before .before .before .before .before .pre .1 .1) (part-is h chain ts (c .before .before .before .before .before .before .before .before .before .before .before .before .before .before .before .before .before .before .args .net) carries (c .before .before .before .before .before .before .before .before .before .before .before .before .before .before .before .before .before .before .args .place) (c .before .before .before .before .before .before .before .before .before .before .before .before .before .before .before .before .before .before .args .layer) (c .before .before .before .before .before .before .before .before .before .before .before .before .before .before .before .move-shape .ensures h) (c .before .before .before .before .before .before .before .before .before .before .before .before .before .before .before .before .before .before .pre .0 .1)) (c .before .before .before .before .before .before .before .before .before .put-layer-line .ensures) (c .before .before .before .put-line .ensures .0) (c .before .before .before .put-line .ensures .1) (part-few h (c .before .before .before .before .before .before .before .before .before .before .before .before .before .before .before .move-shape .last .1 .0))
 
 pub draw-shape-spec : {M : Type 1} → statement M
 draw-shape-spec =

@@ -1,6 +1,7 @@
--- Points moved one by one, and a shape's numbers: where no point is beyond the range they stand in their final places.
+-- Points moved one by one, and a shape's numbers: they stand in their final places, and it is known whether a point is beyond the range. A part of
+-- them is the definition's `numbersOfShape` of the moved shape.
 -- Assumes nothing.
-use mathlib.Core.Path.{_≡_, refl, sym, ap, _∙_, subst}
+use mathlib.Core.Path.{_≡_, refl, sym, ap, _∙_}
 use mathlib.Core.Bool.{Bool, true, false, _||_}
 use mathlib.Core.List.{List, [], _∷_, _++_, map, append-assoc, append-nil}
 use Prim.Native.Nat.{ℕ, suc, _+_, _-_, _*_, _^_, _≤_, _<_}
@@ -10,25 +11,24 @@ use lib.IntN.{ℤ, pos}
 use mir.Syntax.{w32}
 use mir.Val.{ofZ, toZ}
 use lib.Signed.{mag}
-use lib.ListN.{List·getD-append, length, drop, getD, set, length-append, length-drop}
+use lib.ListN.{List·getD-append, length, drop, getD, set, length-append}
 use lib.Seq.{sets, length-sets, getD-drop, drop-drop, drop-append-seam, getD-append-add}
 use Rattle.definition.specs.Commands.{Shape, Kind, box, flash, wire, polygon}
 use Rattle.definition.specs.Flat.{letterOf}
-use Rattle.drawing.specs.Voices.{sizeCount, directionCount}
 use Rattle.definition.specs.Words.{Point, point, any}
 use Rattle.definition.specs.Faults.{beyond, both}
 use Rattle.turns.specs.Nets.{asPoint, apply, turned}
 use Rattle.turns.specs.declared.Net.{Net}
 use Rattle.turns.specs.declared.Pair.{Pair}
 use Rattle.turns.proofs.Signed.{told}
-use Rattle.reading.proofs.Wording.{sets-append}
-use Rattle.drawing.specs.Moves.{Pointed, Moves, ShapedAt, MovesShape}
+use Rattle.pen.specs.Moves.{sizeCount, directionCount, Pointed, Moves, ShapedAt, MovesShape}
+use Rattle.pen.proofs.Writing.{sets-append}
 
 both-++ : (a b : List (Point ℤ)) → both (a ++ b) ≡ both a ++ both b
 both-++ [] b = refl
 both-++ (p ∷ a) b = ap (λ (l : List ℤ). p .x ∷ p .y ∷ l) (both-++ a b)
 
-map-both : (f : Point ℤ → Point ℤ) (a : List (Point ℤ)) → length (both (map f a)) ≡ length (both a)
+pub map-both : (f : Point ℤ → Point ℤ) (a : List (Point ℤ)) → length (both (map f a)) ≡ length (both a)
 map-both f [] = refl
 map-both f (p ∷ a) = ap (λ (n : ℕ). suc (suc n)) (map-both f a)
 
@@ -41,8 +41,8 @@ any-++ t (x ∷ a) b = ap (λ (r : Bool). t x || r) (any-++ t a b) ∙ go (t x)
     go true = refl
     go false = refl
 
--- between two points: those done are near and in their places, and those left stand from here on
-pub record Moving (words : List ℤ) (end : ℕ) (net : Net) (points : List (Point ℤ)) (numbers₀ : List ℤ) (from i : ℕ) (numbers : List ℤ) : Type 0 where
+-- between two points: those done are in their places, and those left stand from here on
+pub record Moving (words : List ℤ) (end : ℕ) (net : Net) (points : List (Point ℤ)) (numbers₀ : List ℤ) (from i : ℕ) (far : Bool) (numbers : List ℤ) : Type 0 where
   pub done : List (Point ℤ)
   pub left : List (Point ℤ)
   pub rest : List ℤ
@@ -50,10 +50,10 @@ pub record Moving (words : List ℤ) (end : ℕ) (net : Net) (points : List (Poi
   pub are : drop i words ≡ both left ++ rest
   pub here : i ≡ from + length (both done)
   pub ends : i + length (both left) ≡ end
-  pub near : any beyond (both done) ≡ false
+  pub test : far ≡ any beyond (both done)
   pub laid : numbers ≡ sets numbers₀ from (both done)
 
-pub begin : {words : List ℤ} {from end : ℕ} (net : Net) (numbers : List ℤ) (h : Pointed words from end) → Moving words end net (h .points) numbers from from numbers
+pub begin : {words : List ℤ} {from end : ℕ} (net : Net) (numbers : List ℤ) (h : Pointed words from end) → Moving words end net (h .points) numbers from from false numbers
 unfolding any
 begin {from = from} net numbers h = record {
   done = [];
@@ -63,7 +63,7 @@ begin {from = from} net numbers h = record {
   are = h .are;
   here = sym (add-zero from);
   ends = h .ends;
-  near = refl;
+  test = refl;
   laid = refl;
 }
 
@@ -86,77 +86,73 @@ next-of words i end (p ∷ q) rest h e f = record {
     on : (k n : ℕ) → n ≡ i + k → getD words n (pos 0) ≡ getD (p .x ∷ p .y ∷ (both q ++ rest)) k (pos 0)
     on k n g = ap (λ (m : ℕ). getD words m (pos 0)) g ∙ (sym (getD-drop i words k (pos 0)) ∙ ap (λ (l : List ℤ). getD l k (pos 0)) e)
 
-module _ {words : List ℤ} {end : ℕ} {net : Net} {points : List (Point ℤ)} {numbers₀ : List ℤ} {from i : ℕ} {numbers : List ℤ} (g : Moving words end net points numbers₀ from i numbers) where
+module _ {words : List ℤ} {end : ℕ} {net : Net} {points : List (Point ℤ)} {numbers₀ : List ℤ} {from i : ℕ} {far : Bool} {numbers : List ℤ}
+    (g : Moving words end net points numbers₀ from i far numbers) where
   pub numbers-length : length numbers ≡ length numbers₀
   numbers-length = ap length (g .laid) ∙ length-sets numbers₀ from (both (g .done))
 
   pub pair-fits : i < end → i + 2 ≤ end
   pair-fits h = let n = next-of words i end (g .left) (g .rest) h (g .are) (g .ends) in omega (arith, n .ends)
 
-  module _ (h : i < end) (r : Pair) (e : asPoint r ≡ apply net (point (getD words i (pos 0)) (getD words (i + 1) (pos 0)))) where
-    n : Next words i end (g .left) (g .rest)
-    n = next-of words i end (g .left) (g .rest) h (g .are) (g .ends)
+  -- one point more, as `place_at` tells it
+  pub one-point : i < end → (b : Bool) (numbers′ : List ℤ)
+      → ((p : Point ℤ) → p ≡ apply net (point (getD words i (pos 0)) (getD words (i + 1) (pos 0))) → (b ≡ (beyond (p .x) || beyond (p .y))) × (numbers′ ≡ sets numbers i (p .x ∷ p .y ∷ [])))
+      → (far′ : Bool) → far′ ≡ (far || b) → Moving words end net points numbers₀ from (i + 2) far′ numbers′
+  unfolding any
+  one-point h b numbers′ told far′ e =
+      let n = next-of words i end (g .left) (g .rest) h (g .are) (g .ends) in
+      let p = apply net (point (getD words i (pos 0)) (getD words (i + 1) (pos 0))) in
+      let new = p .x ∷ p .y ∷ [] in
+      let d = both (g .done) in
+      let joined : both (g .done ++ (p ∷ [])) ≡ d ++ new = both-++ (g .done) (p ∷ []) in
+      record {
+        done = g .done ++ (p ∷ []);
+        left = n .more;
+        rest = g .rest;
+        parts =
+            g .parts
+            ∙ (ap (λ (l : List (Point ℤ)). g .done ++ map (apply net) l) (n .are) ∙ sym (append-assoc (g .done) (p ∷ []) (map (apply net) (n .more))));
+        are = n .then-on;
+        here = omega (arith, g .here, ap length joined, length-append d new);
+        ends = n .ends;
+        test =
+            e
+            ∙ (ap (λ (t : Bool). far || t) (told p refl .0)
+            ∙ (ap (λ (t : Bool). t || (beyond (p .x) || beyond (p .y))) (g .test)
+            ∙ (two (any beyond d) (beyond (p .x)) (beyond (p .y)) ∙ (sym (any-++ beyond d new) ∙ ap (any beyond) (sym joined)))));
+        laid =
+            told p refl .1
+            ∙ (ap (λ (m : List ℤ). sets m i new) (g .laid)
+            ∙ (ap (λ (m : ℕ). sets (sets numbers₀ from d) m new) (g .here) ∙ (sets-append numbers₀ from d new ∙ ap (sets numbers₀ from) (sym joined))));
+      }
+    where
+      two : (t x y : Bool) → (t || (x || y)) ≡ (t || (x || (y || false)))
+      two true x y = refl
+      two false true y = refl
+      two false false true = refl
+      two false false false = refl
 
-    split : map (apply net) points ≡ g .done ++ (asPoint r ∷ map (apply net) (n .more))
-    split = g .parts ∙ (ap (λ (l : List (Point ℤ)). g .done ++ map (apply net) l) (n .are) ∙ ap (λ (p : Point ℤ). g .done ++ (p ∷ map (apply net) (n .more))) (sym e))
-
-    pub far-point : (beyond (r .x) || beyond (r .y)) ≡ true → (numbers′ : List ℤ) → Moves net points numbers₀ from true numbers′
-    unfolding any
-    far-point t numbers′ =
-        let rest = both (map (apply net) (n .more)) in
-        record {
-          test =
-              sym
-              (ap (λ (l : List (Point ℤ)). any beyond (both l)) split
-              ∙ (ap (any beyond) (both-++ (g .done) (asPoint r ∷ map (apply net) (n .more)))
-              ∙ (any-++ beyond (both (g .done)) (r .x ∷ r .y ∷ rest) ∙ (rw (g .near) (two (beyond (r .x)) (beyond (r .y)) (any beyond rest) t)))));
-          laid = λ z. absurd (let y : _≡_ {A = ℕ} 0 1 = cc in omega arith);
-        }
-      where
-        two : (a b c : Bool) → (a || b) ≡ true → (a || (b || c)) ≡ true
-        two true b c t = refl
-        two false true c t = refl
-        two false false c t = absurd (let z : _≡_ {A = ℕ} 0 1 = cc in omega arith)
-
-    pub near-point : (beyond (r .x) || beyond (r .y)) ≡ false → (k : ℕ) (numbers′ : List ℤ) → k ≡ i + 2 → numbers′ ≡ sets numbers i (r .x ∷ r .y ∷ [])
-        → Moving words end net points numbers₀ from k numbers′
-    unfolding any
-    near-point t k numbers′ ek l =
-        let d = both (g .done) in
-        let joined : both (g .done ++ (asPoint r ∷ [])) ≡ d ++ (r .x ∷ r .y ∷ []) = both-++ (g .done) (asPoint r ∷ []) in
-        record {
-          done = g .done ++ (asPoint r ∷ []);
-          left = n .more;
-          rest = g .rest;
-          parts = split ∙ sym (append-assoc (g .done) (asPoint r ∷ []) (map (apply net) (n .more)));
-          are = ap (λ (m : ℕ). drop m words) ek ∙ n .then-on;
-          here = omega (arith, ek, g .here, ap length joined, length-append d (r .x ∷ r .y ∷ []));
-          ends = omega (arith, ek, n .ends);
-          near = ap (any beyond) joined ∙ (any-++ beyond d (r .x ∷ r .y ∷ []) ∙ rw (g .near) (two (beyond (r .x)) (beyond (r .y)) t));
-          laid =
-              l
-              ∙ (ap (λ (m : List ℤ). sets m i (r .x ∷ r .y ∷ [])) (g .laid)
-              ∙ (ap (λ (m : ℕ). sets (sets numbers₀ from d) m (r .x ∷ r .y ∷ [])) (g .here)
-              ∙ (sets-append d (r .x ∷ r .y ∷ []) numbers₀ from ∙ ap (sets numbers₀ from) (sym joined))));
-        }
-      where
-        two : (a b : Bool) → (a || b) ≡ false → (a || (b || false)) ≡ false
-        two false false t = refl
-        two false true t = t
-        two true b t = t
-
-  pub all-near : end ≤ i → Moves net points numbers₀ from false numbers
-  all-near h =
+  pub all-moved : end ≤ i → Moves net points numbers₀ from far numbers
+  all-moved h =
       let z : g .left ≡ [] = none-left (g .left) (omega (arith, g .ends)) in
       let e : map (apply net) points ≡ g .done = g .parts ∙ (ap (λ (l : List (Point ℤ)). g .done ++ map (apply net) l) z ∙ append-nil (g .done)) in
       record {
-        test = sym (ap (λ (l : List (Point ℤ)). any beyond (both l)) e ∙ g .near);
-        laid = λ t. g .laid ∙ ap (λ (l : List (Point ℤ)). sets numbers₀ from (both l)) (sym e);
+        test = g .test ∙ ap (λ (l : List (Point ℤ)). any beyond (both l)) (sym e);
+        laid = g .laid ∙ ap (λ (l : List (Point ℤ)). sets numbers₀ from (both l)) (sym e);
       }
     where
       none-left : (l : List (Point ℤ)) → length (both l) ≡ 0 → l ≡ []
       none-left [] q = refl
       none-left (p ∷ l) q = absurd (omega (arith, q))
+
+-- whether any was beyond, and one more
+pub one-far : (far b : Bool) → b ≡ true → true ≡ (far || b)
+one-far true b e = refl
+one-far false b e = sym e
+
+pub none-far : (far b : Bool) → b ≡ false → far ≡ (far || b)
+none-far true b e = refl
+none-far false b e = sym e
 
 -- what a call gets and gives, unwrapped from its bits
 pub point-told : (net : Net) (r : Pair) (x y : ℤ) → mag x < 2 ^ 31 → mag y < 2 ^ 31 → asPoint r ≡ apply net (point (toZ w32 (ofZ w32 x)) (toZ w32 (ofZ w32 y))) → asPoint r ≡ apply net (point x y)
@@ -284,13 +280,12 @@ module _ {words : List ℤ} {letter end : ℕ} (h : ShapedAt words letter end) w
         record {
           test = m .test;
           laid =
-              λ z.
               e
-              ∙ (ap (λ (x : List ℤ). sets x to D) (m .laid z)
+              ∙ (ap (λ (x : List ℤ). sets x to D) (m .laid)
               ∙ (ap (λ (n : ℕ). sets (sets numbers₁ from P) n D) u
-              ∙ (sets-append P D numbers₁ from
+              ∙ (sets-append numbers₁ from P D
               ∙ (ap (λ (x : List ℤ). sets x from (P ++ D)) l
-              ∙ (ap (λ (n : ℕ). sets (sets numbers 2 S) n (P ++ D)) f ∙ sets-append S (P ++ D) numbers 2)))));
+              ∙ (ap (λ (n : ℕ). sets (sets numbers 2 S) n (P ++ D)) f ∙ sets-append numbers 2 S (P ++ D))))));
         }
 
     none-aimed : {s : ℕ} → Counted (k .kind) s 0 → (x : List ℤ) (to : ℕ) → x ≡ sets x to (both (map (turned net) (k .directions)))

@@ -1,0 +1,94 @@
+-- A shape's numbers from its words under a net transformation: each stands in the run of numbers where its word stands in the run of words, and the
+-- shape's line has them in this order. A running account, not to be believed: proofs/Moves.antt proves that they are those of the definition's `moved`.
+-- Assumes nothing.
+use mathlib.Core.Path.{_≡_}
+use mathlib.Core.Bool.{Bool, true, false}
+use mathlib.Core.List.{List, _++_, map}
+use Prim.Native.Nat.{ℕ, _+_, _≤_}
+use lib.IntN.{ℤ}
+use lib.ListN.{length, drop}
+use lib.Seq.{sets}
+use Rattle.definition.specs.Words.{Point, any}
+use Rattle.definition.specs.Commands.{Shape, shapeOf, Kind, box, flash, wire, polygon}
+use Rattle.definition.specs.Faults.{beyond, both}
+use Rattle.definition.specs.Flat.{spaced, letterOf, numbersOfShape, line}
+use Rattle.turns.specs.Nets.{apply, turned}
+use Rattle.turns.specs.declared.Net.{Net}
+use Rattle.pen.specs.Writes.{Writes}
+use Rattle.pen.specs.declared.Lined.{Lined}
+use Rattle.pen.specs.declared.Lined.the-variants.{Beyond, Written}
+
+-- ---- the words
+
+-- how many sizes and directions a shape of each kind has
+unfoldable pub sizeCount : Kind → ℕ
+sizeCount box = 2
+sizeCount flash = 1
+sizeCount wire = 1
+sizeCount polygon = 0
+
+unfoldable pub directionCount : Kind → ℕ
+directionCount box = 1
+directionCount flash = 0
+directionCount wire = 0
+directionCount polygon = 0
+
+-- the most numbers of a command
+abbrev pub mostValues : ℕ
+mostValues = 2049
+
+-- a letter and numbers that are a shape's
+pub record Shaped (letter : ℕ) (values : List ℤ) (k : Shape ℤ) : Type 0 where
+  pub letter-is : letter ≡ letterOf (k .kind)
+  pub values-are : values ≡ numbersOfShape k
+  pub sizes : length (k .sizes) ≡ sizeCount (k .kind)
+  pub directions : length (k .directions) ≡ directionCount (k .kind)
+
+-- the words behind the first two, up to this place, are a shape's
+pub record ShapedAt (words : List ℤ) (letter end : ℕ) : Type 0 where
+  pub shape : Shape ℤ
+  pub values : List ℤ
+  pub rest : List ℤ
+  pub are : drop 2 words ≡ values ++ rest
+  pub ends : end ≡ 2 + length values
+  pub few : length values ≤ mostValues
+  pub shaped : Shaped letter values shape
+  pub within : end ≤ length words
+
+-- the words from this place up to that one are points
+pub record Pointed (words : List ℤ) (from end : ℕ) : Type 0 where
+  pub points : List (Point ℤ)
+  pub rest : List ℤ
+  pub are : drop from words ≡ both points ++ rest
+  pub ends : from + length (both points) ≡ end
+  pub within : end ≤ length words
+
+-- ---- what is made of them
+
+-- all points stand in their places, and whether one of them is beyond the range
+pub record Moves (net : Net) (points : List (Point ℤ)) (numbers : List ℤ) (from : ℕ) (far : Bool) (numbers′ : List ℤ) : Type 0 where
+  pub test : far ≡ any beyond (both (map (apply net) points))
+  pub laid : numbers′ ≡ sets numbers from (both (map (apply net) points))
+
+-- a shape in its final place
+abbrev pub placed : Net → Shape ℤ → Shape ℤ
+placed net k = shapeOf (k .kind) (k .sizes) (map (apply net) (k .points)) (map (turned net) (k .directions))
+
+abbrev pub placedNumbers : Net → Shape ℤ → List ℤ
+placedNumbers net k = numbersOfShape (placed net k)
+
+abbrev pub isFar : Net → Shape ℤ → Bool
+isFar net k = any beyond (both (placed net k .points))
+
+pub record MovesShape (net : Net) (k : Shape ℤ) (numbers : List ℤ) (far : Bool) (numbers′ : List ℤ) : Type 0 where
+  pub test : far ≡ isFar net k
+  pub laid : numbers′ ≡ sets numbers 2 (placedNumbers net k)
+
+-- the line of a shape in its final place, or none, where a point of it is beyond the range
+unfoldable pub LineOf : Net → Shape ℤ → ℕ → List ℕ → Lined → List ℕ → Type 0
+LineOf net k at room Beyond room′ = (isFar net k ≡ true) × (room′ ≡ room)
+LineOf net k at room (Written next) room′ = (isFar net k ≡ false) × Writes room room′ at next (line (letterOf (k .kind)) (spaced (placedNumbers net k)))
+
+pub record PutsShape (net : Net) (k : Shape ℤ) (at : ℕ) (numbers : List ℤ) (room : List ℕ) (r : Lined) (numbers′ : List ℤ) (room′ : List ℕ) : Type 0 where
+  pub laid : numbers′ ≡ sets numbers 2 (placedNumbers net k)
+  pub lined : LineOf net k at room r room′
