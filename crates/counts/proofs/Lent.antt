@@ -15,12 +15,15 @@ use mir.Val.{Val, vptr}
 use base.Logic.{SProp, ent, sep}
 use base.Stored.{Gv}
 use base.Fml.{GName, Lft, Share, ftrue, fat, flft, fobs, fauth, fbor, fobor}
-use prog.Wp.{Heap, WpFn, Tables}
+use prog.Model.{Model}
+use prog.Routine.{Env, Name}
+use prog.Wp.{Heap, WpFn, Closed}
 use ghost.Atoms.{Atoms}
-use contract.Monad.{fact}
+use contract.Monad.{Fun, fact}
+use contract.Running.{Running, GhostRules, givenOf, tables, tablesOf}
 use types.Kit.{Given, Goal, Item, Seq, Step, step, Soaks, ‵, _⊛_, ⋆, _$_, _∵_, !, qed, move, drop, split, join, fsplit, fsplit3, fjoin, fjoin3, feqI, suffices, frame, done}
 use types.SemTy.{Body}
-use sound.WpLaws.{WpFn-mono}
+use sound.WpLaws.{FmC, fmOf, WpFn-mono}
 use denote.RattleType.{RattleType, owns}
 use denote.Laws.{Is, shows}
 use denote.Memory.{mem}
@@ -32,7 +35,8 @@ use denote.Struct.Laws as LL
 use denote.Exit.{yes}
 use denote.Triple.Clauses.{Clauses, Ended, closing}
 use denote.Triple.Entry.{onEntry}
-use denote.Triple.Spec.{Meets}
+use denote.Triple.Spec.{Meets, tripleOf}
+use denote.Triple.Table.{entered}
 use denote.Triple.Walked.{says, Stays, stay-ref, walkOf, goes-ref, ends-at, walked, walk-meets}
 use Rattle.counts.specs.declared.Counts.{Counts}
 use Rattle.counts.proofs.Counts as T
@@ -91,10 +95,26 @@ module _ {M : Type 1} (𝓤 : URA M) (H : Heap 𝓤) (A : Atoms 𝓤) (W : Given
   abbrev pub Entry : Lft → Share → ℕ → ℕ → GName → Counts → SProp 𝓤
   Entry κ q b o γ h = sep 𝓤 (onEntry 𝓤 H A (signature Q) (κ, tt) (q, tt) (lent b o γ h, tt) (vptr b o ∷ [], tt)) (asks h)
 
-  pub meets : (𝓣 : Tables 𝓤 H) (f : Fn)
-      → ((κ : Lft) (q : Share) (b o : ℕ) (γ : GName) (h : Counts) → ent 𝓤 (Entry κ q b o γ h) (WpFn 𝓤 H (𝓣 .C) (𝓣 .Λ) f (vptr b o ∷ []) (Post κ q b o γ h)))
-      → Meets 𝓤 H A (signature Q) (WpFn 𝓤 H (𝓣 .C) (𝓣 .Λ) f) (closing 𝓤 H A (ended Q) (clauses 𝓤 Q asks ensures))
-  meets 𝓣 f walk =
-      walk-meets 𝓤 H A (ended Q) (stayed Q) W (goes-ref 𝓤 H A W 1 0 tt (plain (λ _. T.the-row)), tt) (clauses 𝓤 Q asks ensures) (WpFn 𝓤 H (𝓣 .C) (𝓣 .Λ) f) (WpFn-mono 𝓤 H (W .laws) 𝓣 f)
-      (walked 𝓤 H A (ended Q) (stayed Q) (clauses 𝓤 Q asks ensures) (WpFn 𝓤 H (𝓣 .C) (𝓣 .Λ) f) (λ κs. (ptr-vals, tt)) (λ κs. (mut-tells (named 0) (κs .0) T.the-row, tt))
-      (λ κs qs bounds a g are. walk (κs .0) (qs .0) (a .0 .ptr .0) (a .0 .ptr .1) (a .0 .name) (a .0 .now)))
+-- the machine's own tables, in which the names that the code calls mean γ
+module _ {M : Type 1} (𝓤 : URA M) (H : Heap 𝓤) (𝓜 : Model 𝓤 H) (𝓖 : GhostRules 𝓤 H) (𝓡 : Running 𝓤 H 𝓜) (γ : Env) where
+  pub frames : FmC 𝓤 H (givenOf 𝓤 H 𝓜 𝓖 .laws) (tables 𝓤 H 𝓜 𝓡 γ .C)
+  unfolding tablesOf
+  frames = fmOf 𝓤 H (givenOf 𝓤 H 𝓜 𝓖 .laws) (tablesOf 𝓤 H 𝓜 (tables 𝓤 H 𝓜 𝓡 γ))
+
+  module _ (Q : RattleType) (asks : Counts → SProp 𝓤) (ensures : Counts → Q .Denot → Counts → Type 0) where
+    abbrev W : Given 𝓤 H (𝓖 .A)
+    W = givenOf 𝓤 H 𝓜 𝓖
+
+    abbrev wp : Fn → Fun 𝓤
+    wp f = WpFn 𝓤 H (tables 𝓤 H 𝓜 𝓡 γ .C) (tables 𝓤 H 𝓜 𝓡 γ .Λ) f
+
+    pub meets : (name : Name) (f : Fn) → Closed 𝓤 H (tables 𝓤 H 𝓜 𝓡 γ .C) (tables 𝓤 H 𝓜 𝓡 γ .Λ) name f
+        → ((κ : Lft) (q : Share) (b o : ℕ) (δ : GName) (h : Counts) → ent 𝓤 (Entry 𝓤 H (𝓖 .A) W Q asks ensures κ q b o δ h) (wp f (vptr b o ∷ []) (Post 𝓤 H (𝓖 .A) W Q asks ensures κ q b o δ h)))
+        → Meets 𝓤 H (𝓖 .A) (signature Q) (𝓡 .run (γ name)) (closing 𝓤 H (𝓖 .A) (ended Q) (clauses 𝓤 Q asks ensures))
+    unfolding tablesOf
+    meets name f closed walk =
+        entered 𝓤 H (tripleOf 𝓤 H (𝓖 .A) (signature Q) (closing 𝓤 H (𝓖 .A) (ended Q) (clauses 𝓤 Q asks ensures))) (tables 𝓤 H 𝓜 𝓡 γ .C) (tables 𝓤 H 𝓜 𝓡 γ .Λ) name f closed
+        (walk-meets 𝓤 H (𝓖 .A) (ended Q) (stayed Q) W (goes-ref 𝓤 H (𝓖 .A) W 1 0 tt (plain (λ _. T.the-row)), tt) (clauses 𝓤 Q asks ensures)
+        (wp f) (WpFn-mono 𝓤 H (W .laws) (tablesOf 𝓤 H 𝓜 (tables 𝓤 H 𝓜 𝓡 γ)) f)
+        (walked 𝓤 H (𝓖 .A) (ended Q) (stayed Q) (clauses 𝓤 Q asks ensures) (wp f) (λ κs. (ptr-vals, tt)) (λ κs. (mut-tells (named 0) (κs .0) T.the-row, tt))
+        (λ κs qs bounds a g are. walk (κs .0) (qs .0) (a .0 .ptr .0) (a .0 .ptr .1) (a .0 .name) (a .0 .now))))

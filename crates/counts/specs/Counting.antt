@@ -29,6 +29,15 @@ tally c = counts (c .calls) (c .shapes) (c .redefinitions)
 abbrev pub tried : (had most refusal : ℕ) → Tried
 tried had most refusal = if ltb had most then record { count = had + 1; refusal = 0 } else record { count = had; refusal = refusal }
 
+-- the contracts on the record lent: the refusal's number, 0 for none, and the whole record afterwards
+pub record AddsCall (c : Counts) (r : ℕ) (c′ : Counts) : Type 0 where
+  pub refuses : r ≡ tried (c .calls) mostCalls 15 .refusal
+  pub leaves : c′ ≡ record { calls = tried (c .calls) mostCalls 15 .count; shapes = c .shapes; redefinitions = c .redefinitions }
+
+pub record AddsShape (c : Counts) (r : ℕ) (c′ : Counts) : Type 0 where
+  pub refuses : r ≡ tried (c .shapes) mostShapes 17 .refusal
+  pub leaves : c′ ≡ record { calls = c .calls; shapes = tried (c .shapes) mostShapes 17 .count; redefinitions = c .redefinitions }
+
 -- the counts afterwards are answered, or the refusal's number
 abbrev pub answered : ℕ → Counts → Counted
 answered refusal c = if eqb refusal 0 then More c else Full refusal

@@ -2,7 +2,7 @@
 // calls a covered function on the numbers. Their callers stand below, with the record by value in and out: whoever calls those needs no walk by hand.
 ghost use mathlib.Core.Path.{_≡_};
 ghost use Prim.Native.Nat.{_+_, _<_, _^_};
-ghost use Rattle.counts.specs.Counting.{mostCalls, mostShapes, tried, answered, CountsCall, CountsShape, CountsRedefinition};
+ghost use Rattle.counts.specs.Counting.{tried, answered, AddsCall, AddsShape, CountsCall, CountsShape, CountsRedefinition};
 
 // 01, refusals 15 and 17: the most calls and the most shapes that are drawn.
 const MOST_CALLS: usize = 1_048_576;
@@ -77,7 +77,7 @@ fn answer(refusal: usize, counts: Counts) -> Counted
 
 // One call more, or 15.
 fn add_call(counts: &mut Counts) -> usize
-    ensures { λ r. ⌜ (r ≡ tried (now (counts .entry) .calls) mostCalls 15 .refusal) × (now (counts .exit) ≡ record { calls = tried (now (counts .entry) .calls) mostCalls 15 .count; shapes = now (counts .entry) .shapes; redefinitions = now (counts .entry) .redefinitions }) ⌝ }
+    ensures { λ r. ⌜ AddsCall (now (counts .entry)) r (now (counts .exit)) ⌝ }
 {
     let tried = one_more(counts.calls, MOST_CALLS, 15);
     counts.calls = tried.count;
@@ -86,7 +86,7 @@ fn add_call(counts: &mut Counts) -> usize
 
 // One shape more, or 17.
 fn add_shape(counts: &mut Counts) -> usize
-    ensures { λ r. ⌜ (r ≡ tried (now (counts .entry) .shapes) mostShapes 17 .refusal) × (now (counts .exit) ≡ record { calls = now (counts .entry) .calls; shapes = tried (now (counts .entry) .shapes) mostShapes 17 .count; redefinitions = now (counts .entry) .redefinitions }) ⌝ }
+    ensures { λ r. ⌜ AddsShape (now (counts .entry)) r (now (counts .exit)) ⌝ }
 {
     let tried = one_more(counts.shapes, MOST_SHAPES, 17);
     counts.shapes = tried.count;

@@ -1,4 +1,0 @@
-use Rattle.counts.proofs.clear.Statement.{statement}
-
-pub clear-spec : {M : Type 1} → statement M
-clear-spec 𝓤 H 𝓜 𝓖 𝓡 = ?
