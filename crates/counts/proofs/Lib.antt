@@ -1,2 +1,4 @@
+mod Covered
 mod Lent
-mod Thin
+mod Fields
+mod Limited
