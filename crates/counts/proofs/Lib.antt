@@ -2,3 +2,6 @@ mod Covered
 mod Lent
 mod Fields
 mod Limited
+mod Valued
+mod Answering
+mod Handing

@@ -25,6 +25,10 @@ mostShapes = 1048576
 abbrev pub tally : Counts → Tally
 tally c = counts (c .calls) (c .shapes) (c .redefinitions)
 
+-- nothing is counted
+abbrev pub zero : Counts
+zero = record { calls = 0; shapes = 0; redefinitions = 0 }
+
 -- one more of what is counted, up to the most that there may be
 abbrev pub tried : (had most refusal : ℕ) → Tried
 tried had most refusal = if ltb had most then record { count = had + 1; refusal = 0 } else record { count = had; refusal = refusal }
