@@ -5,3 +5,4 @@ mod Limited
 mod Valued
 mod Answering
 mod Handing
+pub mod Told
