@@ -2,7 +2,7 @@
 --     call-counted, shape-counted, redefinition-counted    from what the thin function leaves and answers
 --     call-more, call-full, shape-more, shape-full         for callers: what each answer tells of the counts before it
 -- Assumes nothing.
-use mathlib.Core.Path.{_≡_, refl, sym, ap, _∙_, subst}
+use mathlib.Core.Path.{_≡_, refl, sym, ap, _∙_}
 use mathlib.Core.Bool.{Bool, true, false}
 use Prim.Native.Nat.{ℕ, _+_, _≤_, _<_}
 use native.Mathlib.Omega.{arith}
@@ -10,7 +10,7 @@ use borrow.Author.Tests.{ltb-true, ltb-false}
 use lib.Dec.{eqb, ltb}
 use Rattle.definition.specs.Words.{if_then_else_}
 use Rattle.definition.specs.Drawing.{Chain}
-use Rattle.definition.specs.Counts.{End, finished, stopped, counted}
+use Rattle.definition.specs.Counts.{finished, stopped, counted}
 use Rattle.counts.specs.declared.Counts.{Counts}
 use Rattle.counts.specs.declared.Counted.{Counted}
 use Rattle.counts.specs.declared.Counted.the-variants.{More, Full}

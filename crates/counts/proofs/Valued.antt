@@ -19,7 +19,7 @@ use prog.Wp.{Heap, Env, Calls, Loops, WpFn, Closed}
 use ghost.Atoms.{Atoms}
 use contract.Monad.{Fun, fact}
 use contract.Running.{Running, GhostRules, givenOf, tables, tablesOf}
-use types.Kit.{Given, Item, Seq, Post, runs, lands, ‵, raw, _⊛_, ⋆, some, later, _$_, _∵_, !, qed, by, move, drop, use1, use3, split, join, pick, fsplit, fjoin, fpick, fpack, suffices, frame, await, done}
+use types.Kit.{Given, Item, Seq, Post, runs, lands, ‵, raw, _⊛_, ⋆, some, later, _$_, _∵_, !, qed, move, drop, use1, use3, split, join, pick, fsplit, fjoin, fpick, fpack, suffices, frame, await, done}
 use types.Run.{Opds}
 use types.SemTy.{Body as Content}
 use types.Tokens.{lft-new, lft-end}

@@ -2,7 +2,7 @@
 -- what is counted, and where a limit refuses, is said by crates/definition.
 -- Assumes nothing.
 use mathlib.Core.Path.{_≡_}
-use mathlib.Core.Bool.{Bool, true, false}
+use mathlib.Core.Bool.{false}
 use Prim.Native.Nat.{ℕ, _+_}
 use lib.Dec.{eqb, ltb}
 use Rattle.definition.specs.Words.{if_then_else_, none?}
