@@ -1,3 +1,4 @@
+mod Linked
 mod Covered
 mod Lent
 mod Fields
