@@ -12,6 +12,7 @@ use mir.Fields.{getV, setV}
 use prog.Memory.{fieldAt}
 use denote.Struct.Laws as LL
 use Rattle.counts.specs.declared.Counts.{Counts}
+use Rattle.counts.specs.Counting.{withCalls, withShapes, withRedefinitions}
 use Rattle.counts.proofs.Counts as T
 use Rattle.counts.proofs.Counts.Laws as T′
 use Rattle.counts.proofs.Lent.{Held}
@@ -28,9 +29,9 @@ count (suc zero) h = h .shapes
 count (suc (suc k)) h = h .redefinitions
 
 abbrev pub with : ℕ → Counts → ℕ → Counts
-with zero h n = record { calls = n; shapes = h .shapes; redefinitions = h .redefinitions }
-with (suc zero) h n = record { calls = h .calls; shapes = n; redefinitions = h .redefinitions }
-with (suc (suc k)) h n = record { calls = h .calls; shapes = h .shapes; redefinitions = n }
+with zero h n = withCalls h n
+with (suc zero) h n = withShapes h n
+with (suc (suc k)) h n = withRedefinitions h n
 
 abbrev pub layout : Tys
 layout = tcons (tyInt w64) (tcons (tyInt w64) (tcons (tyInt w64) tnil))

@@ -26,8 +26,18 @@ abbrev pub tally : Counts → Tally
 tally c = counts (c .calls) (c .shapes) (c .redefinitions)
 
 -- nothing is counted
-abbrev pub zero : Counts
-zero = record { calls = 0; shapes = 0; redefinitions = 0 }
+abbrev pub noCounts : Counts
+noCounts = record { calls = 0; shapes = 0; redefinitions = 0 }
+
+-- the record with another number in a field
+abbrev pub withCalls : Counts → ℕ → Counts
+withCalls c n = record { calls = n; shapes = c .shapes; redefinitions = c .redefinitions }
+
+abbrev pub withShapes : Counts → ℕ → Counts
+withShapes c n = record { calls = c .calls; shapes = n; redefinitions = c .redefinitions }
+
+abbrev pub withRedefinitions : Counts → ℕ → Counts
+withRedefinitions c n = record { calls = c .calls; shapes = c .shapes; redefinitions = n }
 
 -- one more of what is counted, up to the most that there may be
 abbrev pub tried : (had most refusal : ℕ) → Tried
@@ -36,11 +46,11 @@ tried had most refusal = if ltb had most then record { count = had + 1; refusal 
 -- the contracts on the record lent: the refusal's number, 0 for none, and the whole record afterwards
 pub record AddsCall (c : Counts) (r : ℕ) (c′ : Counts) : Type 0 where
   pub refuses : r ≡ tried (c .calls) mostCalls 15 .refusal
-  pub leaves : c′ ≡ record { calls = tried (c .calls) mostCalls 15 .count; shapes = c .shapes; redefinitions = c .redefinitions }
+  pub leaves : c′ ≡ withCalls c (tried (c .calls) mostCalls 15 .count)
 
 pub record AddsShape (c : Counts) (r : ℕ) (c′ : Counts) : Type 0 where
   pub refuses : r ≡ tried (c .shapes) mostShapes 17 .refusal
-  pub leaves : c′ ≡ record { calls = c .calls; shapes = tried (c .shapes) mostShapes 17 .count; redefinitions = c .redefinitions }
+  pub leaves : c′ ≡ withShapes c (tried (c .shapes) mostShapes 17 .count)
 
 -- the counts afterwards are answered, or the refusal's number
 abbrev pub answered : ℕ → Counts → Counted
@@ -53,13 +63,13 @@ endOf (Full number) p chain = stopped number p chain
 
 -- the contracts by value: the answer written out, and that it is the definition's
 pub record CountsCall (c : Counts) (r : Counted) : Type 0 where
-  pub is : r ≡ (if ltb (c .calls) mostCalls then More (record { calls = c .calls + 1; shapes = c .shapes; redefinitions = c .redefinitions }) else Full 15)
+  pub is : r ≡ (if ltb (c .calls) mostCalls then More (withCalls c (c .calls + 1)) else Full 15)
   pub ends : (p : ℕ) (chain : Chain) (d : Definition) → counted (tally c) (called p chain d) ≡ endOf r p chain
 
 pub record CountsShape (c : Counts) (r : Counted) : Type 0 where
-  pub is : r ≡ (if ltb (c .shapes) mostShapes then More (record { calls = c .calls; shapes = c .shapes + 1; redefinitions = c .redefinitions }) else Full 17)
+  pub is : r ≡ (if ltb (c .shapes) mostShapes then More (withShapes c (c .shapes + 1)) else Full 17)
   pub ends : (d : Drawn) → counted (tally c) (drew d) ≡ endOf r (d .place) (d .chain)
 
 pub record CountsRedefinition (c c′ : Counts) : Type 0 where
-  pub is : c′ ≡ record { calls = c .calls; shapes = c .shapes; redefinitions = c .redefinitions + 1 }
+  pub is : c′ ≡ withRedefinitions c (c .redefinitions + 1)
   pub ends : (d : Definition) (before : Table) → none? (find (d .symbol) before) ≡ false → counted (tally c) (entered d before) ≡ finished (tally c′)

@@ -2,7 +2,7 @@
 // calls a covered function on the numbers. Their callers stand below, with the record by value in and out: whoever calls those needs no walk by hand.
 ghost use mathlib.Core.Path.{_≡_};
 ghost use Prim.Native.Nat.{_+_, _<_, _^_};
-ghost use Rattle.counts.specs.Counting.{zero, tried, answered, AddsCall, AddsShape, CountsCall, CountsShape, CountsRedefinition};
+ghost use Rattle.counts.specs.Counting.{noCounts, withRedefinitions, tried, answered, AddsCall, AddsShape, CountsCall, CountsShape, CountsRedefinition};
 
 // 01, refusals 15 and 17: the most calls and the most shapes that are drawn.
 const MOST_CALLS: usize = 1_048_576;
@@ -54,7 +54,7 @@ fn next(had: usize) -> usize
 
 // Nothing is counted: as a drawing begins, and as a refusal gives the counts back.
 pub fn no_counts() -> Counts
-    ensures { λ r. ⌜ r ≡ zero ⌝ }
+    ensures { λ r. ⌜ r ≡ noCounts ⌝ }
 {
     Counts {
         calls: 0,
@@ -96,14 +96,14 @@ fn add_shape(counts: &mut Counts) -> usize
 // One redefinition more: no refusal limits them.
 fn add_redefinition(counts: &mut Counts)
     requires { ⌜ now counts .redefinitions + 1 < 2 ^ 64 ⌝ }
-    ensures { λ _. ⌜ now (counts .exit) ≡ record { calls = now (counts .entry) .calls; shapes = now (counts .entry) .shapes; redefinitions = now (counts .entry) .redefinitions + 1 } ⌝ }
+    ensures { λ _. ⌜ now (counts .exit) ≡ withRedefinitions (now (counts .entry)) (now (counts .entry) .redefinitions + 1) ⌝ }
 {
     counts.redefinitions = next(counts.redefinitions);
 }
 
 // All counts set to zero, for a refusal.
 fn clear(counts: &mut Counts)
-    ensures { λ _. ⌜ now (counts .exit) ≡ zero ⌝ }
+    ensures { λ _. ⌜ now (counts .exit) ≡ noCounts ⌝ }
 {
     *counts = no_counts();
 }
@@ -136,7 +136,7 @@ pub fn count_redefinition(counts: Counts) -> Counts
 }
 
 pub fn cleared(counts: Counts) -> Counts
-    ensures { λ r. ⌜ r ≡ zero ⌝ }
+    ensures { λ r. ⌜ r ≡ noCounts ⌝ }
 {
     let mut lent = counts;
     clear(&mut lent);

@@ -23,12 +23,13 @@ use denote.Plain.{Nothing, nothing-makes, uint-makes, uint-tells}
 use denote.Builtin.{usize}
 use denote.Steps.{heard, owned}
 use denote.Triple.Statement.{Contract, Triple}
+use Rattle.counts.specs.Counting.{withRedefinitions}
 use Rattle.counts.specs.declared.Counts.{Counts}
 use Rattle.counts.proofs.next as next
 use Rattle.counts.proofs.next.Symbol as nexts
 use Rattle.counts.proofs.next.Met as next-met
 use Rattle.counts.proofs.Covered.{Stated, calls-covered}
-use Rattle.counts.proofs.Fields.{with, fits, held}
+use Rattle.counts.proofs.Fields.{fits, held}
 use Rattle.counts.proofs.Linked.{given, frames, known}
 use Rattle.counts.proofs.Lent.{entered, shut, Post, Entry, exits, meets}
 use Rattle.counts.proofs.add_redefinition.Key.{name}
@@ -36,7 +37,7 @@ use Rattle.counts.proofs.add_redefinition.Statement.{statement}
 use Rattle.counts.proofs.add_redefinition.Code as code
 
 abbrev ensures : Counts → Unit {0} → Counts → Type 0
-ensures h r h′ = h′ ≡ with 2 h (h .redefinitions + 1)
+ensures h r h′ = h′ ≡ withRedefinitions h (h .redefinitions + 1)
 
 module _ {M : Type 1} (𝓤 : URA M) (H : Heap 𝓤) (A : Atoms 𝓤) (W : Given 𝓤 H A) (at-mem : Memory → SProp 𝓤) (run : Routine → Fun 𝓤) where
   abbrev Next : Contract 𝓤
@@ -61,11 +62,11 @@ module _ {M : Type 1} (𝓤 : URA M) (H : Heap 𝓤) (A : Atoms 𝓤) (W : Given
       land ! (from ! (stop !)) (init ! 6 refl (tt, record { fits = small })) $
       assigns ! (of-opd ! (load ! (from ! (stop !)) (look ! 6 refl))) (from ! (hop ! (look ! 8 refl) (fld ! refl (stop !))))
       (store-in ! 0 (sub ! 2 refl (whole !)) (tt, record { fits = small })) $
-      assigns ! (of-opd ! (unit-lit !)) (from ! (stop !)) (init ! 10 refl (tt, tt)) $ shut ! tt (with 2 h m) (held 2 h m small was) $
+      assigns ! (of-opd ! (unit-lit !)) (from ! (stop !)) (init ! 10 refl (tt, tt)) $ shut ! tt (withRedefinitions h m) (held 2 h m small was) $
       -- [obs; the borrow; the token; _3; …; _2; …; _1; …; _0; …]
       returns ! (look ! 9 refl) $ forget ! 3 refl $ forget ! 5 refl $ forget ! 7 refl $ forget ! 9 refl $
       move ! (9 ∷ 10 ∷ []) $ free1 ! $ move ! (7 ∷ 8 ∷ []) $ free1 ! $ move ! (5 ∷ 6 ∷ []) $ free1 ! $ move ! (3 ∷ 4 ∷ []) $ free1 ! $ free0 ! $
-      owned ! Nothing (Is Nothing) (nothing-makes 𝓤 H A W) tt _ refl $ by ! (exits 𝓤 Nothing asks ensures H A W κ q b o γ h (with 2 h m) tt vunit refl))))))))
+      owned ! Nothing (Is Nothing) (nothing-makes 𝓤 H A W) tt _ refl $ by ! (exits 𝓤 Nothing asks ensures H A W κ q b o γ h (withRedefinitions h m) tt vunit refl))))))))
 
 pub add-redefinition-spec : {M : Type 1} → statement M
 unfolding code.routine

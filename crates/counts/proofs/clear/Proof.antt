@@ -21,7 +21,7 @@ use denote.Plain.{Nothing, nothing-makes}
 use denote.Steps.{owned}
 use denote.Struct.Laws as LL
 use denote.Triple.Statement.{Contract, Triple}
-use Rattle.counts.specs.Counting.{zero}
+use Rattle.counts.specs.Counting.{noCounts}
 use Rattle.counts.specs.declared.Counts.{Counts}
 use Rattle.counts.proofs.Counts as T
 use Rattle.counts.proofs.Counts.Laws as T′
@@ -36,7 +36,7 @@ use Rattle.counts.proofs.clear.Statement.{statement}
 use Rattle.counts.proofs.clear.Code as code
 
 abbrev ensures : Counts → Unit {0} → Counts → Type 0
-ensures h r h′ = h′ ≡ zero
+ensures h r h′ = h′ ≡ noCounts
 
 module _ {M : Type 1} (𝓤 : URA M) (H : Heap 𝓤) (A : Atoms 𝓤) (W : Given 𝓤 H A) (at-mem : Memory → SProp 𝓤) (run : Routine → Fun 𝓤) where
   abbrev NoCounts : Contract 𝓤
@@ -50,15 +50,15 @@ module _ {M : Type 1} (𝓤 : URA M) (H : Heap 𝓤) (A : Atoms 𝓤) (W : Given
       alloc1 ! (λ l₀. alloc1 ! (λ l₁. alloc1 ! (λ l₂. alloc0 ! $ params1 ! $ pass1 ! (init ! 2 refl (tt, tt)) $ pass0 ! $
       move ! (7 ∷ []) $ drop ! $ move ! (6 ∷ []) $ entered ! tt (λ was.
       -- [the record's cell; the open borrow; obs; auth; room for _2; …; _1; …; room for _0; …]
-      calls-covered [] tt T.the-row 𝓤 H A (none.clauses 𝓤 H A at-mem run) W T′.lowered (LL.tells T.the-type T′.the-laws) tt tt tt tt tt (id⊢ 𝓤 _) zero (λ r ws. id⊢ 𝓤 _)
+      calls-covered [] tt T.the-row 𝓤 H A (none.clauses 𝓤 H A at-mem run) W T′.lowered (LL.tells T.the-type T′.the-laws) tt tt tt tt tt (id⊢ 𝓤 _) noCounts (λ r ws. id⊢ 𝓤 _)
       ! fm known (λ i. no-more !) (λ is.
-      land ! (from ! (stop !)) (init ! 4 refl (typed 𝓤 H A W zero is)) $
-      assigns ! (of-opd ! (load ! (from ! (stop !)) (look ! 4 refl))) (from ! (hop ! (look ! 6 refl) (stop !))) (store-raw ! 0 refl (typed 𝓤 H A W zero is)) $
-      assigns ! (of-opd ! (unit-lit !)) (from ! (stop !)) (init ! 8 refl (tt, tt)) $ shut ! tt zero is $
+      land ! (from ! (stop !)) (init ! 4 refl (typed 𝓤 H A W noCounts is)) $
+      assigns ! (of-opd ! (load ! (from ! (stop !)) (look ! 4 refl))) (from ! (hop ! (look ! 6 refl) (stop !))) (store-raw ! 0 refl (typed 𝓤 H A W noCounts is)) $
+      assigns ! (of-opd ! (unit-lit !)) (from ! (stop !)) (init ! 8 refl (tt, tt)) $ shut ! tt noCounts is $
       -- [obs; the borrow; the token; _2; …; _1; …; _0; …]
       returns ! (look ! 7 refl) $ forget ! 3 refl $ forget ! 5 refl $ forget ! 7 refl $
       move ! (7 ∷ 8 ∷ []) $ free1 ! $ move ! (5 ∷ 6 ∷ []) $ free1 ! $ move ! (3 ∷ 4 ∷ []) $ free1 ! $ free0 ! $
-      owned ! Nothing (Is Nothing) (nothing-makes 𝓤 H A W) tt _ refl $ by ! (exits 𝓤 Nothing (λ _. emp 𝓤) ensures H A W κ q b o γ h zero tt vunit refl))))))
+      owned ! Nothing (Is Nothing) (nothing-makes 𝓤 H A W) tt _ refl $ by ! (exits 𝓤 Nothing (λ _. emp 𝓤) ensures H A W κ q b o γ h noCounts tt vunit refl))))))
 
 pub clear-spec : {M : Type 1} → statement M
 unfolding code.routine

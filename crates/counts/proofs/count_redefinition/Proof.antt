@@ -3,7 +3,7 @@
 use mathlib.Core.Path.{_≡_, refl}
 use Prim.Native.Nat.{_+_, _<_, _^_}
 use contract.Monad.{fact}
-use Rattle.counts.specs.Counting.{CountsRedefinition}
+use Rattle.counts.specs.Counting.{withRedefinitions, CountsRedefinition}
 use Rattle.counts.proofs.Told.{redefinition-counted}
 use Rattle.counts.proofs.Handing.{handing-meets}
 use Rattle.counts.proofs.add_redefinition.Symbol as add-redefinition
@@ -16,5 +16,5 @@ pub count-redefinition-spec : {M : Type 1} → statement M
 unfolding code.routine
 count-redefinition-spec 𝓤 H 𝓜 𝓖 𝓡 =
     handing-meets 𝓤 H 𝓜 𝓖 𝓡 code.env name code.function (code.unfolded 𝓤 H 𝓜 𝓡) refl
-    (λ h. fact 𝓤 (h .redefinitions + 1 < 2 ^ 64)) (λ h r h′. h′ ≡ record { calls = h .calls; shapes = h .shapes; redefinitions = h .redefinitions + 1 })
+    (λ h. fact 𝓤 (h .redefinitions + 1 < 2 ^ 64)) (λ h r h′. h′ ≡ withRedefinitions h (h .redefinitions + 1))
     add-redefinition.routine code.calls-counts·add-redefinition (add-redefinition-met.met 𝓤 H 𝓜 𝓖 𝓡) CountsRedefinition redefinition-counted
