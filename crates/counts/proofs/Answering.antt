@@ -17,7 +17,8 @@ use ghost.Atoms.{Atoms}
 use contract.Monad.{Fun}
 use contract.Running.{Running, GhostRules, tables}
 use types.Kit.{Given, raw, _$_, _∵_, !, qed, by, move}
-use types.Run.{look, init, forget, stop, from, load, addr, of-opd, and-then, no-more, assigns, land, returns, enter, alloc1, alloc0, params1, pass1, pass0, free1, free0}
+use types.Run.{look, init, forget, stop, from, load, addr, of-opd, and-then, no-more, assigns, land, returns}
+use types.Run.{enter, alloc1, alloc0, params1, pass1, pass0, free1, free0}
 use sound.WpLaws.{FmC}
 use denote.Laws.{Is}
 use denote.Plain.{uint-makes, uint-tells}
@@ -71,7 +72,8 @@ module _ {M : Type 1} (𝓤 : URA M) (H : Heap 𝓤) (A : Atoms 𝓤) (W : Given
         → (h : Counts) → Held h → ent 𝓤 (emp 𝓤) (WpFn 𝓤 H C Λ (answering callee) (T′.lowered h ∷ []) (Ends 𝓤 S.the-row (λ _. emp 𝓤) ensures H A W h))
     walk C Λ fm known known-answer h is =
         qed W (raw (emp 𝓤) ∷ []) ∵ enter ! C Λ (answering callee) (T′.lowered h ∷ []) _ $
-        alloc1 ! (λ l₀. alloc1 ! (λ l₁. alloc1 ! (λ l₂. alloc1 ! (λ l₃. alloc1 ! (λ l₄. alloc1 ! (λ l₅. alloc0 ! $ params1 ! $ pass1 ! (init ! 8 refl (typed 𝓤 H A W h is)) $ pass0 ! $
+        alloc1 ! (λ l₀. alloc1 ! (λ l₁. alloc1 ! (λ l₂. alloc1 ! (λ l₃. alloc1 ! (λ l₄. alloc1 ! (λ l₅. alloc0 ! $ params1 ! $
+        pass1 ! (init ! 8 refl (typed 𝓤 H A W h is)) $ pass0 ! $
         -- [room for _5; …; room for _4; …; room for _3; …; room for _2; …; _1; …; room for _0; …; what is asked]
         assigns ! (of-opd ! (load ! (from ! (stop !)) (look ! 8 refl))) (from ! (stop !)) (init ! 6 refl (typed 𝓤 H A W h is)) $
         assigns ! (addr ! (from ! (stop !))) (from ! (stop !)) (init ! 2 refl (tt, tt)) $
@@ -86,7 +88,8 @@ module _ {M : Type 1} (𝓤 : URA M) (H : Heap 𝓤) (A : Atoms 𝓤) (W : Given
         (λ i. and-then ! (load ! (from ! (stop !)) (look ! 6 refl)) (and-then ! (load ! (from ! (stop !)) (look ! 2 refl)) (no-more !))) (λ is-a.
         land ! (from ! (stop !)) (init ! 10 refl (EL.lawful S.the-type S′.the-laws 𝓤 H A W tt .typed (answered r h′) _ is-a .0)) $
         returns ! (look ! 10 refl) $ forget ! 0 refl $ forget ! 1 refl $ forget ! 3 refl $ forget ! 5 refl $ forget ! 8 refl $ forget ! 10 refl $
-        move ! (10 ∷ 11 ∷ []) $ free1 ! $ move ! (8 ∷ 9 ∷ []) $ free1 ! $ move ! (0 ∷ 7 ∷ []) $ free1 ! $ move ! (4 ∷ 5 ∷ []) $ free1 ! $ move ! (2 ∷ 3 ∷ []) $ free1 ! $ free1 ! $ free0 ! $
+        move ! (10 ∷ 11 ∷ []) $ free1 ! $ move ! (8 ∷ 9 ∷ []) $ free1 ! $ move ! (0 ∷ 7 ∷ []) $ free1 ! $
+        move ! (4 ∷ 5 ∷ []) $ free1 ! $ move ! (2 ∷ 3 ∷ []) $ free1 ! $ free1 ! $ free0 ! $
         owned ! S.the-row (Is S.the-row) (EL.makes S.the-type S′.the-plain 𝓤 H A) (answered r h′) _ is-a $
         by ! (exits 𝓤 S.the-row (λ _. emp 𝓤) ensures H A W h (answered r h′) (EL.val S.the-type S′.the-laws (answered r h′)) is (shown h r h′ so))))))))))
 
@@ -97,7 +100,8 @@ pub answering-meets : {M : Type 1} (𝓤 : URA M) (H : Heap 𝓤) (𝓜 : Model 
     → Meets 𝓤 H (𝓖 .A) (signature S.the-row) (𝓡 .run (γ name)) (closing 𝓤 H (𝓖 .A) (ended S.the-row) (clauses 𝓤 S.the-row (λ _. emp 𝓤) ensures))
 answering-meets 𝓤 H 𝓜 𝓖 𝓡 γ is-answer name f closed {callee} is-code does routine is-callee met ensures shown =
     let W : Given 𝓤 H (𝓖 .A) = given 𝓤 H 𝓜 𝓖 𝓡 γ in
-    meets 𝓤 S.the-row (λ _. emp 𝓤) ensures H 𝓜 𝓖 𝓡 γ name (answering callee) (subst (λ (g : Fn). Closed 𝓤 H (tables 𝓤 H 𝓜 𝓡 γ .C) (tables 𝓤 H 𝓜 𝓡 γ .Λ) name g) is-code closed)
+    meets 𝓤 S.the-row (λ _. emp 𝓤) ensures H 𝓜 𝓖 𝓡 γ name (answering callee)
+    (subst (λ (g : Fn). Closed 𝓤 H (tables 𝓤 H 𝓜 𝓡 γ .C) (tables 𝓤 H 𝓜 𝓡 γ .Λ) name g) is-code closed)
     (walk 𝓤 H (𝓖 .A) W (𝓜 .mem) (𝓡 .run) callee does ensures shown (tables 𝓤 H 𝓜 𝓡 γ .C) (tables 𝓤 H 𝓜 𝓡 γ .Λ) (frames 𝓤 H 𝓜 𝓖 𝓡 γ)
     (known 𝓤 H 𝓜 𝓖 𝓡 γ (Stated 𝓤 H (𝓖 .A) usize (λ _. emp 𝓤) does) callee routine is-callee met)
     (known 𝓤 H 𝓜 𝓖 𝓡 γ (Answer 𝓤 H (𝓖 .A) W (𝓜 .mem) (𝓡 .run)) answers.name answers.routine is-answer (answer-met.met 𝓤 H 𝓜 𝓖 𝓡)))

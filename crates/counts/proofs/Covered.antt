@@ -1,5 +1,5 @@
--- A covered function is called from a walk by hand. Its parameters own only facts, so nothing of the caller's goes to it; its contract says which value it gives, so the caller goes
--- on with that value. It says nothing of the crate, and can be copied as it stands.
+-- A covered function is called from a walk by hand. Its parameters own only facts, so nothing of the caller's goes to it; its contract says which value
+-- it gives, so the caller goes on with that value. It says nothing of the crate, and can be copied as it stands.
 --     signature, ended, Stated     those of a function with plain parameters and no lifetime, and its contract as a triple
 --     calls-covered                the step: the caller shows the parameters' relations and what is asked, and goes on with the value, and that value's relation
 -- Assumes `Given`, that the table of calls is monotone under a frame, and that the callee meets its contract.
@@ -56,7 +56,8 @@ module _ (params : List (Slot 0)) (kept : Kepts params) (Q : RattleType) where
       told : (r : Q .Denot) → ent 𝓤 (ensured 𝓤 H A ended c tt a g r) (fact 𝓤 (r ≡ z))
       told r = exE 𝓤 _ (λ ws. via 𝓤 _ (snd∗ 𝓤 (sem 𝓤 H A (lasts ended tt a ws)) (c tt a .ensures g r (atExit ended tt a ws))) (says r ws))
 
-      pub calls-covered : {K : Type 0} {Γ : List (Item 𝓤)} {E : Env 𝓤 H} {C : Calls 𝓤 H} {Λ : Loops 𝓤 H} {q : Post 𝓤 H} {f : Name} {xs : List Operand} {d : Place} {rest : Body}
+      pub calls-covered : {K : Type 0} {Γ : List (Item 𝓤)} {E : Env 𝓤 H} {C : Calls 𝓤 H} {Λ : Loops 𝓤 H} {q : Post 𝓤 H} {f : Name} {xs : List Operand}
+          {d : Place} {rest : Body}
           → K → FmC 𝓤 H (W .laws) C → Triple 𝓤 (C f) Stated → ((i : Item 𝓤) → Opds K W (i ∷ Γ) E xs (flat (typesAt params tt) vss))
           → (Is Q z (val z ∷ []) → Seq K W Γ (lands C Λ E d (val z) rest q)) → Seq K W Γ (runs C Λ E (seq (call f xs d) rest) q)
       calls-covered {K} {Γ} {E} {C} {Λ} {q} {d = d} {rest} t fm known reads k =

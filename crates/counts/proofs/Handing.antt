@@ -14,7 +14,8 @@ use prog.Wp.{Heap, Calls, Loops, WpFn, Closed}
 use ghost.Atoms.{Atoms}
 use contract.Running.{Running, GhostRules, tables}
 use types.Kit.{Given, raw, _$_, _∵_, !, qed, by, move}
-use types.Run.{look, init, forget, stop, from, load, addr, of-opd, and-then, no-more, assigns, land, returns, enter, alloc1, alloc0, params1, pass1, pass0, free1, free0}
+use types.Run.{look, init, forget, stop, from, load, addr, of-opd, and-then, no-more, assigns, land, returns}
+use types.Run.{enter, alloc1, alloc0, params1, pass1, pass0, free1, free0}
 use sound.WpLaws.{FmC}
 use denote.Plain.{Nothing, nothing-tells}
 use denote.Triple.Clauses.{closing}
@@ -33,7 +34,8 @@ handing callee = record {
   outlives = [];
   params = 1;
   locals =
-      local T′.mir valueLocal ∷ local T′.mir valueLocal ∷ local T′.mir memorySlot ∷ local tyUnit valueLocal ∷ local (tyRef erased mut (tyNamed (T.struct .name, []))) valueLocal ∷ [];
+      local T′.mir valueLocal ∷ local T′.mir valueLocal ∷ local T′.mir memorySlot ∷ local tyUnit valueLocal
+      ∷ local (tyRef erased mut (tyNamed (T.struct .name, []))) valueLocal ∷ [];
   body =
       seq (assign (place 2 []) (rvOpd (copy (place 1 []))))
       (seq (assign (place 4 []) (addrOf (place 2 [])))
@@ -66,6 +68,7 @@ pub handing-meets : {M : Type 1} (𝓤 : URA M) (H : Heap 𝓤) (𝓜 : Model �
     → Triple 𝓤 (𝓡 .run routine) (Stated 𝓤 H (𝓖 .A) Nothing asks does) → (ensures : Counts → Counts → Type 0) → ((h h′ : Counts) → does h tt h′ → ensures h h′)
     → Meets 𝓤 H (𝓖 .A) (signature T.the-row) (𝓡 .run (γ name)) (closing 𝓤 H (𝓖 .A) (ended T.the-row) (clauses 𝓤 T.the-row asks ensures))
 handing-meets 𝓤 H 𝓜 𝓖 𝓡 γ name f closed {callee} is-code asks does routine is-callee met ensures shown =
-    meets 𝓤 T.the-row asks ensures H 𝓜 𝓖 𝓡 γ name (handing callee) (subst (λ (g : Fn). Closed 𝓤 H (tables 𝓤 H 𝓜 𝓡 γ .C) (tables 𝓤 H 𝓜 𝓡 γ .Λ) name g) is-code closed)
+    meets 𝓤 T.the-row asks ensures H 𝓜 𝓖 𝓡 γ name (handing callee)
+    (subst (λ (g : Fn). Closed 𝓤 H (tables 𝓤 H 𝓜 𝓡 γ .C) (tables 𝓤 H 𝓜 𝓡 γ .Λ) name g) is-code closed)
     (walk 𝓤 H (𝓖 .A) (given 𝓤 H 𝓜 𝓖 𝓡 γ) callee asks does ensures shown (tables 𝓤 H 𝓜 𝓡 γ .C) (tables 𝓤 H 𝓜 𝓡 γ .Λ) (frames 𝓤 H 𝓜 𝓖 𝓡 γ)
     (known 𝓤 H 𝓜 𝓖 𝓡 γ (Stated 𝓤 H (𝓖 .A) Nothing asks does) callee routine is-callee met))

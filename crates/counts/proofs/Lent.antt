@@ -1,7 +1,8 @@
 -- The record of counts behind a `&mut`, for the walks by hand: what a function over it has at entry and owes at exit, and the steps that open and close the borrow.
---     Held             a record is as the machine holds it.        typed, record-owned, number-owned     so a local can hold it, and what it owns is had for nothing, as for a number
---     signature, ended, clauses    a function with one parameter `&mut Counts` and a result of the type Q: what it asks of the record, and what it says of the record, the answer
---                      and the record afterwards
+--     Held             a record is as the machine holds it.        typed, record-owned     so a local can hold it, and what it owns is had for nothing
+--     number-owned     as what a number owns
+--     signature, ended, clauses    a function with one parameter `&mut Counts` and a result of the type Q: what it asks of the record, and what it says
+--                      of the record, the answer and the record afterwards
 --     entered, shut    at entry, with the locals allocated: the borrow is opened, which gives the record's cell; and it is closed at another record
 --     exits            the walk's end.        meets    from the walk to the contract
 -- Assumes `Given`.
@@ -23,7 +24,8 @@ use prog.Wp.{Heap, Closed}
 use ghost.Atoms.{Atoms}
 use contract.Monad.{fact}
 use contract.Running.{Running, GhostRules, tables}
-use types.Kit.{Given, Goal, Item, Seq, Step, step, Soaks, ‵, raw, _⊛_, ⋆, _$_, _∵_, !, qed, move, drop, split, join, fsplit, fsplit3, fjoin, fjoin3, feqI, suffices, frame, done}
+use types.Kit.{Given, Goal, Item, Seq, Step, step, Soaks, ‵, raw, _⊛_, ⋆, _$_, _∵_, !, qed}
+use types.Kit.{move, drop, split, join, fsplit, fsplit3, fjoin, fjoin3, feqI, suffices, frame, done}
 use types.SemTy.{Body}
 use denote.RattleType.{RattleType, owns}
 use denote.Laws.{Is, shows}
@@ -85,7 +87,8 @@ abbrev stayed : (Q : RattleType) → Stays (signature Q .params) (ended Q .kept)
 stayed Q = (stay-ref (0 ∷ []) tt (plain (λ _. T.the-row)), tt)
 
 -- ---- the borrow
-module _ {M : Type 1} {𝓤 : URA M} {H : Heap 𝓤} {A : Atoms 𝓤} {K : Type 0} {W : Given 𝓤 H A} {Γ : List (Item 𝓤)} {G : Goal 𝓤 H} {κ : Lft} {q : Share} {b o : ℕ} {γ : GName} where
+module _ {M : Type 1} {𝓤 : URA M} {H : Heap 𝓤} {A : Atoms 𝓤} {K : Type 0} {W : Given 𝓤 H A} {Γ : List (Item 𝓤)} {G : Goal 𝓤 H}
+    {κ : Lft} {q : Share} {b o : ℕ} {γ : GName} where
   pub entered : K → Soaks G → {h : Counts} → (Held h → Seq K W (‵ (cell b o h) ∷ ‵ (fobor κ q (content b o γ)) ∷ ‵ (fobs γ (coded h)) ∷ ‵ (fauth γ (coded h)) ∷ Γ) G)
       → Seq K W (((‵ (flft κ q) ⊛ ‵ ftrue) ⊛ ‵ (owning κ b o γ h)) ∷ Γ) G
   entered t z {h} k =
@@ -95,7 +98,8 @@ module _ {M : Type 1} {𝓤 : URA M} {H : Heap 𝓤} {A : Atoms 𝓤} {K : Type 
       move t (1 ∷ []) $ peeks t T.the-row (Is T.the-row) (shows 𝓤 H A T.the-row) h (T′.lowered h ∷ []) (λ was. drop t $ k was))
 
   pub shut : K → Soaks G → {u v : Gv} (h : Counts) → Held h
-      → Step K W (‵ (fobs γ (coded h)) ∷ ‵ (fbor κ (content b o γ)) ∷ ‵ (flft κ q) ∷ Γ) G (‵ (cell b o h) ∷ ‵ (fobor κ q (content b o γ)) ∷ ‵ (fobs γ u) ∷ ‵ (fauth γ v) ∷ Γ) G
+      → Step K W (‵ (fobs γ (coded h)) ∷ ‵ (fbor κ (content b o γ)) ∷ ‵ (flft κ q) ∷ Γ) G
+      (‵ (cell b o h) ∷ ‵ (fobor κ q (content b o γ)) ∷ ‵ (fobs γ u) ∷ ‵ (fauth γ v) ∷ Γ) G
   shut t z h is = step (λ s. record-owned t h is $ move t (1 ∷ 0 ∷ []) $ closes t z T.the-row h (T′.lowered h ∷ []) b o $ s)
 
 -- ---- entry, exit, and the contract
@@ -114,8 +118,8 @@ module _ {M : Type 1} (𝓤 : URA M) (Q : RattleType) (asks : Counts → SProp �
         → ent 𝓤 (⋆ 𝓤 H A (‵ (Q .own r (v ∷ [])) ∷ ‵ (fobs γ (coded h′)) ∷ ‵ (fbor κ (content b o γ)) ∷ ‵ (flft κ q) ∷ [])) (Post v)
     exits h′ r v so =
         qed W (‵ (Q .own r (v ∷ [])) ∷ ‵ (fobs γ (coded h′)) ∷ ‵ (fbor κ (content b o γ)) ∷ ‵ (flft κ q) ∷ []) ∵
-        suffices ! _ (ends-at 𝓤 H A (ended Q) (stayed Q) clauses W (((κ, tt), (q, tt), tt, (lent b o γ h, tt), (vptr b o ∷ [], tt)), tt) v r (h′, tt) (tt, tt)) $ says ! so $
-        nothing ! $ move ! (4 ∷ 0 ∷ []) $ join ! $ frame ! $ move ! (1 ∷ 2 ∷ []) $
+        suffices ! _ (ends-at 𝓤 H A (ended Q) (stayed Q) clauses W (((κ, tt), (q, tt), tt, (lent b o γ h, tt), (vptr b o ∷ [], tt)), tt) v r (h′, tt) (tt, tt)) $
+        says ! so $ nothing ! $ move ! (4 ∷ 0 ∷ []) $ join ! $ frame ! $ move ! (1 ∷ 2 ∷ []) $
         feqI ! (List Val) (vptr b o ∷ []) (vptr b o ∷ []) refl $ fjoin3 ! $ nothing ! $ move ! (1 ∷ 0 ∷ []) $ fjoin ! $ done !
 
 -- over the machine's own tables

@@ -1,5 +1,6 @@
--- The code of `add_call` and `add_shape`: a count of the lent record goes to `one_more`, with its limit and the refusal's number, and the count that comes back goes into the
--- record. The walk is one for all limits and numbers and for any two fields: code that stores into another field is walked as well, and fails where its contract is shown.
+-- The code of `add_call` and `add_shape`: a count of the lent record goes to `one_more`, with its limit and the refusal's number, and the count that comes
+-- back goes into the record. The walk is one for all limits and numbers and for any two fields: code that stores into another field is walked as well, and
+-- fails where its contract is shown.
 --     limited          the code.        limited-meets    it meets any contract that holds of what it leaves and answers
 -- Assumes nothing.
 use mathlib.Core.Path.{_≡_, refl, subst}
@@ -22,7 +23,8 @@ use ghost.Atoms.{Atoms}
 use contract.Monad.{Fun}
 use contract.Running.{Running, GhostRules, tables}
 use types.Kit.{Given, Item, ‵, ⋆, _$_, _∵_, !, qed, by, move, drop, rewrite}
-use types.Run.{Reads, Opd, look, init, forget, stop, hop, fld, from, load, lit, of-opd, and-then, no-more, assigns, land, returns, enter, alloc1, alloc0, params1, pass1, pass0, free1, free0}
+use types.Run.{Reads, Opd, look, init, forget, stop, hop, fld, from, load, lit, of-opd, and-then, no-more, assigns, land, returns}
+use types.Run.{enter, alloc1, alloc0, params1, pass1, pass0, free1, free0}
 use types.Part.{whole, sub, look-in, store-in}
 use sound.WpLaws.{FmC}
 use denote.Plain.{uint-makes}
@@ -86,8 +88,8 @@ module _ {M : Type 1} (𝓤 : URA M) (H : Heap 𝓤) (A : Atoms 𝓤) (W : Given
         alloc1 ! (λ l₀. alloc1 ! (λ l₁. alloc1 ! (λ l₂. alloc1 ! (λ l₃. alloc0 ! $ params1 ! $ pass1 ! (init ! 4 refl (tt, tt)) $ pass0 ! $
         move ! (9 ∷ []) $ drop ! $ move ! (8 ∷ []) $ entered ! tt (λ was.
         -- [the record's cell; the open borrow; obs; auth; room for _3; …; room for _2; …; _1; …; room for _0; …]
-        assigns ! (of-opd ! (load ! (from ! (hop ! (look ! 8 refl) (fld ! (lies k is-k) (stop !)))) (reads-as ! (got k is-k h) (look-in ! 0 (sub ! k (lies k is-k) (whole !))))))
-        (from ! (stop !)) (init ! 4 refl (tt, record { fits = fits k h was })) $
+        assigns ! (of-opd ! (load ! (from ! (hop ! (look ! 8 refl) (fld ! (lies k is-k) (stop !))))
+        (reads-as ! (got k is-k h) (look-in ! 0 (sub ! k (lies k is-k) (whole !)))))) (from ! (stop !)) (init ! 4 refl (tt, record { fits = fits k h was })) $
         calls-covered (one-more.signature .params) (one-more.ended .kept) S.the-row 𝓤 H A (one-more.clauses 𝓤 H A at-mem run) W S′.lowered (LL.tells S.the-type S′.the-laws)
         (uint-makes 𝓤 H A W w64, (uint-makes 𝓤 H A W w64, (uint-makes 𝓤 H A W w64, tt))) (count k h, (most, (refusal, tt)))
         (vint w64 (count k h) ∷ [], (vint w64 most ∷ [], (vint w64 refusal ∷ [], tt))) ((refl, fits k h was), ((refl, most-fits), ((refl, refusal-fits), tt)))
@@ -99,7 +101,8 @@ module _ {M : Type 1} (𝓤 : URA M) (H : Heap 𝓤) (A : Atoms 𝓤) (W : Given
         assigns ! (of-opd ! (load ! (from ! (fld ! refl (stop !))) (look-in ! 6 (sub ! 0 refl (whole !))))) (from ! (hop ! (look ! 8 refl) (fld ! (lies j is-j) (stop !))))
         (store-in ! 0 (sub ! j (lies j is-j) (whole !)) (tt, record { fits = count-fits })) $
         rewrite ! 0 (λ (vs : Vals). ‵ (fat fullShare (rawTy T′.mir) b o (vstruct vs))) (put j is-j h (t .count)) refl $
-        assigns ! (of-opd ! (load ! (from ! (fld ! refl (stop !))) (look-in ! 6 (sub ! 1 refl (whole !))))) (from ! (stop !)) (init ! 10 refl (tt, record { fits = number-fits })) $
+        assigns ! (of-opd ! (load ! (from ! (fld ! refl (stop !))) (look-in ! 6 (sub ! 1 refl (whole !)))))
+        (from ! (stop !)) (init ! 10 refl (tt, record { fits = number-fits })) $
         shut ! tt (with j h (t .count)) (held j h (t .count) count-fits was) $
         -- [obs; the borrow; the token; _3; …; _2; …; _1; …; _0; …]
         returns ! (look ! 9 refl) $ forget ! 3 refl $ forget ! 5 refl $ forget ! 7 refl $ forget ! 9 refl $
@@ -116,5 +119,6 @@ limited-meets 𝓤 H 𝓜 𝓖 𝓡 γ is-more name f closed {k} {j} {most} {ref
     let W : Given 𝓤 H (𝓖 .A) = given 𝓤 H 𝓜 𝓖 𝓡 γ in
     meets 𝓤 H 𝓜 𝓖 𝓡 γ usize (λ _. emp 𝓤) ensures name (limited k j most refusal)
     (subst (λ (g : Fn). Closed 𝓤 H (tables 𝓤 H 𝓜 𝓡 γ .C) (tables 𝓤 H 𝓜 𝓡 γ .Λ) name g) is-code closed)
-    (walk 𝓤 H (𝓖 .A) W (𝓜 .mem) (𝓡 .run) k j most refusal is-k is-j most-fits small refusal-fits ensures shown (tables 𝓤 H 𝓜 𝓡 γ .C) (tables 𝓤 H 𝓜 𝓡 γ .Λ) (frames 𝓤 H 𝓜 𝓖 𝓡 γ)
+    (walk 𝓤 H (𝓖 .A) W (𝓜 .mem) (𝓡 .run) k j most refusal is-k is-j most-fits small refusal-fits ensures shown
+    (tables 𝓤 H 𝓜 𝓡 γ .C) (tables 𝓤 H 𝓜 𝓡 γ .Λ) (frames 𝓤 H 𝓜 𝓖 𝓡 γ)
     (known 𝓤 H 𝓜 𝓖 𝓡 γ (OneMore 𝓤 H (𝓖 .A) W (𝓜 .mem) (𝓡 .run)) more.name more.routine is-more (more-met.met 𝓤 H 𝓜 𝓖 𝓡)))

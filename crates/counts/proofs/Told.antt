@@ -16,7 +16,8 @@ use Rattle.definition.specs.Counts.{End, finished, stopped, counted}
 use Rattle.counts.specs.declared.Counts.{Counts}
 use Rattle.counts.specs.declared.Counted.{Counted}
 use Rattle.counts.specs.declared.Counted.the-variants.{More, Full}
-use Rattle.counts.specs.Counting.{mostCalls, mostShapes, tally, withCalls, withShapes, withRedefinitions, tried, answered, endOf, AddsCall, AddsShape, CountsCall, CountsShape, CountsRedefinition}
+use Rattle.counts.specs.Counting.{mostCalls, mostShapes, tally, withCalls, withShapes, withRedefinitions, tried, answered, endOf}
+use Rattle.counts.specs.Counting.{AddsCall, AddsShape, CountsCall, CountsShape, CountsRedefinition}
 
 -- ---- the two answers
 two-answers : (n : ℕ) (c : Counts) → Full n ≡ More c → ⊥
@@ -37,7 +38,8 @@ module _ (had most number : ℕ) (into : ℕ → Counts) where
   written-out = if ltb had most then More (into (had + 1)) else Full number
 
   -- the answer
-  answered-so : eqb number 0 ≡ false → (r : ℕ) (c′ : Counts) → r ≡ tried had most number .refusal → c′ ≡ into (tried had most number .count) → answered r c′ ≡ written-out
+  answered-so : eqb number 0 ≡ false → (r : ℕ) (c′ : Counts) → r ≡ tried had most number .refusal → c′ ≡ into (tried had most number .count)
+      → answered r c′ ≡ written-out
   answered-so n r c′ u v = go (ltb had most) refl
     where
       go : (b : Bool) → ltb had most ≡ b → answered r c′ ≡ written-out

@@ -1,7 +1,8 @@
--- The functions by value: the record comes in, is lent to a function over `&mut`, and comes out. Their contracts speak of plain values, so whoever calls them needs no walk by hand.
+-- The functions by value: the record comes in, is lent to a function over `&mut`, and comes out. Their contracts speak of plain values, so whoever calls
+-- them needs no walk by hand.
 --     signature, ended, clauses    a function that takes the record and gives a result of any type, as its contract is stated
---     lends            a call that is lent the record in a local, for a lifetime that is made for the call: the caller goes on with the record afterwards in its place, the result,
---                      and what the callee ensures of the three
+--     lends            a call that is lent the record in a local, for a lifetime that is made for the call: the caller goes on with the record afterwards
+--                      in its place, the result, and what the callee ensures of the three
 --     exits            the walk's end.        meets    from the walk to the contract
 -- Assumes `Given`, and of the callee that it meets its contract.
 use mathlib.Core.Path.{_≡_, refl, sym, ap, subst}
@@ -20,7 +21,8 @@ use prog.Wp.{Heap, Env, Calls, Loops, Closed}
 use ghost.Atoms.{Atoms}
 use contract.Monad.{fact}
 use contract.Running.{Running, GhostRules, tables}
-use types.Kit.{Given, Item, Seq, Post, runs, lands, ‵, raw, _⊛_, ⋆, some, later, _$_, _∵_, !, qed, move, drop, use1, use3, split, join, pick, fsplit, fjoin, fpick, fpack, suffices, frame, await, done}
+use types.Kit.{Given, Item, Seq, Post, runs, lands, ‵, raw, _⊛_, ⋆, some, later, _$_, _∵_, !, qed}
+use types.Kit.{move, drop, use1, use3, split, join, pick, fsplit, fjoin, fpick, fpack, suffices, frame, await, done}
 use types.Run.{Opds}
 use types.Tokens.{lft-new, lft-end}
 use sound.WpLaws.{FmC}
@@ -73,7 +75,8 @@ module _ {M : Type 1} (𝓤 : URA M) (H : Heap 𝓤) (A : Atoms 𝓤) (Q : Rattl
     pub lends : {K : Type 0} {Γ : List (Item 𝓤)} {E : Env 𝓤 H} {C : Calls 𝓤 H} {Λ : Loops 𝓤 H} {q : Post 𝓤 H} {f : Name} {xs : List Operand} {d : Place} {rest : Body}
         → K → FmC 𝓤 H (W .laws) C → Triple 𝓤 (C f) Stated → (val : Q .Denot → Val) → Tells Q (Is Q) (λ r. val r ∷ []) → {l : ℕ} {h : Counts} → Held h
         → ((i j : Item 𝓤) → Opds K W (i ∷ j ∷ Γ) E xs (vptr l 0 ∷ []))
-        → ((r : Q .Denot) (h′ : Counts) → does h r h′ → Is Q r (val r ∷ []) → Held h′ → Seq K W (‵ (fat fullShare T′.mir l 0 (T′.lowered h′)) ∷ Γ) (lands C Λ E d (val r) rest q))
+        → ((r : Q .Denot) (h′ : Counts) → does h r h′ → Is Q r (val r ∷ []) → Held h′
+        → Seq K W (‵ (fat fullShare T′.mir l 0 (T′.lowered h′)) ∷ Γ) (lands C Λ E d (val r) rest q))
         → Seq K W (‵ (fat fullShare T′.mir l 0 (T′.lowered h)) ∷ raw (asks h) ∷ Γ) (runs C Λ E (seq (call f xs d) rest) q)
     unfolding partOf
     lends {K} {Γ} {E} {C} {Λ} {q} {d = d} {rest} t fm known val tells {l} {h} is reads k =
@@ -87,13 +90,15 @@ module _ {M : Type 1} (𝓤 : URA M) (H : Heap 𝓤) (A : Atoms 𝓤) (Q : Rattl
         use3 W (raw (Stated .pre (bound α l δ h))) (goes α l δ h) $
         calls-at t fm Stated known (bound α l δ h) (reads (raw (Stated .pre (bound α l δ h))) (‵ (flent (α ∷ []) (content l 0 δ)))) (λ v.
         use1 W (later (some (λ (r : Q .Denot). ((‵ (flft (α ∷ []) fullShare) ⊛ ‵ ftrue) ⊛ ‵ (Q .own r (v ∷ [])))
-        ⊛ raw (ensured 𝓤 H A (over.ended Q) (over.clauses 𝓤 Q asks does) (α ∷ [], tt) (lent l 0 δ h, tt) tt r)))) (id⊢ 𝓤 _) $ await t tt $ pick t (λ r. split t $ move t (1 ∷ []) $
+        ⊛ raw (ensured 𝓤 H A (over.ended Q) (over.clauses 𝓤 Q asks does) (α ∷ [], tt) (lent l 0 δ h, tt) tt r)))) (id⊢ 𝓤 _) $
+        await t tt $ pick t (λ r. split t $ move t (1 ∷ []) $
         use1 W (some (λ (ws : Counts × Unit {0}). ‵ (lasts (over.ended Q) (α ∷ [], tt) (lent l 0 δ h, tt) ws) ⊛ raw (fact 𝓤 (does h r (ws .0))))) (id⊢ 𝓤 _) $ pick t (λ ws.
         split t $ move t (1 ∷ []) $ heard t (does h r (ws .0)) (λ so. fsplit t $ move t (2 ∷ []) $ split t $ move t (1 ∷ []) $
         facts t Q (Is Q) (shows 𝓤 H A Q) r (v ∷ []) (λ was. split t $
         -- [the token; true; the last value; true; the lender's part; …]: the lifetime is ended, and the record is taken back
         lft-end t tt $ move t (0 ∷ 4 ∷ 2 ∷ 1 ∷ 3 ∷ []) $
-        use3 W (later (‵ (partAt T.the-row fullShare (ws .0) l 0))) (ref-back 𝓤 H A W T.the-row (α ∷ []) δ (ws .0) l 0) $ await t tt $ move t (1 ∷ 2 ∷ []) $ drop t $ drop t $
+        use3 W (later (‵ (partAt T.the-row fullShare (ws .0) l 0))) (ref-back 𝓤 H A W T.the-row (α ∷ []) δ (ws .0) l 0) $
+        await t tt $ move t (1 ∷ 2 ∷ []) $ drop t $ drop t $
         fpick t (λ vs. fsplit t $
         spelt t T.the-row (Is T.the-row) (shows 𝓤 H A T.the-row) (LL.vals T.the-type T′.the-laws) (LL.tells T.the-type T′.the-laws) fullShare (ws .0) vs l 0 $
         move t (1 ∷ []) $ facts t T.the-row (Is T.the-row) (shows 𝓤 H A T.the-row) (ws .0) (T′.lowered (ws .0) ∷ []) (λ is′.
@@ -134,4 +139,5 @@ module _ {M : Type 1} (𝓤 : URA M) (Q : RattleType) (asks : Counts → SProp �
     meets name f closed walk =
         linked 𝓤 H 𝓜 𝓖 𝓡 γ name f closed (ended Q) (stayed Q) (goes-none 𝓤 H (𝓖 .A) (given 𝓤 H 𝓜 𝓖 𝓡 γ) 0 (λ _. T.the-row) yes (λ κs x e. refl), tt) clauses
         (walked 𝓤 H (𝓖 .A) (ended Q) (stayed Q) clauses (wp 𝓤 H 𝓜 𝓖 𝓡 γ f) (λ κs. (LL.vals T.the-type T′.the-laws, tt)) (λ κs. (LL.tells T.the-type T′.the-laws, tt))
-        (λ κs qs bounds a g are. via 𝓤 (asks (a .0)) (snd∗ 𝓤 (onEntry 𝓤 H (𝓖 .A) (signature Q) κs qs a (T′.lowered (a .0) ∷ [], tt)) (asks (a .0))) (walk (a .0) (are .0))))
+        (λ κs qs bounds a g are. via 𝓤 (asks (a .0))
+        (snd∗ 𝓤 (onEntry 𝓤 H (𝓖 .A) (signature Q) κs qs a (T′.lowered (a .0) ∷ [], tt)) (asks (a .0))) (walk (a .0) (are .0))))

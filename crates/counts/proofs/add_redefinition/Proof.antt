@@ -1,4 +1,5 @@
--- `counts::add_redefinition` meets its contract: a walk of its MIR, by hand. The borrow is opened, the count goes to `next`, what comes back is stored, and the borrow is closed.
+-- `counts::add_redefinition` meets its contract: a walk of its MIR, by hand. The borrow is opened, the count goes to `next`, what comes back is stored,
+-- and the borrow is closed.
 -- Assumes nothing.
 use mathlib.Core.Path.{_≡_, refl}
 use mathlib.Core.List.{[], _∷_}
@@ -15,7 +16,8 @@ use ghost.Atoms.{Atoms}
 use contract.Monad.{Fun, fact, factI}
 use contract.Running.{tables}
 use types.Kit.{Given, ⋆, _$_, _∵_, !, qed, by, move}
-use types.Run.{look, init, forget, stop, hop, fld, from, load, unit-lit, of-opd, and-then, no-more, assigns, land, returns, enter, alloc1, alloc0, params1, pass1, pass0, free1, free0}
+use types.Run.{look, init, forget, stop, hop, fld, from, load, unit-lit, of-opd, and-then, no-more, assigns, land, returns}
+use types.Run.{enter, alloc1, alloc0, params1, pass1, pass0, free1, free0}
 use types.Part.{whole, sub, look-in, store-in}
 use sound.WpLaws.{FmC}
 use denote.Laws.{Is}
@@ -66,7 +68,8 @@ module _ {M : Type 1} (𝓤 : URA M) (H : Heap 𝓤) (A : Atoms 𝓤) (W : Given
       -- [obs; the borrow; the token; _3; …; _2; …; _1; …; _0; …]
       returns ! (look ! 9 refl) $ forget ! 3 refl $ forget ! 5 refl $ forget ! 7 refl $ forget ! 9 refl $
       move ! (9 ∷ 10 ∷ []) $ free1 ! $ move ! (7 ∷ 8 ∷ []) $ free1 ! $ move ! (5 ∷ 6 ∷ []) $ free1 ! $ move ! (3 ∷ 4 ∷ []) $ free1 ! $ free0 ! $
-      owned ! Nothing (Is Nothing) (nothing-makes 𝓤 H A W) tt _ refl $ by ! (exits 𝓤 Nothing asks ensures H A W κ q b o γ h (withRedefinitions h m) tt vunit refl))))))))
+      owned ! Nothing (Is Nothing) (nothing-makes 𝓤 H A W) tt _ refl $
+      by ! (exits 𝓤 Nothing asks ensures H A W κ q b o γ h (withRedefinitions h m) tt vunit refl))))))))
 
 pub add-redefinition-spec : {M : Type 1} → statement M
 unfolding code.routine

@@ -1,4 +1,5 @@
--- `counts::clear` meets its contract: a walk of its MIR, by hand. The borrow is opened, what `no_counts` gives is stored over the whole record, and the borrow is closed.
+-- `counts::clear` meets its contract: a walk of its MIR, by hand. The borrow is opened, what `no_counts` gives is stored over the whole record, and the
+-- borrow is closed.
 -- Assumes nothing.
 use mathlib.Core.Path.{_≡_, refl}
 use mathlib.Core.List.{[], _∷_}
@@ -14,7 +15,8 @@ use ghost.Atoms.{Atoms}
 use contract.Monad.{Fun}
 use contract.Running.{tables}
 use types.Kit.{Given, ⋆, _$_, _∵_, !, qed, by, move, drop}
-use types.Run.{look, store-raw, init, forget, stop, hop, from, load, unit-lit, of-opd, no-more, assigns, land, returns, enter, alloc1, alloc0, params1, pass1, pass0, free1, free0}
+use types.Run.{look, store-raw, init, forget, stop, hop, from, load, unit-lit, of-opd, no-more, assigns, land, returns}
+use types.Run.{enter, alloc1, alloc0, params1, pass1, pass0, free1, free0}
 use sound.WpLaws.{FmC}
 use denote.Laws.{Is}
 use denote.Plain.{Nothing, nothing-makes}
@@ -50,8 +52,8 @@ module _ {M : Type 1} (𝓤 : URA M) (H : Heap 𝓤) (A : Atoms 𝓤) (W : Given
       alloc1 ! (λ l₀. alloc1 ! (λ l₁. alloc1 ! (λ l₂. alloc0 ! $ params1 ! $ pass1 ! (init ! 2 refl (tt, tt)) $ pass0 ! $
       move ! (7 ∷ []) $ drop ! $ move ! (6 ∷ []) $ entered ! tt (λ was.
       -- [the record's cell; the open borrow; obs; auth; room for _2; …; _1; …; room for _0; …]
-      calls-covered [] tt T.the-row 𝓤 H A (none.clauses 𝓤 H A at-mem run) W T′.lowered (LL.tells T.the-type T′.the-laws) tt tt tt tt tt (id⊢ 𝓤 _) noCounts (λ r ws. id⊢ 𝓤 _)
-      ! fm known (λ i. no-more !) (λ is.
+      calls-covered [] tt T.the-row 𝓤 H A (none.clauses 𝓤 H A at-mem run) W T′.lowered (LL.tells T.the-type T′.the-laws)
+      tt tt tt tt tt (id⊢ 𝓤 _) noCounts (λ r ws. id⊢ 𝓤 _) ! fm known (λ i. no-more !) (λ is.
       land ! (from ! (stop !)) (init ! 4 refl (typed 𝓤 H A W noCounts is)) $
       assigns ! (of-opd ! (load ! (from ! (stop !)) (look ! 4 refl))) (from ! (hop ! (look ! 6 refl) (stop !))) (store-raw ! 0 refl (typed 𝓤 H A W noCounts is)) $
       assigns ! (of-opd ! (unit-lit !)) (from ! (stop !)) (init ! 8 refl (tt, tt)) $ shut ! tt noCounts is $
