@@ -30,8 +30,8 @@ quiet c = if eqb c 76 then true else eqb c 69
 
 unfoldable pub opened : Line → ℕ → Line  -- with its letter
 opened s b =
-    if eqb b 76 then line (s .count) 0 16777216 76
-    else if eqb b 69 then line (s .count) (s .layer) (s .unit) 69
+    if eqb b 76 then line (s .count) 0 16777216 b
+    else if eqb b 69 then line (s .count) (s .layer) (s .unit) b
     else line (s .count + 1) (s .layer) (s .unit) b
 
 unfoldable pub named : Line → ℕ → Line  -- with a letter of a layer's name, which is packed as the pen has it
@@ -102,12 +102,15 @@ includes s z = if s .some then span true (lower (s .low) z) (higher (s .high) z)
 abbrev pub alternate : ℕ → ℕ
 alternate i = if eqb (i % 2) 0 then 1 else 2
 
+abbrev pub behindSize : ℕ → ℕ
+behindSize i = if eqb i 0 then 0 else alternate (i + 1)
+
 unfoldable pub axisOf : (letter index : ℕ) → ℕ
 axisOf c i =
     if eqb c 80 then alternate i
     else if eqb c 66 then (if eqb i 2 then 1 else if eqb i 3 then 2 else 0)
-    else if eqb c 82 then (if eqb i 0 then 0 else alternate (i + 1))
-    else if eqb c 87 then (if eqb i 0 then 0 else alternate (i + 1))
+    else if eqb c 82 then behindSize i
+    else if eqb c 87 then behindSize i
     else 0
 
 unfoldable pub spanAfter : (axis : ℕ) → Span → (letter : ℕ) → Numeral → ℕ → Span

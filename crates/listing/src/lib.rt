@@ -9,7 +9,7 @@ ghost use Rattle.definition.specs.Flat.{decimal};
 ghost use Rattle.pen.specs.Writes.{Writes};
 ghost use Rattle.pen.specs.Names.{nameOf};
 ghost use Rattle.listing.specs.Account.{quiet, opened, named, fresh, lineAfter, heading, wrote, pushed, ends, numeral, numeralAfter, valueOf};
-ghost use Rattle.listing.specs.Account.{nowhere, lower, higher, includes, alternate, axisOf, spanAfter, totalLine, windowOf, refusedLine};
+ghost use Rattle.listing.specs.Account.{nowhere, lower, higher, includes, alternate, behindSize, axisOf, spanAfter, totalLine, windowOf, refusedLine};
 ghost use Rattle.listing.specs.Listed.{Listed, Walks, Fits};
 
 // 01, refusal 18: no flat file is longer.
@@ -257,7 +257,7 @@ fn alternate(index: usize) -> u8
 // Behind one size.
 fn axis_behind(index: usize) -> u8
     requires { ⌜ index ≤ 2 ^ 32 ⌝ }
-    ensures { λ r. ⌜ r ≡ axisOf 82 index ⌝ }
+    ensures { λ r. ⌜ r ≡ behindSize index ⌝ }
 {
     if index == 0 {
         return NEITHER;
@@ -323,6 +323,7 @@ fn put_word(out: &mut [u8], start: usize, word: &[u8]) -> usize
 fn put_field(out: &mut [u8], at: usize, n: u64) -> usize
     requires { ⌜ at ≤ 2 ^ 59 ⌝ }
     ensures { λ r. ⌜ Writes (now (out .entry)) (now (out .exit)) at r (9 ∷ decimal (pos n)) ⌝ }
+    ensures { λ r. ⌜ r ≤ at + 21 ⌝ }
 {
     let next = pen::put(out, at, TAB);
     pen::put_digits(out, next, n)
@@ -331,6 +332,7 @@ fn put_field(out: &mut [u8], at: usize, n: u64) -> usize
 fn put_signed_field(out: &mut [u8], at: usize, z: i64) -> usize
     requires { ⌜ at ≤ 2 ^ 59 ⌝ }
     ensures { λ r. ⌜ Writes (now (out .entry)) (now (out .exit)) at r (9 ∷ decimal z) ⌝ }
+    ensures { λ r. ⌜ r ≤ at + 21 ⌝ }
 {
     let next = pen::put(out, at, TAB);
     pen::put_decimal(out, next, z)
@@ -339,6 +341,7 @@ fn put_signed_field(out: &mut [u8], at: usize, z: i64) -> usize
 fn put_name_field(out: &mut [u8], at: usize, layer: u32) -> usize
     requires { ⌜ at ≤ 2 ^ 59 ⌝ }
     ensures { λ r. ⌜ Writes (now (out .entry)) (now (out .exit)) at r (9 ∷ nameOf layer) ⌝ }
+    ensures { λ r. ⌜ r ≤ at + 5 ⌝ }
 {
     let next = pen::put(out, at, TAB);
     pen::put_name(out, next, layer)
@@ -357,6 +360,7 @@ fn put_kind_field(out: &mut [u8], at: usize, letter: u8) -> usize
 fn put_heading(out: &mut [u8], at: usize, count: u64, layer: u32, letter: u8) -> usize
     requires { ⌜ at ≤ 2 ^ 58 ⌝ }
     ensures { λ r. ⌜ Writes (now (out .entry)) (now (out .exit)) at r (heading count layer letter) ⌝ }
+    ensures { λ r. ⌜ r ≤ at + 34 ⌝ }
 {
     let first = put_word(out, at, b"shape");
     let second = put_field(out, first, count);
@@ -368,6 +372,7 @@ fn put_heading(out: &mut [u8], at: usize, count: u64, layer: u32, letter: u8) ->
 fn put_byte(out: &mut [u8], at: usize, s: Line, b: u8) -> usize
     requires { ⌜ at ≤ 2 ^ 58 ⌝ }
     ensures { λ r. ⌜ Writes (now (out .entry)) (now (out .exit)) at r (wrote s b) ⌝ }
+    ensures { λ r. ⌜ r ≤ at + 34 ⌝ }
 {
     if b == LINE_FEED {
         return at;
@@ -430,6 +435,7 @@ fn put_shapes(flat: &[u8], out: &mut [u8]) -> Walked
 fn put_total(out: &mut [u8], at: usize, shapes: u64, calls: u64, redefinitions: u64) -> usize
     requires { ⌜ at ≤ 2 ^ 57 ⌝ }
     ensures { λ r. ⌜ Writes (now (out .entry)) (now (out .exit)) at r (totalLine shapes calls redefinitions) ⌝ }
+    ensures { λ r. ⌜ r ≤ at + 69 ⌝ }
 {
     let first = put_word(out, at, b"total");
     let second = put_field(out, first, shapes);
