@@ -76,7 +76,7 @@ unfolding val
 val-snoc v [] c = refl
 val-snoc v (d ∷ cs) c = val-snoc (10 * v + (d - 48)) cs c
 
-val-grows : (v : ℕ) (cs : List ℕ) → v ≤ val v cs
+pub val-grows : (v : ℕ) (cs : List ℕ) → v ≤ val v cs
 unfolding val
 val-grows v [] = omega arith
 val-grows v (c ∷ cs) = let h : 10 * v + (c - 48) ≤ val (10 * v + (c - 48)) cs = val-grows (10 * v + (c - 48)) cs in omega (arith, h)
@@ -95,10 +95,10 @@ split c (d ∷ cs) = let r = split d cs in (c ∷ r .0, r .1, ap (λ (x : List �
 digit-byte : (k : ℕ) → k < 10 → DigitByte (48 + k)
 digit-byte k h = and-both (leb 48 (48 + k)) (leb (48 + k) 57) (le→leb 48 (48 + k) (omega arith)) (le→leb (48 + k) 57 (omega arith))
 
-digit-low : (a : ℕ) → DigitByte a → 48 ≤ a
+pub digit-low : (a : ℕ) → DigitByte a → 48 ≤ a
 digit-low a h = leb→le 48 a (and-left (leb 48 a) (leb a 57) h)
 
-digit-high : (a : ℕ) → DigitByte a → a ≤ 57
+pub digit-high : (a : ℕ) → DigitByte a → a ≤ 57
 digit-high a h = leb→le a 57 (and-right (leb 48 a) (leb a 57) h)
 
 -- whatever says n ends in its last digit, behind what is worth n / 10

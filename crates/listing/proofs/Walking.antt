@@ -2,7 +2,7 @@
 -- Assumes nothing.
 use mathlib.Core.Path.{_≡_, refl, sym, ap, _∙_}
 use mathlib.Core.Bool.{Bool, true, false}
-use mathlib.Core.List.{List, [], _∷_, _++_}
+use mathlib.Core.List.{List, _++_}
 use Prim.Native.Nat.{ℕ, _+_, _*_, _/_, _≤_, _<_}
 use native.Mathlib.Nat.{mul-le-mul-right}
 use native.Mathlib.Omega.{arith}
@@ -16,7 +16,6 @@ use Rattle.listing.specs.Listed.{Fits, Walks}
 use Rattle.listing.specs.declared.Line.{Line}
 use Rattle.listing.specs.declared.Numeral.{Numeral}
 use Rattle.listing.specs.declared.Span.{Span}
-use Rattle.listing.specs.declared.Walked.{Walked}
 use Rattle.listing.proofs.Steps.{next-byte, no-byte}
 
 -- ---- counts stay within the bytes read, and a name within 32 bits

@@ -447,6 +447,7 @@ fn put_total(out: &mut [u8], at: usize, shapes: u64, calls: u64, redefinitions: 
 fn put_window(out: &mut [u8], at: usize, xs: Span, ys: Span) -> usize
     requires { ⌜ at ≤ 2 ^ 58 ⌝ }
     ensures { λ r. ⌜ Writes (now (out .entry)) (now (out .exit)) at r (windowOf xs ys) ⌝ }
+    ensures { λ r. ⌜ r ≤ at + 91 ⌝ }
 {
     let first = put_word(out, at, b"window");
     let some = xs.some;
@@ -462,6 +463,7 @@ fn put_window(out: &mut [u8], at: usize, xs: Span, ys: Span) -> usize
 
 fn put_refusal(out: &mut [u8], number: u64, place: u64) -> usize
     ensures { λ r. ⌜ Writes (now (out .entry)) (now (out .exit)) 0 r (refusedLine number place) ⌝ }
+    ensures { λ r. ⌜ r ≤ 50 ⌝ }
 {
     let first = put_word(out, 0, b"refused");
     let second = put_field(out, first, number);

@@ -1,8 +1,7 @@
 -- `listing::add_letter` meets its contract: a name of 32 bits has room for its letter.
 -- Assumes nothing.
-use borrow.Author.Tests.{lt-ltb, le-ltb, eq-eqb, ne-eqb}
+use borrow.Author.Tests.{eq-eqb, ne-eqb}
 use native.Mathlib.Omega.{arith}
-use mathlib.Core.Path.{sym, _∙_}
 use Rattle.listing.specs.Account.{named}
 use Rattle.listing.proofs.Steps.{letter-room}
 use Rattle.listing.proofs.add_letter.Statement.{statement}

@@ -1,6 +1,6 @@
 -- `listing::alternate` meets its contract: by the index's remainder.
 -- Assumes nothing.
-use borrow.Author.Tests.{lt-ltb, le-ltb, eq-eqb, ne-eqb}
+use borrow.Author.Tests.{eq-eqb, ne-eqb}
 use Rattle.listing.proofs.alternate.Statement.{statement}
 use Rattle.listing.proofs.alternate.Tie as tie
 

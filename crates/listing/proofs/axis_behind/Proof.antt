@@ -1,6 +1,6 @@
 -- `listing::axis_behind` meets its contract: the first number is a size.
 -- Assumes nothing.
-use borrow.Author.Tests.{lt-ltb, le-ltb, eq-eqb, ne-eqb}
+use borrow.Author.Tests.{eq-eqb, ne-eqb}
 use borrow.Author.Needs.{needs}
 use Rattle.listing.proofs.axis_behind.Statement.{statement}
 use Rattle.listing.proofs.axis_behind.Tie as tie

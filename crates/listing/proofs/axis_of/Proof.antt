@@ -1,6 +1,6 @@
 -- `listing::axis_of` meets its contract: one return for each way through the tests.
 -- Assumes nothing.
-use borrow.Author.Tests.{lt-ltb, le-ltb, eq-eqb, ne-eqb}
+use borrow.Author.Tests.{eq-eqb, ne-eqb}
 use borrow.Author.Needs.{needs}
 use Rattle.listing.specs.Account.{axisOf}
 use Rattle.listing.proofs.axis_of.Statement.{statement}

@@ -1,6 +1,6 @@
 -- `listing::ends_number` meets its contract: one test after the other.
 -- Assumes nothing.
-use borrow.Author.Tests.{lt-ltb, le-ltb, eq-eqb, ne-eqb}
+use borrow.Author.Tests.{eq-eqb, ne-eqb}
 use Rattle.listing.proofs.ends_number.Statement.{statement}
 use Rattle.listing.proofs.ends_number.Tie as tie
 

@@ -1,6 +1,6 @@
 -- `listing::is_quiet` meets its contract: one test after the other.
 -- Assumes nothing.
-use borrow.Author.Tests.{lt-ltb, le-ltb, eq-eqb, ne-eqb}
+use borrow.Author.Tests.{eq-eqb, ne-eqb}
 use Rattle.listing.proofs.is_quiet.Statement.{statement}
 use Rattle.listing.proofs.is_quiet.Tie as tie
 

@@ -1,6 +1,6 @@
 -- `listing::line_after` meets its contract: one return for each place in a line.
 -- Assumes nothing.
-use borrow.Author.Tests.{lt-ltb, le-ltb, eq-eqb, ne-eqb}
+use borrow.Author.Tests.{eq-eqb, ne-eqb}
 use borrow.Author.Needs.{needs}
 use Rattle.listing.specs.Account.{lineAfter}
 use Rattle.listing.proofs.line_after.Statement.{statement}

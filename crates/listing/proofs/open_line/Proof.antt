@@ -1,6 +1,6 @@
 -- `listing::open_line` meets its contract: one return for each letter.
 -- Assumes nothing.
-use borrow.Author.Tests.{lt-ltb, le-ltb, eq-eqb, ne-eqb}
+use borrow.Author.Tests.{eq-eqb, ne-eqb}
 use borrow.Author.Needs.{needs}
 use Rattle.listing.specs.Account.{opened}
 use Rattle.listing.proofs.open_line.Statement.{statement}

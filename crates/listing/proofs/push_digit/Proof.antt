@@ -1,6 +1,6 @@
 -- `listing::push_digit` meets its contract: one return for each way through the tests.
 -- Assumes nothing.
-use borrow.Author.Tests.{lt-ltb, le-ltb, eq-eqb, ne-eqb}
+use borrow.Author.Tests.{lt-ltb, le-ltb}
 use borrow.Author.Needs.{needs}
 use Rattle.listing.proofs.push_digit.Statement.{statement}
 use Rattle.listing.proofs.push_digit.Tie as tie

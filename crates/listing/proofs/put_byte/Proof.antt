@@ -1,6 +1,6 @@
 -- `listing::put_byte` meets its contract: one return for each place in a line.
 -- Assumes nothing.
-use borrow.Author.Tests.{lt-ltb, le-ltb, eq-eqb, ne-eqb}
+use borrow.Author.Tests.{eq-eqb, ne-eqb}
 use mathlib.Core.Path.{sym, _∙_}
 use native.Mathlib.Omega.{arith}
 use Rattle.listing.specs.Account.{wrote}

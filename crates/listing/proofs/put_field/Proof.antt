@@ -1,7 +1,7 @@
 -- `listing::put_field` meets its contract: one write after the other; a number of 64 bits has at most 20 digits.
 -- Assumes nothing.
 use native.Mathlib.Omega.{arith}
-use Rattle.pen.proofs.Digits.{digits-64, decimal-64}
+use Rattle.pen.proofs.Digits.{digits-64}
 use Rattle.definition.specs.Flat.{decimal}
 use Rattle.pen.proofs.Writing.{both}
 use borrow.Author.Needs.{needs}

@@ -29,7 +29,7 @@ same-length c = search needs
 
 returns : tie.Need-returns
 unfolding bytesOf refusedLine fields
-returns c = both (c .before .before .before .before .before .before .before .before .before .before .before .before .before .before .put-word .ensures) (both (c .before .before .before .before .before .before .before .before .before .before .put-field .ensures .0) (both (c .before .before .before .before .before .before .put-field2 .ensures .0) (c .before .before .put .ensures)))
+returns c = (both (c .before .before .before .before .before .before .before .before .before .before .before .before .before .before .put-word .ensures) (both (c .before .before .before .before .before .before .before .before .before .before .put-field .ensures .0) (both (c .before .before .before .before .before .before .put-field2 .ensures .0) (c .before .before .put .ensures))), omega (arith, c .before .before .before .before .before .before .before .before .before .before .before .before .before .before .put-word .ensures .ends, c .before .before .before .before .before .before .before .before .before .before .put-field .ensures .1, c .before .before .before .before .before .before .put-field2 .ensures .1, c .before .before .put .ensures .ends))
 
 pub put-refusal-spec : {M : Type 1} → statement M
 put-refusal-spec =

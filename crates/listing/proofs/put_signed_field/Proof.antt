@@ -1,7 +1,7 @@
 -- `listing::put_signed_field` meets its contract: one write after the other; a number of 64 bits has at most 20 bytes.
 -- Assumes nothing.
 use native.Mathlib.Omega.{arith}
-use Rattle.pen.proofs.Digits.{digits-64, decimal-64}
+use Rattle.pen.proofs.Digits.{decimal-64}
 use lib.Signed.{natAbs-le}
 use mir.Facts.{toZ-ofZ}
 use Rattle.pen.proofs.Writing.{both}

@@ -35,7 +35,7 @@ same-length c = search needs
 
 returns : tie.Need-returns
 unfolding bytesOf
-returns c = some-window (c .before .before .before .before .before .before .before .before .before .before .before .before .before .before .before .before .before .before .before .before .before .before .before .before .before .before .before .before .before .before .before .args .xs) (c .before .before .before .before .before .before .before .before .before .before .before .before .before .before .before .before .before .before .before .before .before .before .before .before .before .before .before .before .before .before .before .args .ys) (c .before .before .before .before .before .before .before .before .before .before .before .before .before .before .before .before .before .before .before .before .before .before .before .before .if1 .taken) (both (c .before .before .before .before .before .before .before .before .before .before .before .before .before .before .before .before .before .before .before .before .before .before .before .before .before .before .before .put-word .ensures) (both (rw (told w64 (c .before .before .before .before .before .before .before .before .before .before .before .before .before .before .before .before .before .before .before .before .before .before .before .before .before .before .before .before .before .before .before .args .xs .low) (c .before .before .before .before .before .before .before .before .before .before .before .before .before .before .before .before .before .before .before .before .before .before .struct-told .given .1 .0 .1)) at (c .before .before .before .before .before .before .before .before .before .before .before .before .before .before .before .before .before .before .before .before .before .put-signed-field .ensures .0)) (both (rw (told w64 (c .before .before .before .before .before .before .before .before .before .before .before .before .before .before .before .before .before .before .before .before .before .before .before .before .before .before .before .before .before .before .before .args .ys .low) (c .before .before .before .before .before .before .before .before .before .before .before .before .before .before .before .before .before .struct-told2 .given .1 .0 .1)) at (c .before .before .before .before .before .before .before .before .before .before .before .before .before .before .before .before .put-signed-field2 .ensures .0)) (both (rw (told w64 (c .before .before .before .before .before .before .before .before .before .before .before .before .before .before .before .before .before .before .before .before .before .before .before .before .before .before .before .before .before .before .before .args .xs .high) (c .before .before .before .before .before .before .before .before .before .before .before .before .struct-told3 .given .1 .1 .0 .1)) at (c .before .before .before .before .before .before .before .before .before .before .before .put-signed-field3 .ensures .0)) (both (rw (told w64 (c .before .before .before .before .before .before .before .before .before .before .before .before .before .before .before .before .before .before .before .before .before .before .before .before .before .before .before .before .before .before .before .args .ys .high) (c .before .before .before .before .before .before .before .struct-told4 .given .1 .1 .0 .1)) at (c .before .before .before .before .before .before .put-signed-field4 .ensures .0)) (c .before .before .put .ensures))))))
+returns c = (some-window (c .before .before .before .before .before .before .before .before .before .before .before .before .before .before .before .before .before .before .before .before .before .before .before .before .before .before .before .before .before .before .before .args .xs) (c .before .before .before .before .before .before .before .before .before .before .before .before .before .before .before .before .before .before .before .before .before .before .before .before .before .before .before .before .before .before .before .args .ys) (c .before .before .before .before .before .before .before .before .before .before .before .before .before .before .before .before .before .before .before .before .before .before .before .before .if1 .taken) (both (c .before .before .before .before .before .before .before .before .before .before .before .before .before .before .before .before .before .before .before .before .before .before .before .before .before .before .before .put-word .ensures) (both (rw (told w64 (c .before .before .before .before .before .before .before .before .before .before .before .before .before .before .before .before .before .before .before .before .before .before .before .before .before .before .before .before .before .before .before .args .xs .low) (c .before .before .before .before .before .before .before .before .before .before .before .before .before .before .before .before .before .before .before .before .before .before .struct-told .given .1 .0 .1)) at (c .before .before .before .before .before .before .before .before .before .before .before .before .before .before .before .before .before .before .before .before .before .put-signed-field .ensures .0)) (both (rw (told w64 (c .before .before .before .before .before .before .before .before .before .before .before .before .before .before .before .before .before .before .before .before .before .before .before .before .before .before .before .before .before .before .before .args .ys .low) (c .before .before .before .before .before .before .before .before .before .before .before .before .before .before .before .before .before .struct-told2 .given .1 .0 .1)) at (c .before .before .before .before .before .before .before .before .before .before .before .before .before .before .before .before .put-signed-field2 .ensures .0)) (both (rw (told w64 (c .before .before .before .before .before .before .before .before .before .before .before .before .before .before .before .before .before .before .before .before .before .before .before .before .before .before .before .before .before .before .before .args .xs .high) (c .before .before .before .before .before .before .before .before .before .before .before .before .struct-told3 .given .1 .1 .0 .1)) at (c .before .before .before .before .before .before .before .before .before .before .before .put-signed-field3 .ensures .0)) (both (rw (told w64 (c .before .before .before .before .before .before .before .before .before .before .before .before .before .before .before .before .before .before .before .before .before .before .before .before .before .before .before .before .before .before .before .args .ys .high) (c .before .before .before .before .before .before .before .struct-told4 .given .1 .1 .0 .1)) at (c .before .before .before .before .before .before .put-signed-field4 .ensures .0)) (c .before .before .put .ensures)))))), omega (arith, c .before .before .before .before .before .before .before .before .before .before .before .before .before .before .before .before .before .before .before .before .before .before .before .before .before .before .before .put-word .ensures .ends, c .before .before .before .before .before .before .before .before .before .before .before .before .before .before .before .before .before .before .before .before .before .put-signed-field .ensures .1, c .before .before .before .before .before .before .before .before .before .before .before .before .before .before .before .before .put-signed-field2 .ensures .1, c .before .before .before .before .before .before .before .before .before .before .before .put-signed-field3 .ensures .1, c .before .before .before .before .before .before .put-signed-field4 .ensures .1, c .before .before .put .ensures .ends))
 
 slice-aggregate-put-word-2 : tie.Need-slice-aggregate-put-word-2
 slice-aggregate-put-word-2 c = search needs
@@ -48,7 +48,7 @@ same-length-2 c = search needs
 
 returns-2 : tie.Need-returns-2
 unfolding bytesOf
-returns-2 c = no-window (c .before .before .before .before .before .before .before .before .before .before .before .before .args .xs) (c .before .before .before .before .before .before .before .before .before .before .before .before .args .ys) (c .before .before .before .before .before .if1 .left) (both (c .before .before .before .before .before .before .before .before .put-word .ensures) (c .before .before .put-word2 .ensures))
+returns-2 c = (no-window (c .before .before .before .before .before .before .before .before .before .before .before .before .args .xs) (c .before .before .before .before .before .before .before .before .before .before .before .before .args .ys) (c .before .before .before .before .before .if1 .left) (both (c .before .before .before .before .before .before .before .before .put-word .ensures) (c .before .before .put-word2 .ensures)), omega (arith, c .before .before .before .before .before .before .before .before .put-word .ensures .ends, c .before .before .put-word2 .ensures .ends))
 
 pub put-window-spec : {M : Type 1} → statement M
 put-window-spec =

@@ -1,7 +1,7 @@
 -- `listing::span_after` meets its contract: a number that ends is taken by its axis.
 -- Assumes nothing.
 use Rattle.listing.proofs.Steps.{taken-by}
-use borrow.Author.Tests.{lt-ltb, le-ltb, eq-eqb, ne-eqb}
+use borrow.Author.Tests.{ne-eqb}
 use mathlib.Core.Path.{sym, _∙_}
 use borrow.Author.Needs.{needs}
 use Rattle.listing.specs.Account.{spanAfter}

@@ -1,0 +1,109 @@
+-- The account is the definition's listing, for the answer and the flat file of every text; and it is short.
+-- Assumes nothing.
+use mathlib.Core.Path.{_≡_, sym, ap, ap₂, _∙_, subst}
+use mathlib.Core.List.{List, [], _++_, flatMap}
+use Prim.Native.Nat.{ℕ, _+_, _*_, _≤_, _<_}
+use native.Mathlib.Omega.{arith}
+use borrow.Author.Tests.{lt-ltb, le-ltb, eq-eqb, ne-eqb}
+use lib.IntN.{ℤ}
+use lib.ListN.{length, length-append}
+use Rattle.definition.specs.Words.{Point, bytesOf}
+use Rattle.definition.specs.Drawing.{Drawn, Chain, Event}
+use Rattle.definition.specs.Counts.{Counts, counts, shapesOf}
+use Rattle.definition.specs.Flat.{flat}
+use Rattle.definition.specs.declared.Answer.{Answer}
+use Rattle.definition.specs.Answer.{Outcome, accepted, rejected, flatFile, given-back, Answers}
+use Rattle.definition.specs.Listing.{shapeLines, windowLine, listing}
+use Rattle.definition.proofs.Range.{All}
+use Rattle.definition.proofs.Sound.{Sound, all-sound}
+use Rattle.definition.proofs.Flattened.{reading, within-limit, shapes-counted}
+use Rattle.definition.proofs.Demand1.{located}
+use Rattle.pen.specs.Writes.{Writes}
+use Rattle.pen.specs.Names.{packed}
+use Rattle.pen.proofs.Writing.{nothing, both, same-bytes, one-outcome}
+use Rattle.listing.specs.Account.{fresh, nowhere, printed, spanOf, totalLine, windowOf, refusedLine, account}
+use Rattle.listing.specs.Listed.{Walks, Listed}
+use Rattle.listing.specs.declared.Walked.{Walked}
+use Rattle.listing.proofs.Lines.{lines-printed}
+use Rattle.listing.proofs.Window.{along-x, along-y, lines-taken, window-is}
+use Rattle.listing.proofs.Short.{lines-short}
+
+-- ---- shapes
+
+abbrev pointsOf : List Drawn → List (Point ℤ)
+pointsOf ds = flatMap (λ (d : Drawn). d .itself .points) ds
+
+shapes-printed : (ds : List Drawn) → All Sound ds → printed (fresh 1 0) (flat ds) ≡ shapeLines 1 ds
+unfolding flat packed
+shapes-printed ds h = lines-printed 1 [] ds h
+
+window-printed : (ds : List Drawn) → All Sound ds → windowOf (spanOf 1 (flat ds)) (spanOf 2 (flat ds)) ≡ windowLine (pointsOf ds)
+unfolding flat packed
+window-printed ds h =
+    ap₂ windowOf (lines-taken 1 (λ (p : Point ℤ). p .x) along-x 1 [] ds nowhere h) (lines-taken 2 (λ (p : Point ℤ). p .y) along-y 1 [] ds nowhere h) ∙ window-is (pointsOf ds)
+
+-- ---- outcomes
+
+accepted-is : {t : List ℕ} {room : ℕ} (c : Counts) (es : List Event) → Answers t room (accepted c es)
+    → account (given-back (accepted c es)) (flatFile (accepted c es)) ≡ listing (accepted c es)
+unfolding account given-back flatFile listing totalLine bytesOf
+accepted-is c es k =
+    let ds = shapesOf es in
+    let s = all-sound k in
+    rw (le-ltb 16777216 (length (flat ds)) (within-limit (reading k .as-read)))
+    (ap₂ (λ (x y : List ℕ). x ++ (totalLine (c .shapes) (c .calls) (c .redefinitions) ++ y)) (shapes-printed ds s) (window-printed ds s))
+
+rejected-is : {t : List ℕ} {room : ℕ} (n p : ℕ) (chain : Chain) → Answers t room (rejected n p chain)
+    → account (given-back (rejected n p chain)) (flatFile (rejected n p chain)) ≡ listing (rejected n p chain)
+unfolding account given-back flatFile listing refusedLine
+rejected-is n p chain k = let h = located k .first-number in rw (ne-eqb n 0 (λ e. omega (arith, h, e)))
+
+pub account-is : {t : List ℕ} {room : ℕ} (o : Outcome) → Answers t room o → account (given-back o) (flatFile o) ≡ listing o
+account-is (accepted c es) k = accepted-is c es k
+account-is (rejected n p chain) k = rejected-is n p chain k
+
+-- ---- how long it is
+
+shapes-short : {t : List ℕ} {room : ℕ} (o : Outcome) → Answers t room o → length (printed (fresh 1 0) (flatFile o)) ≤ 4 * length (flatFile o)
+unfolding flatFile flat printed
+shapes-short (rejected n p chain) k = omega arith
+shapes-short (accepted c es) k =
+    let ds = shapesOf es in
+    let n = shapes-counted (counts 0 0 0) es c (omega arith) (reading k .as-read .ended) in
+    let e = ap length (shapes-printed ds (all-sound k)) in
+    let q = lines-short 1 [] ds (all-sound k) (let i = n .is in let l = n .limit in omega (arith, i, l)) in
+    simp length-append (omega (arith, e, q))
+
+-- ---- the contract of `list`
+
+-- what is written settles it, if there is not much behind the shapes' lines
+pub listed : {a : Answer} {f old new : List ℕ} {r : ℕ} → Writes old new 0 r (account a f) → r ≤ length (printed (fresh 1 0) f) + 160 → Listed a f old new r
+listed {a} {f} w h = record {
+  is = λ {t} {room} {o} k e g. same-bytes (ap₂ account e g ∙ account-is o k) w;
+  short = λ {t} {room} {o} k e g.
+      let q : length (printed (fresh 1 0) f) ≤ 4 * length f = subst (λ (x : List ℕ). length (printed (fresh 1 0) x) ≤ 4 * length x) (sym g) (shapes-short o k) in
+      omega (arith, q, h);
+  along = w;
+}
+
+pub nothing-listed : (a : Answer) (f room : List ℕ) → 16777216 < length f → Listed a f room room 0
+unfolding account
+nothing-listed a f room h = listed (rw (lt-ltb 16777216 (length f) h) (nothing room 0)) (omega arith)
+
+pub refusal-listed : {a : Answer} {f old new : List ℕ} {r : ℕ} → length f ≤ 16777216 → (a .number ≡ 0 → ⊥) → Writes old new 0 r (refusedLine (a .number) (a .place))
+    → r ≤ 50 → Listed a f old new r
+unfolding account
+refusal-listed {a} {f} h n w s = listed (rw (le-ltb 16777216 (length f) h, ne-eqb (a .number) 0 n) w) (omega arith)
+
+pub shapes-listed : {a : Answer} {f r₀ r₁ r₂ r₃ : List ℕ} {j k : ℕ} (v : Walked) → length f ≤ 16777216 → a .number ≡ 0 → Walks f r₀ r₁ v
+    → Writes r₁ r₂ (v .at) j (totalLine (a .shapes) (a .calls) (a .redefinitions)) → j ≤ v .at + 69
+    → Writes r₂ r₃ j k (windowOf (v .xs) (v .ys)) → k ≤ j + 91 → Listed a f r₀ r₃ k
+unfolding account
+shapes-listed {a} {f} v h n g t p w q =
+    let e = g .writes .ends in
+    let all = both (g .writes) (both t w) in
+    listed (rw (le-ltb 16777216 (length f) h, eq-eqb (a .number) 0 n) (rw (g .xs-are, g .ys-are) at all)) (omega (arith, e, p, q))
+
+-- two outcomes that the contract allows are one, whatever the bytes
+pub one-listing : {a : Answer} {f old new new′ : List ℕ} {r r′ : ℕ} → Listed a f old new r → Listed a f old new′ r′ → (new ≡ new′) × (r ≡ r′)
+one-listing h k = one-outcome (h .along) (k .along)
