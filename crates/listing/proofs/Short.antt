@@ -33,15 +33,18 @@ three-numbers : (zs : List ℤ) → 3 ≤ length zs → 5 ≤ length (spaced zs)
 three-numbers [] h = absurd (omega (arith, h))
 three-numbers (z ∷ zs) h = let q = spaced-least z zs in omega (arith, h, q)
 
-numbers-least : (k : Shape ℤ) → Formed k → least (k .kind) ≤ length (k .points) → 3 ≤ length (numbersOfShape k)
+shape-least : (k : Shape ℤ) → Formed k → least (k .kind) ≤ length (k .points) → 3 ≤ length (numbersOfShape k)
 unfolding least
-numbers-least k (a-box l m p q) h = omega arith
-numbers-least k (a-flash l p) h = omega arith
-numbers-least k (a-wire l []) h = absurd (omega (arith, h))
-numbers-least k (a-wire l (p ∷ ps)) h = omega arith
-numbers-least k (a-polygon []) h = absurd (omega (arith, h))
-numbers-least k (a-polygon (p ∷ [])) h = absurd (omega (arith, h))
-numbers-least k (a-polygon (p ∷ q ∷ ps)) h = omega arith
+shape-least k (a-box l m p q) h = omega arith
+shape-least k (a-flash l p) h = omega arith
+shape-least k (a-wire l []) h = absurd (omega (arith, h))
+shape-least k (a-wire l (p ∷ ps)) h = omega arith
+shape-least k (a-polygon []) h = absurd (omega (arith, h))
+shape-least k (a-polygon (p ∷ [])) h = absurd (omega (arith, h))
+shape-least k (a-polygon (p ∷ q ∷ ps)) h = omega arith
+
+pub numbers-least : (d : Drawn) → Sound d → 3 ≤ length (numbersOfShape (d .itself))
+numbers-least d s = shape-least (d .itself) (s .formed) (s .enough-points)
 
 said-least : (before : List ℕ) (d : Drawn) → length (spaced (numbersOfShape (d .itself))) + 3 ≤ length (said before d)
 unfolding said
@@ -61,6 +64,6 @@ lines-short n before [] h k = omega arith
 lines-short n before (d ∷ ds) h k =
     let own = line-length n d (h .0) (omega (arith, k)) in
     let flat-own = said-least before d in
-    let five = three-numbers (numbersOfShape (d .itself)) (numbers-least (d .itself) (h .0 .formed) (h .0 .enough-points)) in
+    let five = three-numbers (numbersOfShape (d .itself)) (numbers-least d (h .0)) in
     let rest = lines-short (n + 1) (d .layer-of) ds (h .1) (omega (arith, k)) in
     simp length-append (omega (arith, own, flat-own, five, rest))

@@ -1,6 +1,6 @@
 -- The loop over the flat file: what is written and what is left to write, what the window has and what it will have. `next` keeps it from byte to byte.
 -- Assumes nothing.
-use mathlib.Core.Path.{_≡_, refl, sym, ap, _∙_}
+use mathlib.Core.Path.{_≡_, sym, ap, _∙_}
 use mathlib.Core.Bool.{Bool, true, false}
 use mathlib.Core.List.{List, _++_}
 use Prim.Native.Nat.{ℕ, _+_, _*_, _/_, _≤_, _<_}
@@ -70,12 +70,12 @@ pub record Walking (f old new : List ℕ) (at : ℕ) (s : Line) (n : Numeral) (x
   pub name : s .layer + 256 * s .unit ≤ 4294967296
   pub index : n .index ≤ i
 
-pub first : (f room : List ℕ) → Walking f room room 0 (fresh 1 0) (numeral 0 false 0) nowhere nowhere 0
-first f room = record {
+pub first : (f room : List ℕ) {xs ys : Span} → xs ≡ nowhere → ys ≡ nowhere → Walking f room room 0 (fresh 1 0) (numeral 0 false 0) xs ys 0
+first f room ex ey = record {
   within = omega arith;
   going = begun room 0 (printed (fresh 1 0) f);
-  xs-left = refl;
-  ys-left = refl;
+  xs-left = ap (λ (w : Span). spanned 1 (fresh 1 0) (numeral 0 false 0) w f) ex;
+  ys-left = ap (λ (w : Span). spanned 2 (fresh 1 0) (numeral 0 false 0) w f) ey;
   near = omega arith;
   few = omega arith;
   name = omega arith;

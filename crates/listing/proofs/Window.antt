@@ -3,7 +3,7 @@
 use mathlib.Core.Path.{_≡_, refl, sym, ap, _∙_}
 use mathlib.Core.Bool.{true, false}
 use mathlib.Core.List.{List, [], _∷_, _++_, map, flatMap, append-assoc}
-use Prim.Native.Nat.{ℕ, _+_, _*_, _%_, _≤_, _<_}
+use Prim.Native.Nat.{ℕ, _+_, _*_, _%_, _<_}
 use native.Mathlib.Omega.{arith}
 use borrow.Author.Tests.{eq-eqb, ne-eqb}
 use lib.Dec.{eqb}
@@ -12,7 +12,7 @@ use lib.ListN.{length}
 use lib.Signed.{leZ}
 use Rattle.definition.specs.Words.{if_then_else_, Point}
 use Rattle.definition.specs.Commands.{Shape}
-use Rattle.definition.specs.Faults.{both, least}
+use Rattle.definition.specs.Faults.{both}
 use Rattle.definition.specs.Drawing.{Drawn}
 use Rattle.definition.specs.Flat.{letterOf, spaced, numbersOfShape, said, lines}
 use Rattle.definition.specs.Listing.{extreme, windowLine}
@@ -24,6 +24,7 @@ use Rattle.definition.proofs.Lengths.{numbers-near}
 use Rattle.pen.specs.Names.{packed}
 use Rattle.listing.specs.Account.{fresh, numeral, span, nowhere, lower, higher, includes, alternate, axisOf, spanAfter, spanned, windowOf}
 use Rattle.listing.specs.declared.Span.{Span}
+use Rattle.listing.proofs.Short.{numbers-least}
 use Rattle.listing.proofs.Lines.{Inner, draws, name-inner, said-is}
 use Rattle.listing.proofs.Numbers.{takes, taken, shape-taken, layer-taken}
 
@@ -96,26 +97,16 @@ module _ (axis : ℕ) (f : Point ℤ → ℤ) (a : Axis axis f) where
 
   -- ---- all shapes
 
-  some-numbers : (d : Drawn) → Sound d → 0 < length (numbersOfShape (d .itself))
-  unfolding least
-  some-numbers d s = go (d .itself) (s .formed) (s .enough-points)
-    where
-      go : (k : Shape ℤ) → Formed k → least (k .kind) ≤ length (k .points) → 0 < length (numbersOfShape k)
-      go k (a-box l m p q) h = omega arith
-      go k (a-flash l p) h = omega arith
-      go k (a-wire l ps) h = omega arith
-      go k (a-polygon []) h = absurd (omega (arith, h))
-      go k (a-polygon (p ∷ ps)) h = omega arith
-
   said-taken : (n : ℕ) (before : List ℕ) (d : Drawn) (w : Span) (m : List ℕ) → Sound d
       → spanned axis (fresh n (packed before)) (numeral 0 false 0) w (said before d ++ m)
       ≡ spanned axis (fresh (n + 1) (packed (d .layer-of))) (numeral 0 false 0) (includesAll w (map f (d .itself .points))) m
   said-taken n before d w m s =
       let c = letterOf (d .itself .kind) in
       let b = spaced (numbersOfShape (d .itself)) in
+      let some : 0 < length (numbersOfShape (d .itself)) = omega (arith, numbers-least d s) in
       ap (spanned axis (fresh n (packed before)) (numeral 0 false 0) w) (said-is before d m)
       ∙ (layer-taken axis (a .neither) n before (d .layer-of) w (c ∷ (b ++ (59 ∷ 10 ∷ m))) (all-to NameChar Inner name-inner (d .layer-of) (s .name-chars)) (s .short-name)
-      ∙ (shape-taken axis n (packed (d .layer-of)) c w (numbersOfShape (d .itself)) m (draws (d .itself .kind)) (some-numbers d s) (numbers-near d s)
+      ∙ (shape-taken axis n (packed (d .layer-of)) c w (numbersOfShape (d .itself)) m (draws (d .itself .kind)) some (numbers-near d s)
       ∙ ap (λ (v : Span). spanned axis (fresh (n + 1) (packed (d .layer-of))) (numeral 0 false 0) v m) (points-taken (d .itself) (s .formed) w)))
 
   pub lines-taken : (n : ℕ) (before : List ℕ) (ds : List Drawn) (w : Span) → All Sound ds

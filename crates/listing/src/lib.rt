@@ -10,7 +10,7 @@ ghost use Rattle.pen.specs.Writes.{Writes};
 ghost use Rattle.pen.specs.Names.{nameOf};
 ghost use Rattle.listing.specs.Account.{quiet, opened, named, fresh, lineAfter, heading, wrote, pushed, ends, numeral, numeralAfter, valueOf};
 ghost use Rattle.listing.specs.Account.{nowhere, lower, higher, includes, alternate, behindSize, axisOf, spanAfter, totalLine, windowOf, refusedLine};
-ghost use Rattle.listing.specs.Listed.{Listed, Walks, Fits};
+ghost use Rattle.listing.specs.Listed.{Fits, Walks, Listed, answerBy};
 
 // 01, refusal 18: no flat file is longer.
 const LONGEST: usize = 16_777_216;
@@ -206,6 +206,16 @@ fn value_of(n: Numeral) -> i64
 }
 
 // ---- the window
+
+fn no_numbers() -> Span
+    ensures { λ r. ⌜ r ≡ nowhere ⌝ }
+{
+    Span {
+        some: false,
+        low: 0,
+        high: 0,
+    }
+}
 
 fn lower_of(a: i64, b: i64) -> i64
     ensures { λ r. ⌜ r ≡ lower a b ⌝ }
@@ -409,16 +419,8 @@ fn put_shapes(flat: &[u8], out: &mut [u8]) -> Walked
         negative: false,
         value: 0,
     };
-    let mut xs = Span {
-        some: false,
-        low: 0,
-        high: 0,
-    };
-    let mut ys = Span {
-        some: false,
-        low: 0,
-        high: 0,
-    };
+    let mut xs = no_numbers();
+    let mut ys = no_numbers();
     let mut i = 0;
     while i < flat.len() {
         let b = flat[i];
@@ -494,4 +496,20 @@ pub fn list(flat: &[u8], answer: definition::Answer, out: &mut [u8]) -> usize
         return put_window(out, next, xs, ys);
     }
     put_refusal(out, number as u64, answer.place as u64)
+}
+
+// The same for hosts: the answer is the six words of `cif_flatten`, in their order.
+#[no_mangle]
+pub extern "C" fn cif_list(flat: &[u8], words: &[u64; 6], out: &mut [u8]) -> usize
+    ensures { λ r. ⌜ Listed (answerBy (now (words .entry))) (now (flat .entry)) (now (out .entry)) (now (out .exit)) r ⌝ }
+{
+    let answer = definition::Answer {
+        number: words[0] as usize,
+        place: words[1] as usize,
+        length: words[2] as usize,
+        shapes: words[3] as usize,
+        calls: words[4] as usize,
+        redefinitions: words[5] as usize,
+    };
+    list(flat, answer, out)
 }

@@ -3,6 +3,7 @@
 use Prim.Native.Nat.{_-_}
 use native.Mathlib.Omega.{arith}
 use lib.ListN.{length}
+use borrow.Author.Needs.{needs}
 use Rattle.listing.proofs.Walking.{Walking, first, next, fits, all-walked}
 use Rattle.listing.proofs.put_shapes.Statement.{statement}
 use Rattle.listing.proofs.put_shapes.Tie as tie
@@ -13,8 +14,14 @@ Inv-loop flat out₀ at₀ s₀ n₀ xs₀ ys₀ i₀ out at s n xs ys i = Walki
 abbrev μ-loop : tie.MeasureT-loop
 μ-loop flat out₀ at₀ s₀ n₀ xs₀ ys₀ i₀ out at s n xs ys i = length flat - i
 
+no-numbers-requires : tie.Need-no-numbers-requires Inv-loop μ-loop
+no-numbers-requires c κs = search needs
+
+no-numbers-requires-2 : tie.Need-no-numbers-requires-2 Inv-loop μ-loop
+no-numbers-requires-2 c κs = search needs
+
 loop-holds : tie.Need-loop-holds Inv-loop μ-loop
-loop-holds c = first _ _
+loop-holds c = first _ _ (c .before .no-numbers .ensures) (c .no-numbers2 .ensures)
 
 shared-slice-read-b : tie.Need-shared-slice-read-b Inv-loop μ-loop
 shared-slice-read-b c = omega arith
@@ -32,13 +39,13 @@ numeral-after-requires : tie.Need-numeral-after-requires Inv-loop μ-loop
 numeral-after-requires c κs = let h = c .before .before .before .before .before .before .before .before .loop .inv .index in let k = c .before .before .before .before .before .before .before .before .loop .inv .within in omega arith
 
 line-after-requires : tie.Need-line-after-requires Inv-loop μ-loop
-line-after-requires c κs = fits (c .before .before .before .before .before .before .before .before .before .loop .inv) (c .before .before .before .before .before .before .before .before .before .before .before .before .pre)
+line-after-requires c κs = fits (c .before .before .before .before .before .before .before .before .before .loop .inv) (c .before .before .before .before .before .before .before .before .before .before .before .before .before .before .pre)
 
 add-i : tie.Need-add-i Inv-loop μ-loop
-add-i c = omega arith
+add-i c = omega (arith, c .before .before .before .before .before .before .before .before .before .loop-test .taken, c .before .before .before .before .before .before .before .before .before .before .before .before .before .before .before .pre)
 
 loop-less : tie.Need-loop-less Inv-loop μ-loop
-loop-less c = omega arith
+loop-less c = omega (arith, c .before .before .before .before .before .before .before .before .before .loop-test .taken)
 
 loop-again : tie.Need-loop-again Inv-loop μ-loop
 loop-again c = next (c .before .before .before .before .before .before .before .before .before .before .loop .inv) (c .before .before .before .before .before .before .before .before .before .loop-test .taken) (c .before .before .before .before .before .before .before .before .shared-slice-known2 .given (c .before .before .before .before .before .before .before .before .before .before .loop .i) .fits) (c .before .before .before .before .before .before .put-byte .ensures .0) (c .before .before .before .before .before .before .put-byte .ensures .1) (c .before .before .before .span-after .ensures) (c .before .before .span-after2 .ensures) (c .before .numeral-after .ensures) (c .line-after .ensures)
@@ -55,6 +62,8 @@ put-shapes-spec =
     (tie.spec
     Inv-loop
     μ-loop
+    no-numbers-requires
+    no-numbers-requires-2
     loop-holds
     shared-slice-read-b
     put-byte-requires
