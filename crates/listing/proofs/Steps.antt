@@ -3,7 +3,7 @@
 use mathlib.Core.Path.{_≡_, sym, ap, _∙_, subst}
 use mathlib.Core.Bool.{Bool, true, false}
 use mathlib.Core.List.{List, [], _∷_, _++_}
-use Prim.Native.Nat.{ℕ, zero, suc, _+_, _*_, _^_, _≤_, _<_}
+use Prim.Native.Nat.{ℕ, zero, suc, _+_, _*_, _≤_, _<_}
 use native.Mathlib.Numerals.{add-one}
 use native.Mathlib.Nat.{mul-le-mul-right}
 use native.Mathlib.Omega.{arith}
@@ -12,8 +12,8 @@ use lib.ListN.{length, getD, drop, drop-of-length-le}
 use lib.Seq.{drop-cons}
 use lib.IntN.{ℤ, pos, negℤ, _-ℤ_, +ℤ-idl}
 use lib.Signed.{leZ, mag}
-use mir.Syntax.{w64, Width}
-use mir.Val.{SFits, toZ, ofZ, hbits}
+use mir.Syntax.{w64}
+use mir.Val.{SFits, toZ, ofZ}
 use mir.Facts.{toZ-ofZ, toZ-pos}
 use Rattle.definition.specs.Words.{if_then_else_, bytesOf}
 use Rattle.definition.specs.Flat.{decimal}
@@ -101,8 +101,9 @@ pub taken-by : (axis : ℕ) (s : Span) (letter : ℕ) (n : Numeral) (b : ℕ) {e
 unfolding spanAfter
 taken-by axis s letter n b p q x y v w f = rw (sym p ∙ q, sym x, eq-eqb _ _ y) (w ∙ ap (includes s) (toZ-ofZ f ∙ v))
 
-pub told : (w : Width) (z : ℤ) → mag z < 2 ^ hbits w → toZ w (ofZ w z) ≡ z
-told w z h = toZ-ofZ {w = w} {z = z} (record { sfits = h })
+pub told-field : {old new : List ℕ} {at next : ℕ} (z : ℤ) → mag z < 9223372036854775808 → Writes old new at next (9 ∷ decimal (wrap z)) → Writes old new at next (9 ∷ decimal z)
+told-field {old} {new} {at} {next} z h w =
+    subst (λ (y : ℤ). Writes old new at next (9 ∷ decimal y)) (toZ-ofZ {w = w64} {z = z} (record { sfits = h })) w
 
 pub some-window : {old new : List ℕ} {at next : ℕ} (xs ys : Span) → xs .some ≡ true
     → Writes old new at next (bytesOf "window" ++ ((9 ∷ decimal (xs .low)) ++ ((9 ∷ decimal (ys .low)) ++ ((9 ∷ decimal (xs .high)) ++ ((9 ∷ decimal (ys .high)) ++ (10 ∷ []))))))

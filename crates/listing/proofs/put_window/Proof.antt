@@ -3,8 +3,7 @@
 use native.Mathlib.Omega.{arith}
 use Rattle.definition.specs.Words.{bytesOf}
 use Rattle.pen.proofs.Writing.{both}
-use mir.Syntax.{w64}
-use Rattle.listing.proofs.Steps.{told, some-window, no-window}
+use Rattle.listing.proofs.Steps.{told-field, some-window, no-window}
 use borrow.Author.Needs.{needs}
 use Rattle.listing.proofs.put_window.Statement.{statement}
 use Rattle.listing.proofs.put_window.Tie as tie
@@ -35,7 +34,7 @@ same-length c = search needs
 
 returns : tie.Need-returns
 unfolding bytesOf
-returns c = (some-window (c .before .before .before .before .before .before .before .before .before .before .before .before .before .before .before .before .before .before .before .before .before .before .before .before .before .before .before .before .before .before .before .args .xs) (c .before .before .before .before .before .before .before .before .before .before .before .before .before .before .before .before .before .before .before .before .before .before .before .before .before .before .before .before .before .before .before .args .ys) (c .before .before .before .before .before .before .before .before .before .before .before .before .before .before .before .before .before .before .before .before .before .before .before .before .if1 .taken) (both (c .before .before .before .before .before .before .before .before .before .before .before .before .before .before .before .before .before .before .before .before .before .before .before .before .before .before .before .put-word .ensures) (both (rw (told w64 (c .before .before .before .before .before .before .before .before .before .before .before .before .before .before .before .before .before .before .before .before .before .before .before .before .before .before .before .before .before .before .before .args .xs .low) (c .before .before .before .before .before .before .before .before .before .before .before .before .before .before .before .before .before .before .before .before .before .before .struct-told .given .1 .0 .1)) at (c .before .before .before .before .before .before .before .before .before .before .before .before .before .before .before .before .before .before .before .before .before .put-signed-field .ensures .0)) (both (rw (told w64 (c .before .before .before .before .before .before .before .before .before .before .before .before .before .before .before .before .before .before .before .before .before .before .before .before .before .before .before .before .before .before .before .args .ys .low) (c .before .before .before .before .before .before .before .before .before .before .before .before .before .before .before .before .before .struct-told2 .given .1 .0 .1)) at (c .before .before .before .before .before .before .before .before .before .before .before .before .before .before .before .before .put-signed-field2 .ensures .0)) (both (rw (told w64 (c .before .before .before .before .before .before .before .before .before .before .before .before .before .before .before .before .before .before .before .before .before .before .before .before .before .before .before .before .before .before .before .args .xs .high) (c .before .before .before .before .before .before .before .before .before .before .before .before .struct-told3 .given .1 .1 .0 .1)) at (c .before .before .before .before .before .before .before .before .before .before .before .put-signed-field3 .ensures .0)) (both (rw (told w64 (c .before .before .before .before .before .before .before .before .before .before .before .before .before .before .before .before .before .before .before .before .before .before .before .before .before .before .before .before .before .before .before .args .ys .high) (c .before .before .before .before .before .before .before .struct-told4 .given .1 .1 .0 .1)) at (c .before .before .before .before .before .before .put-signed-field4 .ensures .0)) (c .before .before .put .ensures)))))), omega (arith, c .before .before .before .before .before .before .before .before .before .before .before .before .before .before .before .before .before .before .before .before .before .before .before .before .before .before .before .put-word .ensures .ends, c .before .before .before .before .before .before .before .before .before .before .before .before .before .before .before .before .before .before .before .before .before .put-signed-field .ensures .1, c .before .before .before .before .before .before .before .before .before .before .before .before .before .before .before .before .put-signed-field2 .ensures .1, c .before .before .before .before .before .before .before .before .before .before .before .put-signed-field3 .ensures .1, c .before .before .before .before .before .before .put-signed-field4 .ensures .1, c .before .before .put .ensures .ends))
+returns c = (some-window (c .before .before .before .before .before .before .before .before .before .before .before .before .before .before .before .before .before .before .before .before .before .before .before .before .before .before .before .before .before .before .before .args .xs) (c .before .before .before .before .before .before .before .before .before .before .before .before .before .before .before .before .before .before .before .before .before .before .before .before .before .before .before .before .before .before .before .args .ys) (c .before .before .before .before .before .before .before .before .before .before .before .before .before .before .before .before .before .before .before .before .before .before .before .before .if1 .taken) (both (c .before .before .before .before .before .before .before .before .before .before .before .before .before .before .before .before .before .before .before .before .before .before .before .before .before .before .before .put-word .ensures) (both (told-field (c .before .before .before .before .before .before .before .before .before .before .before .before .before .before .before .before .before .before .before .before .before .before .before .before .before .before .before .before .before .before .before .args .xs .low) (c .before .before .before .before .before .before .before .before .before .before .before .before .before .before .before .before .before .before .before .before .before .before .struct-told .given .1 .0 .1) (c .before .before .before .before .before .before .before .before .before .before .before .before .before .before .before .before .before .before .before .before .before .put-signed-field .ensures .0)) (both (told-field (c .before .before .before .before .before .before .before .before .before .before .before .before .before .before .before .before .before .before .before .before .before .before .before .before .before .before .before .before .before .before .before .args .ys .low) (c .before .before .before .before .before .before .before .before .before .before .before .before .before .before .before .before .before .struct-told2 .given .1 .0 .1) (c .before .before .before .before .before .before .before .before .before .before .before .before .before .before .before .before .put-signed-field2 .ensures .0)) (both (told-field (c .before .before .before .before .before .before .before .before .before .before .before .before .before .before .before .before .before .before .before .before .before .before .before .before .before .before .before .before .before .before .before .args .xs .high) (c .before .before .before .before .before .before .before .before .before .before .before .before .struct-told3 .given .1 .1 .0 .1) (c .before .before .before .before .before .before .before .before .before .before .before .put-signed-field3 .ensures .0)) (both (told-field (c .before .before .before .before .before .before .before .before .before .before .before .before .before .before .before .before .before .before .before .before .before .before .before .before .before .before .before .before .before .before .before .args .ys .high) (c .before .before .before .before .before .before .before .struct-told4 .given .1 .1 .0 .1) (c .before .before .before .before .before .before .put-signed-field4 .ensures .0)) (c .before .before .put .ensures)))))), omega (arith, c .before .before .before .before .before .before .before .before .before .before .before .before .before .before .before .before .before .before .before .before .before .before .before .before .before .before .before .put-word .ensures .ends, c .before .before .before .before .before .before .before .before .before .before .before .before .before .before .before .before .before .before .before .before .before .put-signed-field .ensures .1, c .before .before .before .before .before .before .before .before .before .before .before .before .before .before .before .before .put-signed-field2 .ensures .1, c .before .before .before .before .before .before .before .before .before .before .before .put-signed-field3 .ensures .1, c .before .before .before .before .before .before .put-signed-field4 .ensures .1, c .before .before .put .ensures .ends))
 
 slice-aggregate-put-word-2 : tie.Need-slice-aggregate-put-word-2
 slice-aggregate-put-word-2 c = search needs
