@@ -1,0 +1,35 @@
+/* A small host of the proved reader: writes the flat file of the CIF text on standard input to standard output.
+   On x86-64: cc -Iinclude examples/host.c target/staticlib/libreader.a -o host. `tool/build` builds it anywhere, and `tool/test` runs it. */
+#include <stdio.h>
+#include <stdlib.h>
+
+#include "cif.h"
+
+static int flatten(unsigned char *text, unsigned char *room) {
+  /* One byte more than the reader takes, so that a text which is too long gets refusal 1 and is not cut. */
+  size_t length = fread(text, 1, CIF_MOST_BYTES + 1, stdin);
+  if (ferror(stdin)) {
+    fprintf(stderr, "host: standard input cannot be read\n");
+    return 2;
+  }
+  uint64_t answer[CIF_WORDS];
+  cif_flatten(text, length, room, CIF_MOST_BYTES, answer);
+  if (answer[CIF_NUMBER] != 0) {
+    fprintf(stderr, "host: refused %zu at byte %zu\n", (size_t)answer[CIF_NUMBER], (size_t)answer[CIF_PLACE]);
+    return 1;
+  }
+  size_t flat = (size_t)answer[CIF_LENGTH];
+  if (fwrite(room, 1, flat, stdout) != flat || fflush(stdout) != 0) {
+    fprintf(stderr, "host: standard output cannot be written\n");
+    return 2;
+  }
+  return 0;
+}
+
+int main(void) {
+  unsigned char *text = malloc(CIF_MOST_BYTES + 1), *room = malloc(CIF_MOST_BYTES);
+  int status = text == NULL || room == NULL ? 2 : flatten(text, room);
+  free(text);
+  free(room);
+  return status;
+}

@@ -1,0 +1,78 @@
+/* The flat file by layers, in the order in which they first appear: runs of neighbouring shapes on one layer, gathered by name. There may be as many layers
+   as shapes, so runs are sorted and never searched. */
+#include <stdlib.h>
+
+#include "tool.h"
+
+static int order(uint32_t one, uint32_t other) { return (one > other) - (one < other); }
+
+static int by_name_and_start(const void *one, const void *other) {
+  const struct run *a = one, *b = other;
+  return a->layer != b->layer ? order(a->layer, b->layer) : order(a->start, b->start);
+}
+
+static size_t count_runs(struct bytes flat) {
+  static struct shape shape;
+  struct walk walk = walk_over(flat);
+  size_t runs = 0;
+  for (uint32_t last = 0; next_shape(&walk, &shape); last = shape.layer) runs += shape.layer != last;
+  return runs;
+}
+
+static void fill_runs(struct bytes flat, struct run *runs) {
+  static struct shape shape;
+  struct walk walk = walk_over(flat);
+  struct run *run = runs;
+  for (uint32_t last = 0; next_shape(&walk, &shape); last = shape.layer) {
+    if (last != 0 && shape.layer != last) run++;
+    if (shape.layer != last) *run = (struct run){.layer = shape.layer, .start = (uint32_t)shape.start};
+    run->end = (uint32_t)walk.at;
+    run->shapes++;
+  }
+}
+
+static size_t count_layers(const struct layers *layers) {
+  size_t count = 0;
+  for (size_t i = 0; i < layers->run_count; i++) count += i == 0 || layers->runs[i].layer != layers->runs[i - 1].layer;
+  return count;
+}
+
+static void fill_layers(struct layers *layers) {
+  struct layer *layer = layers->all;
+  for (size_t i = 0; i < layers->run_count; i++) {
+    const struct run *run = &layers->runs[i];
+    if (i > 0 && run->layer != layer->name) layer++;
+    if (i == 0 || run->layer != layer->name) *layer = (struct layer){.name = run->layer, .first_run = i, .start = run->start};
+    layer->runs++;
+    layer->shapes += run->shapes;
+  }
+}
+
+static int by_start(const void *one, const void *other) {
+  const struct layer *a = one, *b = other;
+  return order(a->start, b->start);
+}
+
+static bool gather(struct layers *layers) {
+  qsort(layers->runs, layers->run_count, sizeof *layers->runs, by_name_and_start);
+  layers->count = count_layers(layers);
+  layers->all = malloc(layers->count * sizeof *layers->all);
+  if (layers->all == NULL) return false;
+  fill_layers(layers);
+  qsort(layers->all, layers->count, sizeof *layers->all, by_start);
+  return true;
+}
+
+bool find_layers(struct bytes flat, struct layers *layers) {
+  *layers = (struct layers){.run_count = count_runs(flat)};
+  if (layers->run_count == 0) return true;
+  layers->runs = malloc(layers->run_count * sizeof *layers->runs);
+  if (layers->runs == NULL) return false;
+  fill_runs(flat, layers->runs);
+  return gather(layers);
+}
+
+void release_layers(struct layers *layers) {
+  free(layers->runs);
+  free(layers->all);
+}

@@ -1,0 +1,238 @@
+/* Bytes on their way out: to standard output, to standard error, or to a file that appears whole or not at all. Written straight to the system, so that
+   every failure is seen and told. */
+#include <errno.h>
+#include <fcntl.h>
+#include <signal.h>
+#include <stdio.h>
+#include <stdlib.h>
+#include <string.h>
+#include <sys/stat.h>
+#include <unistd.h>
+
+#include "tool.h"
+
+struct output standard_error = {.file = 2, .name = "standard error"};
+
+/* The temporary file to remove when a signal ends the tool. */
+static const char *volatile pending;
+
+/* ---- bytes */
+
+void flush(struct output *out) {
+  size_t done = 0;
+  while (out->file != DROPPED && out->error == 0 && done < out->used) {
+    ssize_t written = write(out->file, out->waiting + done, out->used - done);
+    if (written > 0) done += (size_t)written;
+    else if (written == 0) out->error = EIO;
+    else if (errno != EINTR) out->error = errno;
+  }
+  out->used = 0;
+}
+
+void put(struct output *out, const void *bytes, size_t count) {
+  const unsigned char *from = bytes;
+  while (count > 0) {
+    size_t part = sizeof out->waiting - out->used;
+    if (part > count) part = count;
+    memcpy(out->waiting + out->used, from, part);
+    out->used += part;
+    from += part;
+    count -= part;
+    if (out->used == sizeof out->waiting) flush(out);
+  }
+}
+
+void put_text(struct output *out, const char *text) { put(out, text, strlen(text)); }
+
+void put_number(struct output *out, int64_t number) {
+  char digits[20];
+  size_t first = sizeof digits;
+  uint64_t rest = number < 0 ? 0 - (uint64_t)number : (uint64_t)number;
+  do {
+    digits[--first] = (char)('0' + rest % 10);
+    rest /= 10;
+  } while (rest > 0);
+  if (number < 0) put_text(out, "-");
+  put(out, digits + first, sizeof digits - first);
+}
+
+size_t columns_of(unsigned char byte) { return byte == '\t' || (byte >= ' ' && byte < 127) ? 1 : 4; }
+
+void put_visible(struct output *out, unsigned char byte) {
+  static const char hex[] = "0123456789ABCDEF";
+  char shown[] = {'\\', 'x', hex[byte >> 4], hex[byte & 15]};
+  size_t columns = columns_of(byte);
+  if (columns == 1) shown[0] = byte == '\t' ? ' ' : (char)byte;
+  put(out, shown, columns);
+}
+
+void put_name(struct output *out, const char *name) {
+  for (; *name != 0; name++) {
+    unsigned char byte = (unsigned char)*name;
+    /* Bytes from 128 up are letters of the user's own tongue here, and the terminal that took them can show them. */
+    if (byte >= 128) put(out, name, 1);
+    else put_visible(out, byte);
+  }
+}
+
+enum status complain(const char *what, const char *name, int error) {
+  put_text(&standard_error, "cif: ");
+  put_text(&standard_error, what);
+  put_text(&standard_error, " ");
+  put_name(&standard_error, name);
+  if (error != 0) {
+    put_text(&standard_error, ": ");
+    put_text(&standard_error, strerror(error));
+  }
+  put_text(&standard_error, "\n");
+  flush(&standard_error);
+  return COULD_NOT_RUN;
+}
+
+/* ---- files */
+
+static void start(struct output *out, int file, const char *name) {
+  out->file = file;
+  out->error = 0;
+  out->used = 0;
+  out->name = name;
+  out->path = NULL;
+  out->temporary = NULL;
+}
+
+static char *copy_text(const char *text) {
+  size_t count = strlen(text) + 1;
+  char *copy = malloc(count);
+  return copy == NULL ? NULL : memcpy(copy, text, count);
+}
+
+/* A name in the directory of `path` that tells whose it is: its length does not depend on that of the last part, which may be as long as names can be. */
+static char *name_beside(const char *path, int attempt) {
+  const char *slash = strrchr(path, '/');
+  size_t directory = slash == NULL ? 0 : (size_t)(slash - path) + 1;
+  char *name = malloc(directory + 64);
+  if (name == NULL) return NULL;
+  memcpy(name, path, directory);
+  struct output spelled = {.file = DROPPED};
+  put_text(&spelled, ".cif-");
+  put_number(&spelled, (int64_t)getpid());
+  put_text(&spelled, "-");
+  put_number(&spelled, attempt);
+  put(&spelled, ".tmp", 5);
+  memcpy(name + directory, spelled.waiting, spelled.used);
+  return name;
+}
+
+/* Makes the temporary file; a name that is taken, by an earlier run that was killed, is passed over. */
+static bool make_temporary(struct output *out) {
+  for (int attempt = 0; attempt < 1000; attempt++) {
+    char *name = name_beside(out->path, attempt);
+    if (name == NULL) break;
+    out->file = open(name, O_WRONLY | O_CREAT | O_EXCL | O_NOCTTY | O_CLOEXEC, 0666);
+    if (out->file >= 0) {
+      out->temporary = name;
+      pending = name;
+      return true;
+    }
+    int error = errno;
+    free(name);
+    errno = error;
+    if (error != EEXIST) break;
+  }
+  return false;
+}
+
+/* A file that is there keeps its permissions, and a link to it stays a link. */
+static bool replace_file(struct output *out, const char *name, const struct stat *old) {
+  out->path = old == NULL ? copy_text(name) : realpath(name, NULL);
+  if (out->path == NULL) return false;
+  if (old != NULL && access(out->path, W_OK) != 0) return false;
+  if (!make_temporary(out)) return false;
+  if (old != NULL) (void)fchmod(out->file, old->st_mode & 07777);
+  return true;
+}
+
+static bool open_file(struct output *out, const char *name) {
+  struct stat old;
+  if (stat(name, &old) != 0) return errno == ENOENT && replace_file(out, name, NULL);
+  if (S_ISREG(old.st_mode)) return replace_file(out, name, &old);
+  if (S_ISDIR(old.st_mode)) {
+    errno = EISDIR;
+    return false;
+  }
+  /* A device or a pipe is written to as it is: it must not be replaced by a file. */
+  out->file = open(name, O_WRONLY | O_NOCTTY | O_CLOEXEC);
+  return out->file >= 0;
+}
+
+static void forget_names(struct output *out) {
+  pending = NULL;
+  free(out->temporary);
+  free(out->path);
+  out->temporary = NULL;
+  out->path = NULL;
+}
+
+bool open_output(struct output *out, const char *name) {
+  if (name == NULL || strcmp(name, "-") == 0) {
+    start(out, 1, "standard output");
+    return true;
+  }
+  start(out, DROPPED, name);
+  if (open_file(out, name)) return true;
+  int error = errno;
+  forget_names(out);
+  complain("cannot write", name, error);
+  return false;
+}
+
+void abandon_output(struct output *out) {
+  if (out->file != DROPPED) (void)close(out->file);
+  if (out->temporary != NULL) (void)unlink(out->temporary);
+  out->file = DROPPED;
+  forget_names(out);
+}
+
+static void note_failure(struct output *out, int result) {
+  if (result != 0 && out->error == 0) out->error = errno;
+}
+
+bool close_output(struct output *out) {
+  flush(out);
+  if (out->temporary != NULL && out->error == 0) note_failure(out, fsync(out->file));
+  note_failure(out, close(out->file));
+  out->file = DROPPED;
+  if (out->temporary != NULL && out->error == 0) note_failure(out, rename(out->temporary, out->path));
+  if (out->error == 0) {
+    forget_names(out);
+    return true;
+  }
+  abandon_output(out);
+  complain("cannot write", out->name, out->error);
+  return false;
+}
+
+/* ---- guards */
+
+static void remove_pending(int number) {
+  if (pending != NULL) (void)unlink(pending);
+  (void)signal(number, SIG_DFL);
+  (void)raise(number);
+}
+
+static void catch_signal(int number) {
+  if (signal(number, remove_pending) == SIG_IGN) (void)signal(number, SIG_IGN);
+}
+
+void guard_files(void) {
+  /* Opened the wrong way round, so that reading the one and writing the others still fails as it would on a closed file. */
+  static const int wrong_way[] = {O_WRONLY, O_RDONLY, O_RDONLY};
+  for (int file = 0; file < 3; file++) {
+    if (fcntl(file, F_GETFD) < 0) (void)open("/dev/null", wrong_way[file]);
+  }
+  (void)signal(SIGPIPE, SIG_IGN);
+  (void)signal(SIGXFSZ, SIG_IGN);
+  catch_signal(SIGHUP);
+  catch_signal(SIGINT);
+  catch_signal(SIGTERM);
+}

@@ -1,0 +1,168 @@
+/* What the files of the tool offer each other, file by file. The proved reader decides; what stands here reads files, shows and writes. */
+#ifndef CIF_TOOL_H
+#define CIF_TOOL_H
+
+#include <stdbool.h>
+#include <stddef.h>
+#include <stdint.h>
+
+#include "cif.h"
+
+/* How the tool ends. */
+enum status { ACCEPTED = 0, REFUSED = 1, COULD_NOT_RUN = 2 };
+
+/* Bytes that somebody else keeps: a text, a flat file. */
+struct bytes {
+  const unsigned char *at;
+  size_t count;
+};
+
+/* ---- output.c: bytes on their way out. The first failure is kept, and told when the output is closed. */
+
+struct output {
+  int file;         /* DROPPED for bytes that go nowhere */
+  int error;        /* errno of the first failure, or 0 */
+  size_t used;      /* how many bytes wait */
+  const char *name; /* as the user wrote it, for complaints */
+  char *path;       /* what the temporary file is renamed to at the end, or NULL */
+  char *temporary;  /* the file beside it that is written first, or NULL */
+  unsigned char waiting[1 << 15];
+};
+
+enum { DROPPED = -1 };
+
+extern struct output standard_error;
+
+void put(struct output *out, const void *bytes, size_t count);
+void put_text(struct output *out, const char *text);
+void put_number(struct output *out, int64_t number);
+/* A byte as it can be shown on any terminal, a tab as one space, and how many columns that takes. */
+void put_visible(struct output *out, unsigned char byte);
+size_t columns_of(unsigned char byte);
+void put_name(struct output *out, const char *name);
+void flush(struct output *out);
+
+/* Standard output for NULL and "-". Any other file appears whole at the end, or not at all. Both complain and answer false if it cannot be written. */
+bool open_output(struct output *out, const char *name);
+bool close_output(struct output *out);
+/* For an output that is not wanted after all: nothing of a file appears. */
+void abandon_output(struct output *out);
+
+/* Standard files that are closed are filled, so that no file of ours takes their place; a temporary file is removed when a signal ends the tool. */
+void guard_files(void);
+
+/* "cif: cannot WHAT NAME: why" on standard error. */
+enum status complain(const char *what, const char *name, int error);
+
+/* ---- input.c */
+
+/* The whole file, or standard input for "-": at most MOST bytes are kept. `text` is to be freed. Complains and answers false if it cannot be read. */
+bool read_file(const char *name, size_t most, unsigned char **text, size_t *count);
+
+/* ---- commands.c: where commands stand in a text, as far as it follows the grammar. */
+
+struct context {
+  unsigned char letter; /* the first byte of the command that is being read, or 0 between commands */
+  size_t start;         /* where that command starts */
+  bool open_comment;    /* the command is a comment that is not closed yet */
+  bool defining;        /* a definition is open before that command */
+  bool begun;           /* some semicolon came earlier */
+  size_t definitions;   /* how many DS came before that command */
+};
+
+/* What is being read at the end of the text. */
+struct context context_at_end(struct bytes text);
+
+/* ---- refusals.c: the sentences. */
+
+struct sentence {
+  int number;
+  char key; /* which case of that number, or 0 for all others */
+  const char *wrong;
+  const char *remedy;
+};
+
+/* The sentence for a refusal; NULL for a number that none has. */
+const struct sentence *sentence_for(uint64_t number, struct bytes text, size_t place);
+void tell_refusal(struct output *out, const char *name, struct bytes text, uint64_t number, uint64_t place);
+/* A hint on an accepted text that defines symbols and calls none. */
+void tell_hint(struct output *out, const char *name, struct bytes text);
+
+/* ---- excerpt.c */
+
+struct position {
+  size_t line, column; /* both from 1; a line ends with byte 10 */
+};
+
+struct position position_of(struct bytes text, size_t place);
+/* The line around the place, cut where it is long, and a caret under the place. */
+void put_excerpt(struct output *out, struct bytes text, size_t place);
+
+/* ---- shapes.c: the shapes of a flat file, one after another. */
+
+enum { MOST_NUMBERS = 2049 };
+
+struct shape {
+  char kind;        /* B, R, W or P */
+  uint32_t layer;   /* its bytes packed, the first highest */
+  size_t start;     /* where its line starts */
+  size_t count;
+  int32_t numbers[MOST_NUMBERS];
+};
+
+struct walk {
+  struct bytes flat;
+  size_t at;
+  uint32_t layer;
+  bool broken; /* the bytes are no flat file */
+};
+
+/* Whether the bytes are a flat file from beginning to end. */
+bool is_flat(struct bytes flat);
+struct walk walk_over(struct bytes flat);
+/* False at the end of the flat file, or where it is broken. */
+bool next_shape(struct walk *walk, struct shape *shape);
+/* Where the points of a shape start among its numbers, and how many points it has. */
+size_t first_point(const struct shape *shape);
+size_t point_count(const struct shape *shape);
+/* The characters of a packed layer name, ended by 0. */
+void spell_layer(uint32_t layer, char name[5]);
+
+/* ---- layers.c: the flat file by layers, in the order in which they first appear. */
+
+struct run { /* neighbouring shapes on one layer */
+  uint32_t layer;
+  uint32_t start, end; /* where their lines stand in the flat file */
+  uint32_t shapes;
+};
+
+struct layer {
+  uint32_t name;
+  uint32_t start; /* where its first line stands */
+  uint32_t colour;
+  size_t first_run, runs;
+  size_t shapes;
+};
+
+struct layers {
+  struct run *runs;
+  size_t run_count;
+  struct layer *all;
+  size_t count;
+};
+
+/* False where there is no memory. What it answers is to be released. */
+bool find_layers(struct bytes flat, struct layers *layers);
+void release_layers(struct layers *layers);
+
+/* ---- colours.c */
+
+/* Gives each layer its colour: the one that goes with its name, or the next one if a layer before it has that already. */
+void colour_layers(struct layer *layers, size_t count);
+
+/* ---- list.c, plot.c: what is made of a flat file. */
+
+void put_list(struct output *out, struct bytes flat, const uint64_t answer[CIF_WORDS]);
+void put_plot(struct output *out, struct bytes flat, const struct layers *layers);
+
+#endif
