@@ -88,15 +88,18 @@ static const char *shown_name(const struct request *request) { return same(reque
 static enum status written(struct output *out) { return close_output(out) ? ACCEPTED : COULD_NOT_RUN; }
 
 static enum status check(const struct request *request, const struct reading *reading) {
-  static const char *const words[] = {[CIF_LENGTH] = " bytes of flat file, ", [CIF_SHAPES] = " shapes, ", [CIF_CALLS] = " calls, ", [CIF_REDEFINITIONS] = " redefinitions\n"};
   static struct output out;
   if (!open_output(&out, NULL)) return COULD_NOT_RUN;
   put_name(&out, shown_name(request));
   put_text(&out, ": accepted: ");
-  for (int word = CIF_LENGTH; word < CIF_WORDS; word++) {
-    put_number(&out, (int64_t)reading->answer[word]);
-    put_text(&out, words[word]);
-  }
+  put_count(&out, reading->answer[CIF_SHAPES], " shape");
+  put_text(&out, ", ");
+  put_count(&out, reading->answer[CIF_CALLS], " call");
+  put_text(&out, ", ");
+  put_count(&out, reading->answer[CIF_REDEFINITIONS], " redefinition");
+  put_text(&out, "; the flat file has ");
+  put_count(&out, reading->answer[CIF_LENGTH], " byte");
+  put_text(&out, "\n");
   return written(&out);
 }
 

@@ -56,6 +56,12 @@ void put_number(struct output *out, int64_t number) {
   put(out, digits + first, sizeof digits - first);
 }
 
+void put_count(struct output *out, uint64_t count, const char *what) {
+  put_number(out, (int64_t)count);
+  put_text(out, what);
+  if (count != 1) put_text(out, "s");
+}
+
 size_t columns_of(unsigned char byte) { return byte == '\t' || (byte >= ' ' && byte < 127) ? 1 : 4; }
 
 void put_visible(struct output *out, unsigned char byte) {

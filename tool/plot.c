@@ -66,12 +66,6 @@ static void put_colour(struct output *out, const char *name, uint32_t colour) {
   put_text(out, "\"");
 }
 
-static void put_count(struct output *out, size_t count, const char *what) {
-  put_number(out, (int64_t)count);
-  put_text(out, what);
-  if (count != 1) put_text(out, "s");
-}
-
 /* ---- geometry */
 
 static struct spot point_of(const struct shape *shape, size_t which) {

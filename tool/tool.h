@@ -36,6 +36,8 @@ extern struct output standard_error;
 void put(struct output *out, const void *bytes, size_t count);
 void put_text(struct output *out, const char *text);
 void put_number(struct output *out, int64_t number);
+/* "3 shapes": the thing with a space before it, and an s behind it unless there is one. */
+void put_count(struct output *out, uint64_t count, const char *what);
 /* A byte as it can be shown on any terminal, a tab as one space, and how many columns that takes. */
 void put_visible(struct output *out, unsigned char byte);
 size_t columns_of(unsigned char byte);
