@@ -1,8 +1,8 @@
 /* A place of a text for the eye: its line and column, and the line with a caret under it. */
 #include "tool.h"
 
-/* How many columns are shown at most on either side of the place. */
-enum { BEFORE = 48, BEHIND = 24 };
+/* How many columns are shown at most on either side of the place: with the rest they fit into eighty. */
+enum { BEFORE = 46, BEHIND = 22 };
 
 static size_t line_start(struct bytes text, size_t place) {
   while (place > 0 && text.at[place - 1] != '\n') place--;

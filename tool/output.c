@@ -154,7 +154,7 @@ static bool replace_file(struct output *out, const char *name, const struct stat
   if (out->path == NULL) return false;
   if (old != NULL && access(out->path, W_OK) != 0) return false;
   if (!make_temporary(out)) return false;
-  if (old != NULL) (void)fchmod(out->file, old->st_mode & 07777);
+  if (old != NULL) (void)fchmod(out->file, old->st_mode & 0777);
   return true;
 }
 
@@ -203,9 +203,12 @@ static void note_failure(struct output *out, int result) {
   if (result != 0 && out->error == 0) out->error = errno;
 }
 
+/* Down to the disk, where the file system knows of such a thing: EINVAL says that it does not. */
+static int settle(int file) { return fsync(file) != 0 && errno != EINVAL ? -1 : 0; }
+
 bool close_output(struct output *out) {
   flush(out);
-  if (out->temporary != NULL && out->error == 0) note_failure(out, fsync(out->file));
+  if (out->temporary != NULL && out->error == 0) note_failure(out, settle(out->file));
   note_failure(out, close(out->file));
   out->file = DROPPED;
   if (out->temporary != NULL && out->error == 0) note_failure(out, rename(out->temporary, out->path));

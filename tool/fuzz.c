@@ -1,0 +1,173 @@
+/* Throws random bytes at the parts of the tool that read bytes: the telling of refusals and hints, the walk over a flat file, the list and the picture. Built
+   by tool/fuzz with the compiler's sanitizers and without the proved archive. fuzz COUNT SEED; ends at the first thing that is not as it should be. */
+#include <stdio.h>
+#include <stdlib.h>
+#include <string.h>
+
+#include "tool.h"
+
+static uint64_t state;
+
+static unsigned below(unsigned bound) {
+  state ^= state << 13;
+  state ^= state >> 7;
+  state ^= state << 17;
+  return (unsigned)(state >> 20) % bound;
+}
+
+static void demand(bool right, const char *what, const struct output *out) {
+  if (right) return;
+  fprintf(stderr, "fuzz: not so: %s\n%.*s\n", what, (int)out->used, (const char *)out->waiting);
+  exit(1);
+}
+
+/* A copy in memory of its own, so that one byte too far is noticed. */
+static unsigned char *copy_of(const unsigned char *from, size_t count) {
+  unsigned char *copy = malloc(count > 0 ? count : 1);
+  if (copy == NULL) exit(2);
+  return memcpy(copy, from, count);
+}
+
+/* ---- texts */
+
+static size_t random_text(unsigned char *text, size_t most) {
+  static const char *const pieces[] = {"DS1 2 3;", "DF;", "DD1;",    "D", "LNM;", "L",  "B4 4 0 0", "W", "P0 0", "C1 MX T5 5;", "(",
+                                       ")",        "(a(b)c)", ";", "E", "\n",    "\t", "-",        "9 x;", " ", "\r\n"};
+  size_t count = 0, parts = below(40);
+  for (size_t i = 0; i < parts && count + 300 < most; i++) {
+    unsigned kind = below(10);
+    size_t repeat = kind == 0 ? below(200) : 1;
+    const char *piece = pieces[below(sizeof pieces / sizeof *pieces)];
+    for (size_t j = 0; j < repeat; j++) text[count++] = (unsigned char)below(256);
+    if (kind < 2) continue;
+    memcpy(text + count, piece, strlen(piece));
+    count += strlen(piece);
+  }
+  return count;
+}
+
+/* What is told has only bytes that any terminal can show, short lines, and a caret in the column of its place. */
+static void look_at_telling(const struct output *out, struct bytes text, size_t place) {
+  size_t length = 0, line = 0, caret = 0;
+  for (size_t i = 0; i < out->used; i++) {
+    unsigned char byte = out->waiting[i];
+    demand(byte == '\n' || (byte >= ' ' && byte < 127), "a byte that cannot be shown", out);
+    if (byte == '^' && line == 2) caret = length;
+    length = byte == '\n' ? 0 : length + 1;
+    line += byte == '\n';
+    demand(length < 220, "a long line", out);
+  }
+  demand(line == 4 && caret >= 4 && caret < 60, "the lines of a refusal", out);
+  const unsigned char *shown = memchr(out->waiting, '\n', out->used);
+  bool at_end = place == text.count || text.at[place] == '\n';
+  unsigned char over = shown[1 + caret], byte = at_end ? '\n' : text.at[place];
+  demand(columns_of(byte) == 1 ? over == (byte == '\t' ? ' ' : byte) : over == (at_end ? '\n' : '\\'), "what stands over the caret", out);
+}
+
+static void try_text(void) {
+  static unsigned char room[16384];
+  static struct output out;
+  size_t count = random_text(room, sizeof room);
+  unsigned char *copy = copy_of(room, count);
+  struct bytes text = {copy, count};
+  for (int i = 0; i < 8; i++) {
+    size_t place = below((unsigned)text.count + 1);
+    uint64_t number = 2 + below(16);
+    out = (struct output){.file = DROPPED};
+    tell_refusal(&out, "f", text, number, place);
+    look_at_telling(&out, text, place);
+  }
+  for (uint64_t number = 0; number < 30; number++) {
+    demand((sentence_for(number, text, text.count) != NULL) == (number >= 1 && number <= 18), "a sentence for each number", &out);
+    tell_refusal(&out, "f", text, number, (uint64_t)below(1u << 30) << 33);
+  }
+  tell_hint(&out, "f", text);
+  free(copy);
+}
+
+/* ---- flat files */
+
+static void put_random(struct output *flat, bool size) {
+  static const int64_t odd[] = {1, 2, 16777215, 16777214, 8388608};
+  int64_t number = below(3) == 0 ? odd[below(5)] : (int64_t)below(200) + 1;
+  put_number(flat, size || below(2) == 0 ? number : below(4) == 0 ? 0 : -number);
+}
+
+static void put_random_shape(struct output *flat) {
+  static const char kinds[] = "BRWP";
+  char kind = kinds[below(4)];
+  size_t points = kind == 'P' ? 3 + below(9) : kind == 'W' ? 1 + below(9) : 1, sizes = kind == 'B' ? 2 : kind == 'P' ? 0 : 1;
+  put(flat, &kind, 1);
+  for (size_t i = 0; i < sizes + 2 * points; i++) {
+    if (i > 0) put_text(flat, " ");
+    put_random(flat, i < sizes);
+  }
+  if (kind == 'B') {
+    put_text(flat, " ");
+    put_random(flat, true);
+    put_text(flat, " ");
+    put_random(flat, false);
+  }
+  put_text(flat, ";\n");
+}
+
+static void put_random_flat(struct output *flat) {
+  static const char *const names[] = {"LNM;\n", "LND;\n", "LA;\n", "LZZZZ;\n", "L0;\n", "LB1;\n"};
+  size_t shapes = below(30);
+  for (size_t i = 0; i < shapes; i++) {
+    if (i == 0 || below(3) == 0) put_text(flat, names[below(6)]);
+    put_random_shape(flat);
+  }
+  put_text(flat, "E\n");
+}
+
+static void damage(struct output *flat) {
+  for (unsigned i = below(4); i > 0 && flat->used > 1; i--) {
+    size_t at = below((unsigned)flat->used);
+    switch (below(4)) {
+      case 0: flat->waiting[at] = (unsigned char)below(256); break;
+      case 1: flat->used = at; break;
+      case 2: flat->waiting[at] = (unsigned char)"LBRWPE0123456789 -;\n"[below(20)]; break;
+      default: memmove(flat->waiting + at, flat->waiting + at + 1, --flat->used - at); break;
+    }
+  }
+}
+
+/* Also a broken flat file must be walked over without harm, though the tool looks first. */
+static void show(struct bytes flat) {
+  static struct output out;
+  static const uint64_t answer[CIF_WORDS];
+  struct layers layers;
+  out = (struct output){.file = DROPPED};
+  put_list(&out, flat, answer);
+  if (!find_layers(flat, &layers)) exit(2);
+  colour_layers(layers.all, layers.count);
+  put_plot(&out, flat, &layers);
+  release_layers(&layers);
+}
+
+static void try_flat(void) {
+  static struct output made;
+  made = (struct output){.file = DROPPED};
+  put_random_flat(&made);
+  for (bool damaged = false;; damaged = true) {
+    unsigned char *copy = copy_of(made.waiting, made.used);
+    struct bytes flat = {copy, made.used};
+    demand(is_flat(flat) || damaged, "a flat file is one", &made);
+    show(flat);
+    free(copy);
+    if (damaged) return;
+    damage(&made);
+  }
+}
+
+int main(int count, char **words) {
+  unsigned long rounds = count > 1 ? strtoul(words[1], NULL, 10) : 10000;
+  state = (count > 2 ? strtoull(words[2], NULL, 10) : 1) * 2654435769u + 88172645463325252u;
+  for (unsigned long i = 0; i < rounds; i++) {
+    try_text();
+    try_flat();
+  }
+  printf("fuzz: %lu rounds, nothing found\n", rounds);
+  return 0;
+}

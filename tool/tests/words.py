@@ -1,0 +1,112 @@
+"""The words of the command line, and what is written for an accepted text."""
+import concurrent.futures
+import os
+import re
+
+from common import EXAMPLE, EXAMPLE_FLAT, EXAMPLE_LIST, MOST, TOP, cif, content, expect, scratch
+from refusals import expect_told
+
+
+def test_help():
+    for words in (["--help"], ["flat", "--help"]):
+        done = cif(*words)
+        expect(done.returncode == 0 and b"cif flat FILE" in done.stdout and not done.stderr, "help on standard output", words, done)
+    done = cif()
+    expect(done.returncode == 2 and not done.stdout and b"cif flat FILE" in done.stderr, "no words: the help on standard error", done)
+    done = cif("--version")
+    expect(done.returncode == 0 and re.fullmatch(rb"cif \d+\.\d+: .*\n", done.stdout), "--version", done)
+    first = content(os.path.join(TOP, "tool", "cif.1")).split(b"\n")[0]
+    expect(b'"' + done.stdout.split(b":")[0] + b'"' in first, "the man page is of this version", first, done.stdout)
+
+
+def test_bad_words():
+    good = scratch("good.cif", EXAMPLE)
+    for words in (["flatten", good], ["flat"], ["flat", good, good], ["flat", "-x", good], ["flat", good, "-o"], ["flat", good, "-o", "a", "-o", "b"],
+                  ["check", good, "-o", "a"], ["list", good, "-o", "a"], ["--nothing"], ["flat", "--output", "a", good]):
+        done = cif(*words)
+        expect(done.returncode == 2 and not done.stdout and b"cif --help" in done.stderr, "bad words end with 2", words, done)
+
+
+def test_good_words():
+    good = scratch("good.cif", EXAMPLE)
+    odd = scratch("-odd", EXAMPLE)
+    for words in (["flat", good], ["flat", "--", good], ["flat", good, "-o", "-"], ["flat", "-o-", good], ["flat", "--", os.path.basename(odd)]):
+        done = cif(*words, cwd=os.path.dirname(odd))
+        expect((done.returncode, done.stdout, done.stderr) == (0, EXAMPLE_FLAT, b""), "the flat file on standard output", words, done)
+
+
+def test_accepted():
+    good, out = scratch("good.cif", EXAMPLE), scratch("good.out")
+    done = cif("flat", good, "-o", out)
+    expect((done.returncode, done.stdout, done.stderr, content(out)) == (0, b"", b"", EXAMPLE_FLAT), "flat -o", done)
+    expect(cif("flat", "-", text=EXAMPLE).stdout == EXAMPLE_FLAT, "a text from standard input")
+    done = cif("list", good)
+    expect((done.returncode, done.stdout, done.stderr) == (0, EXAMPLE_LIST, b""), "document 01's list", done)
+    done = cif("list", "-", text=b"E")
+    expect(done.stdout == b"total\t0\t0\t0\nwindow\tnone\n", "the list of a text without shapes", done)
+    done = cif("check", good)
+    told = good.encode() + b": accepted: 1 shape, 1 call, 0 redefinitions; the flat file has 26 bytes\n"
+    expect((done.returncode, done.stdout, done.stderr) == (0, told, b""), "check", done)
+
+
+def listed(flat, totals):
+    """Document 01's list of a flat file."""
+    lines, layer, points = [], "", []
+    for line in flat.decode().split("\n")[:-2]:
+        kind, numbers = line[0], line[1:-1]
+        if kind == "L":
+            layer = numbers
+            continue
+        lines.append(f"shape\t{len(lines) + 1}\t{layer}\t{kind}\t{numbers}")
+        n = [int(x) for x in numbers.split()]
+        n = n[2:4] if kind == "B" else n if kind == "P" else n[1:]
+        points += zip(n[::2], n[1::2])
+    x, y = [p[0] for p in points], [p[1] for p in points]
+    window = [min(x), min(y), max(x), max(y)] if points else ["none"]
+    return "\n".join([*lines, "\t".join(["total", *totals]), "\t".join(["window", *map(str, window)]), ""]).encode()
+
+
+def try_vector(row):
+    text, number, place, flat = bytes.fromhex(row[2]), int(row[3]), int(row[4]), bytes.fromhex(row[9])
+    if number == 18:  # of a small room; the tool's is always the largest
+        return
+    done = cif("list", "-", text=text)
+    if number == 0:
+        expect((done.returncode, done.stdout) == (0, listed(flat, row[6:9])), "the list of a vector", text, done)
+        expect(cif("flat", "-", text=text).stdout == flat, "the flat file of a vector", text)
+    else:
+        expect((done.returncode, done.stdout) == (1, f"refused\t{number}\t{place}\n".encode()), "the refusal of a vector", text, done)
+        expect_told(text, number, place, done.stderr)
+
+
+def test_vectors():
+    rows = [line.split("\t") for line in content(os.path.join(TOP, "tests", "base.tsv")).decode().split("\n")[1:-1]]
+    with concurrent.futures.ThreadPoolExecutor(os.cpu_count()) as pool:
+        list(pool.map(try_vector, rows))
+
+
+def test_hint():
+    """Where symbols are defined and none is called."""
+    for text, said in ((b"DS1;LA;R1 0 0;DF;E", b"the 1 definition holds"), (b"DS1;DF;D blank S 2;C1;DF;DD1;E", b"the 2 definitions hold"),
+                       (b"LA;R1 0 0;DS1;DF;E", b"1 definition")):
+        done = cif("flat", "-", text=text)
+        expect(done.returncode == 0 and said in done.stderr and b"C n;" in done.stderr, "a hint where nothing is called", text, done)
+    for text in (b"E", b"LA;R1 0 0;E", b"DS1;DF;C1;E", b"(DS1;DF;);E", b"9 DS1;E", b"DD1;E", b"LDS;E"):
+        done = cif("flat", "-", text=text)
+        expect(done.returncode == 0 and done.stderr == b"", "no hint", text, done)
+
+
+def test_longest():
+    expect(cif("flat", "-", text=b"E".ljust(MOST)).stdout == b"E\n", "a text of 16,777,216 bytes")
+    boxes = b"LA;\n" + b"B1111111 1111111 1 1 1 0;\n" * 645277
+    most = boxes + b"R1 0 0;\nE\n"
+    done = cif("flat", "-", text=most.replace(b"\n", b""))
+    expect(len(most) == MOST and done.returncode == 0 and done.stdout == most, "a flat file of 16,777,216 bytes", done.stderr)
+    done = cif("flat", "-", text=boxes.replace(b"\n", b"") + b"R11 0 0;E")
+    expect(done.returncode == 1 and b" refused 18 at byte 0: " in done.stderr, "a flat file of a byte more", done.stderr)
+
+
+def test_a_million_shapes():
+    done = cif("list", "-", text=b"DS1;LA;" + b"R1 0 0;" * 1024 + b"DF;" + b"C1;" * 1024 + b"E")
+    end = b"shape\t1048576\tA\tR\t1 0 0\ntotal\t1048576\t1024\t0\nwindow\t0\t0\t0\t0\n"
+    expect(done.returncode == 0 and done.stdout.endswith(end) and done.stdout.count(b"\n") == 1048578, "1,048,576 shapes listed", done.stderr)
