@@ -160,7 +160,7 @@ static bool replace_file(struct output *out, const char *name, const struct stat
 
 static bool open_file(struct output *out, const char *name) {
   struct stat old;
-  if (stat(name, &old) != 0) return errno == ENOENT && replace_file(out, name, NULL);
+  if (stat(name, &old) != 0) return errno == ENOENT && *name != 0 && replace_file(out, name, NULL);
   if (S_ISREG(old.st_mode)) return replace_file(out, name, &old);
   if (S_ISDIR(old.st_mode)) {
     errno = EISDIR;
