@@ -22,29 +22,30 @@ static size_t count_runs(struct bytes flat) {
 static void fill_runs(struct bytes flat, struct run *runs) {
   static struct shape shape;
   struct walk walk = walk_over(flat);
-  struct run *run = runs;
+  struct run *next = runs;
   for (uint32_t last = 0; next_shape(&walk, &shape); last = shape.layer) {
-    if (last != 0 && shape.layer != last) run++;
-    if (shape.layer != last) *run = (struct run){.layer = shape.layer, .start = (uint32_t)shape.start};
-    run->end = (uint32_t)walk.at;
-    run->shapes++;
+    if (shape.layer != last) *next++ = (struct run){.layer = shape.layer, .start = (uint32_t)shape.start};
+    next[-1].end = (uint32_t)walk.at;
+    next[-1].shapes++;
   }
 }
 
+/* Whether a sorted run is the first of its layer. */
+static bool starts_layer(const struct layers *layers, size_t run) { return run == 0 || layers->runs[run].layer != layers->runs[run - 1].layer; }
+
 static size_t count_layers(const struct layers *layers) {
   size_t count = 0;
-  for (size_t i = 0; i < layers->run_count; i++) count += i == 0 || layers->runs[i].layer != layers->runs[i - 1].layer;
+  for (size_t i = 0; i < layers->run_count; i++) count += starts_layer(layers, i);
   return count;
 }
 
 static void fill_layers(struct layers *layers) {
-  struct layer *layer = layers->all;
+  struct layer *next = layers->all;
   for (size_t i = 0; i < layers->run_count; i++) {
     const struct run *run = &layers->runs[i];
-    if (i > 0 && run->layer != layer->name) layer++;
-    if (i == 0 || run->layer != layer->name) *layer = (struct layer){.name = run->layer, .first_run = i, .start = run->start};
-    layer->runs++;
-    layer->shapes += run->shapes;
+    if (starts_layer(layers, i)) *next++ = (struct layer){.name = run->layer, .first_run = i, .start = run->start};
+    next[-1].runs++;
+    next[-1].shapes += run->shapes;
   }
 }
 

@@ -20,7 +20,6 @@ typedef __UINT32_TYPE__ uint32_t;
 typedef __UINT64_TYPE__ uint64_t;
 #define INT64_MAX __INT64_MAX__
 #define INT64_MIN (-__INT64_MAX__ - 1)
-#define SIZE_MAX __SIZE_MAX__
 
 /* errno.h */
 extern int *__errno_location(void);
@@ -79,12 +78,10 @@ extern int raise(int number);
 
 /* stdlib.h, string.h */
 extern void *malloc(size_t count);
-extern void *realloc(void *old, size_t count);
 extern void free(void *old);
 extern char *realpath(const char *path, char *room);
 extern void qsort(void *first, size_t count, size_t size, int (*order)(const void *, const void *));
 extern void *memcpy(void *to, const void *from, size_t count);
-extern int memcmp(const void *one, const void *other, size_t count);
 extern int strcmp(const char *one, const char *other);
 extern char *strerror(int number);
 extern char *strrchr(const char *text, int byte);
