@@ -137,13 +137,9 @@ static void damage(struct output *flat) {
 static void show(struct bytes flat) {
   static struct output out;
   static const uint64_t answer[CIF_WORDS];
-  struct layers layers;
   out = (struct output){.file = DROPPED};
   put_list(&out, flat, answer);
-  if (!find_layers(flat, &layers)) exit(2);
-  colour_layers(layers.all, layers.count);
-  put_plot(&out, flat, &layers);
-  release_layers(&layers);
+  if (!put_plot(&out, flat)) exit(2);
 }
 
 static void try_flat(void) {

@@ -26,7 +26,7 @@ bool read_file(const char *name, size_t most, unsigned char **text, size_t *coun
   *text = NULL;
   if (error == 0) {
     *text = malloc(most);
-    error = *text == NULL ? errno : read_up_to(file, *text, most, count);
+    error = *text == NULL ? ENOMEM : read_up_to(file, *text, most, count);
   }
   if (file >= 0 && !standard) (void)close(file);
   if (error == 0) return true;

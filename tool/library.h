@@ -27,6 +27,7 @@ extern int *__errno_location(void);
 #define ENOENT 2
 #define EINTR 4
 #define EIO 5
+#define ENOMEM 12
 #define EEXIST 17
 #define EISDIR 21
 #define EINVAL 22

@@ -23,28 +23,59 @@ static const char help[] =
 
 static const char version[] = "cif " VERSION ": the CIF 2.0 reader Wadhuulexi\n";
 
-struct request {
-  const char *task; /* check, flat, list or plot */
-  const char *file;
-  const char *out;  /* NULL: not said */
-};
-
 /* What the reader answered to a text. `flat` is empty on a refusal. */
 struct reading {
+  const char *name; /* of the text, as it is shown */
   struct bytes text, flat;
   uint64_t answer[CIF_WORDS];
 };
 
+/* ---- the tasks: what each writes for an accepted text. False where there is not enough memory. */
+
+static bool check(struct output *out, const struct reading *reading) {
+  put_name(out, reading->name);
+  put_text(out, ": accepted: ");
+  put_count(out, reading->answer[CIF_SHAPES], " shape");
+  put_text(out, ", ");
+  put_count(out, reading->answer[CIF_CALLS], " call");
+  put_text(out, ", ");
+  put_count(out, reading->answer[CIF_REDEFINITIONS], " redefinition");
+  put_text(out, "; the flat file has ");
+  put_count(out, reading->answer[CIF_LENGTH], " byte");
+  put_text(out, "\n");
+  return true;
+}
+
+static bool flat(struct output *out, const struct reading *reading) {
+  put(out, reading->flat.at, reading->flat.count);
+  return true;
+}
+
+static bool list(struct output *out, const struct reading *reading) {
+  put_list(out, reading->flat, reading->answer);
+  return true;
+}
+
+static bool plot(struct output *out, const struct reading *reading) { return put_plot(out, reading->flat); }
+
+struct task {
+  const char *name;
+  bool (*show)(struct output *out, const struct reading *reading);
+  bool takes_out;      /* -o goes with it */
+  bool lists_refusals; /* a refusal is a line of standard output too, as document 01's list program has it */
+};
+
+static const struct task tasks[] = {{"check", check, false, false}, {"flat", flat, true, false}, {"list", list, false, true}, {"plot", plot, true, false}};
+
 /* ---- the words of the command line */
 
-static bool same(const char *one, const char *other) { return strcmp(one, other) == 0; }
+struct request {
+  const struct task *task;
+  const char *file;
+  const char *out; /* NULL: not said */
+};
 
-static enum status say(const char *text) {
-  static struct output out;
-  if (!open_output(&out, NULL)) return COULD_NOT_RUN;
-  put_text(&out, text);
-  return close_output(&out) ? ACCEPTED : COULD_NOT_RUN;
-}
+static bool same(const char *one, const char *other) { return strcmp(one, other) == 0; }
 
 static bool misread(const char *what, const char *word) {
   complain(what, word, 0);
@@ -53,9 +84,16 @@ static bool misread(const char *what, const char *word) {
   return false;
 }
 
+static bool take_task(struct request *request, const char *word) {
+  for (size_t i = 0; i < sizeof tasks / sizeof *tasks; i++) {
+    if (same(tasks[i].name, word)) request->task = &tasks[i];
+  }
+  return request->task != NULL || misread("no such task:", word);
+}
+
 /* The word behind -o, or the rest of the same word. */
 static bool take_out(struct request *request, char **words, int *at) {
-  if (same(request->task, "check") || same(request->task, "list")) return misread("no -o goes with", request->task);
+  if (!request->task->takes_out) return misread("no -o goes with", request->task->name);
   if (request->out != NULL) return misread("a second -o:", words[*at]);
   if (words[*at][2] != 0) request->out = words[*at] + 2;
   else if (words[*at + 1] != NULL) request->out = words[++*at];
@@ -69,79 +107,28 @@ static bool take_file(struct request *request, const char *word) {
 }
 
 static bool take_words(struct request *request, char **words) {
+  if (!take_task(request, words[0])) return false;
   bool options = true;
-  for (int at = 0; words[at] != NULL; at++) {
+  for (int at = 1; words[at] != NULL; at++) {
     bool option = options && words[at][0] == '-' && words[at][1] != 0;
     if (option && same(words[at], "--")) options = false;
     else if (option && words[at][1] != 'o') return misread("no such option:", words[at]);
     else if (!(option ? take_out(request, words, &at) : take_file(request, words[at]))) return false;
   }
-  return request->file != NULL || misread("no FILE behind", request->task);
+  return request->file != NULL || misread("no FILE behind", words[0]);
 }
 
-static bool is_task(const char *word) { return same(word, "check") || same(word, "flat") || same(word, "list") || same(word, "plot"); }
-
-static const char *shown_name(const struct request *request) { return same(request->file, "-") ? "standard input" : request->file; }
-
-/* ---- what is done with an accepted text */
-
-static enum status written(struct output *out) { return close_output(out) ? ACCEPTED : COULD_NOT_RUN; }
-
-static enum status check(const struct request *request, const struct reading *reading) {
-  static struct output out;
-  if (!open_output(&out, NULL)) return COULD_NOT_RUN;
-  put_name(&out, shown_name(request));
-  put_text(&out, ": accepted: ");
-  put_count(&out, reading->answer[CIF_SHAPES], " shape");
-  put_text(&out, ", ");
-  put_count(&out, reading->answer[CIF_CALLS], " call");
-  put_text(&out, ", ");
-  put_count(&out, reading->answer[CIF_REDEFINITIONS], " redefinition");
-  put_text(&out, "; the flat file has ");
-  put_count(&out, reading->answer[CIF_LENGTH], " byte");
-  put_text(&out, "\n");
-  return written(&out);
-}
-
-static enum status flat(const struct request *request, const struct reading *reading) {
-  static struct output out;
-  if (!open_output(&out, request->out)) return COULD_NOT_RUN;
-  put(&out, reading->flat.at, reading->flat.count);
-  return written(&out);
-}
-
-static enum status list(const struct reading *reading) {
-  static struct output out;
-  if (!open_output(&out, NULL)) return COULD_NOT_RUN;
-  put_list(&out, reading->flat, reading->answer);
-  return written(&out);
-}
-
-static enum status plot(const struct request *request, const struct reading *reading) {
-  static struct output out;
-  struct layers layers;
-  if (!find_layers(reading->flat, &layers)) return complain("not enough memory for the layers of", shown_name(request), 0);
-  enum status status = COULD_NOT_RUN;
-  if (open_output(&out, request->out)) {
-    colour_layers(layers.all, layers.count);
-    put_plot(&out, reading->flat, &layers);
-    status = written(&out);
-  }
-  release_layers(&layers);
-  return status;
-}
+/* ---- answering */
 
 static enum status show(const struct request *request, const struct reading *reading) {
-  if (!is_flat(reading->flat)) return complain("this should not happen: the reader wrote something else than a flat file for", shown_name(request), 0);
-  if (same(request->task, "check")) return check(request, reading);
-  if (same(request->task, "flat")) return flat(request, reading);
-  if (same(request->task, "list")) return list(reading);
-  return plot(request, reading);
+  static struct output out;
+  if (!is_flat(reading->flat)) return complain("this should not happen: the reader wrote something else than a flat file for", reading->name, 0);
+  if (!open_output(&out, request->out)) return COULD_NOT_RUN;
+  if (request->task->show(&out, reading)) return close_output(&out) ? ACCEPTED : COULD_NOT_RUN;
+  abandon_output(&out);
+  return complain("not enough memory to show", reading->name, 0);
 }
 
-/* ---- reading */
-
-/* The list program's line of a refusal; the other tasks write nothing. */
 static enum status list_refusal(const struct reading *reading) {
   static struct output out;
   if (!open_output(&out, NULL)) return COULD_NOT_RUN;
@@ -156,18 +143,18 @@ static enum status list_refusal(const struct reading *reading) {
 static enum status answer(const struct request *request, const struct reading *reading) {
   enum status status;
   if (reading->answer[CIF_NUMBER] != 0) {
-    status = same(request->task, "list") ? list_refusal(reading) : REFUSED;
-    tell_refusal(&standard_error, shown_name(request), reading->text, reading->answer[CIF_NUMBER], reading->answer[CIF_PLACE]);
+    status = request->task->lists_refusals ? list_refusal(reading) : REFUSED;
+    tell_refusal(&standard_error, reading->name, reading->text, reading->answer[CIF_NUMBER], reading->answer[CIF_PLACE]);
   } else {
     status = show(request, reading);
-    if (status == ACCEPTED && reading->answer[CIF_CALLS] == 0) tell_hint(&standard_error, shown_name(request), reading->text);
+    if (status == ACCEPTED && reading->answer[CIF_CALLS] == 0) tell_hint(&standard_error, reading->name, reading->text);
   }
   flush(&standard_error);
   return status;
 }
 
 static enum status run(const struct request *request) {
-  struct reading reading;
+  struct reading reading = {.name = same(request->file, "-") ? "standard input" : request->file};
   unsigned char *text;
   size_t count;
   /* One byte more than the reader takes, so that it sees that a text is too long. */
@@ -175,7 +162,7 @@ static enum status run(const struct request *request) {
   unsigned char *room = malloc(CIF_MOST_BYTES);
   enum status status;
   if (room == NULL) {
-    status = complain("not enough memory for the flat file of", shown_name(request), 0);
+    status = complain("not enough memory to read", reading.name, 0);
   } else {
     cif_flatten(text, count, room, CIF_MOST_BYTES, reading.answer);
     reading.text = (struct bytes){text, count};
@@ -187,6 +174,13 @@ static enum status run(const struct request *request) {
   return status;
 }
 
+static enum status say(const char *text) {
+  static struct output out;
+  if (!open_output(&out, NULL)) return COULD_NOT_RUN;
+  put_text(&out, text);
+  return close_output(&out) ? ACCEPTED : COULD_NOT_RUN;
+}
+
 int main(int count, char **words) {
   guard_files();
   if (count < 2) {
@@ -195,10 +189,9 @@ int main(int count, char **words) {
     return COULD_NOT_RUN;
   }
   for (int i = 1; i < count && !same(words[i], "--"); i++) {
-    if (same(words[i], "--help")) return say(help);
-    if (same(words[i], "--version")) return say(version);
+    if (same(words[i], "--help")) return (int)say(help);
+    if (same(words[i], "--version")) return (int)say(version);
   }
-  struct request request = {.task = words[1]};
-  bool understood = is_task(request.task) ? take_words(&request, words + 2) : misread("no such task:", request.task);
-  return (int)(understood ? run(&request) : COULD_NOT_RUN);
+  struct request request = {0};
+  return (int)(take_words(&request, words + 1) ? run(&request) : COULD_NOT_RUN);
 }

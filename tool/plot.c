@@ -386,11 +386,7 @@ static void put_empty(struct output *out) {
   put_text(out, "no shapes</text>\n</svg>\n");
 }
 
-void put_plot(struct output *out, struct bytes flat, const struct layers *layers) {
-  if (layers->count == 0) {
-    put_empty(out);
-    return;
-  }
+static void put_picture(struct output *out, struct bytes flat, const struct layers *layers) {
   struct frame frame = frame_of(flat);
   int64_t legend_high = ((int64_t)legend_rows(layers) + 1) * ROW;
   int64_t wide = larger(frame.pixels_wide + LEGEND, LEAST_WIDTH) + 2 * EDGE, high = larger(frame.pixels_high, legend_high) + EDGE + FOOT;
@@ -400,4 +396,16 @@ void put_plot(struct output *out, struct bytes flat, const struct layers *layers
   put_legend(out, layers, EDGE + frame.pixels_wide + EDGE);
   put_foot(out, &frame, layers, high - FOOT);
   put_text(out, "</svg>\n");
+}
+
+bool put_plot(struct output *out, struct bytes flat) {
+  struct layers layers;
+  bool found = find_layers(flat, &layers);
+  if (found && layers.count == 0) put_empty(out);
+  if (found && layers.count > 0) {
+    colour_layers(layers.all, layers.count);
+    put_picture(out, flat, &layers);
+  }
+  release_layers(&layers);
+  return found;
 }

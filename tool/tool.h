@@ -165,6 +165,7 @@ void colour_layers(struct layer *layers, size_t count);
 /* ---- list.c, plot.c: what is made of a flat file. */
 
 void put_list(struct output *out, struct bytes flat, const uint64_t answer[CIF_WORDS]);
-void put_plot(struct output *out, struct bytes flat, const struct layers *layers);
+/* False where there is no memory; then nothing is put. */
+bool put_plot(struct output *out, struct bytes flat);
 
 #endif
