@@ -74,6 +74,14 @@ extern int fchmod(int file, mode_t mode);
 #define SIGXFSZ 25
 #define SIG_DFL ((void (*)(int))0)
 #define SIG_IGN ((void (*)(int))1)
+typedef struct {
+  unsigned long bits[16];
+} sigset_t;
+#define SIG_BLOCK 0
+#define SIG_SETMASK 2
+extern int sigemptyset(sigset_t *set);
+extern int sigaddset(sigset_t *set, int number);
+extern int sigprocmask(int how, const sigset_t *set, sigset_t *old);
 extern void (*signal(int number, void (*handler)(int)))(int);
 extern int raise(int number);
 

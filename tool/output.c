@@ -13,8 +13,10 @@
 
 struct output standard_error = {.file = 2, .name = "standard error"};
 
-/* The temporary file to remove when a signal ends the tool. */
+/* The temporary file to remove when one of these signals ends the tool. */
 static const char *volatile pending;
+static const int ending[] = {SIGHUP, SIGINT, SIGTERM};
+enum { ENDING = sizeof ending / sizeof *ending };
 
 /* ---- bytes */
 
@@ -129,15 +131,28 @@ static char *name_beside(const char *path, int attempt) {
   return name;
 }
 
+/* Makes a file and notes that it is to be removed, and lets no signal come between. */
+static int create_pending(const char *name) {
+  sigset_t caught, before;
+  (void)sigemptyset(&caught);
+  for (int i = 0; i < ENDING; i++) (void)sigaddset(&caught, ending[i]);
+  (void)sigprocmask(SIG_BLOCK, &caught, &before);
+  int file = open(name, O_WRONLY | O_CREAT | O_EXCL | O_NOCTTY | O_CLOEXEC, 0666);
+  int error = errno;
+  if (file >= 0) pending = name;
+  (void)sigprocmask(SIG_SETMASK, &before, NULL);
+  errno = error;
+  return file;
+}
+
 /* Makes the temporary file; a name that is taken, by an earlier run that was killed, is passed over. */
 static bool make_temporary(struct output *out) {
   for (int attempt = 0; attempt < 1000; attempt++) {
     char *name = name_beside(out->path, attempt);
     if (name == NULL) break;
-    out->file = open(name, O_WRONLY | O_CREAT | O_EXCL | O_NOCTTY | O_CLOEXEC, 0666);
+    out->file = create_pending(name);
     if (out->file >= 0) {
       out->temporary = name;
-      pending = name;
       return true;
     }
     int error = errno;
@@ -241,7 +256,5 @@ void guard_files(void) {
   }
   (void)signal(SIGPIPE, SIG_IGN);
   (void)signal(SIGXFSZ, SIG_IGN);
-  catch_signal(SIGHUP);
-  catch_signal(SIGINT);
-  catch_signal(SIGTERM);
+  for (int i = 0; i < ENDING; i++) catch_signal(ending[i]);
 }
