@@ -39,6 +39,7 @@ def test_sessions():
         if not os.path.exists(os.path.join(TOP, name)):
             continue
         for command, shows in re.findall(r"^    \$ (.*)\n((?:    (?!\$ ).*\n)*)", document(name), re.M):
+            command = command.replace("target/tool/cif", f"'{Run.cif}'")
             done = subprocess.run(command, shell=True, cwd=TOP, stdout=subprocess.PIPE, stderr=subprocess.STDOUT, timeout=600)
             expect(done.stdout.decode() == re.sub("^    ", "", shows, flags=re.M), f"what {name} shows", command, done.stdout)
 
