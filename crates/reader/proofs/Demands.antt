@@ -20,7 +20,7 @@ use Rattle.definition.proofs.Demand1.{Located, RefusalHolds, refusal-holds, Suc
 use Rattle.definition.proofs.Demand2.{Refused, RuleBroken, DrawingStopped, FlatFileTooLong, refused-1, refused-2, refused-3-to-9, refused-10-to-17, refused-18, accepted-exactly}
 use Rattle.definition.proofs.Demand3.{Demand3, demand3, twice}
 
--- the answer is a refusal of this number at this place
+-- the number and the place of an answer
 abbrev pub Says : Answer → (number place : ℕ) → Type 0
 Says r n p = (r .number ≡ n) × (r .place ≡ p)
 
