@@ -1,14 +1,14 @@
 // What the list program prints (01, "The list program"), from the answer and the flat file alone. The flat file is read once, byte by byte: a shape's
 // line is copied behind its count and its layer, and its points are taken into the window.
 ghost use mathlib.Core.Path.{_≡_};
-ghost use mathlib.Core.List.{_∷_, [], _++_};
-ghost use Prim.Native.Nat.{_+_, _*_, _^_, _≤_, _<_};
+ghost use mathlib.Core.List.{_∷_, []};
+ghost use Prim.Native.Nat.{_+_, _*_, _^_, _≤_};
 ghost use lib.IntN.{pos};
 ghost use lib.ListN.{length};
 ghost use Rattle.definition.specs.Flat.{decimal};
 ghost use Rattle.pen.specs.Writes.{Writes};
 ghost use Rattle.pen.specs.Names.{nameOf};
-ghost use Rattle.listing.specs.Account.{quiet, opened, named, fresh, lineAfter, heading, wrote, pushed, ends, numeral, numeralAfter, valueOf};
+ghost use Rattle.listing.specs.Account.{quiet, opened, named, lineAfter, heading, wrote, pushed, ends, numeralAfter, valueOf};
 ghost use Rattle.listing.specs.Account.{nowhere, lower, higher, includes, alternate, behindSize, axisOf, spanAfter, totalLine, windowOf, refusedLine};
 ghost use Rattle.listing.specs.Listed.{Fits, Walks, Listed, answerBy};
 
@@ -71,13 +71,14 @@ fn is_quiet(letter: u8) -> bool
     letter == b'E'
 }
 
-fn open_line(s: Line, b: u8) -> Line
-    requires { ⌜ s .count ≤ 2 ^ 32 ⌝ }
-    ensures { λ r. ⌜ r ≡ opened s b ⌝ }
+// The first letter of a line: an L sets no layer yet, and a shape is counted.
+fn open_line(line: Line, b: u8) -> Line
+    requires { ⌜ line .count ≤ 2 ^ 32 ⌝ }
+    ensures { λ r. ⌜ r ≡ opened line b ⌝ }
 {
     if b == b'L' {
         return Line {
-            count: s.count,
+            count: line.count,
             layer: 0,
             unit: FIRST_UNIT,
             letter: b,
@@ -85,55 +86,57 @@ fn open_line(s: Line, b: u8) -> Line
     }
     if b == b'E' {
         return Line {
-            count: s.count,
-            layer: s.layer,
-            unit: s.unit,
+            count: line.count,
+            layer: line.layer,
+            unit: line.unit,
             letter: b,
         };
     }
     Line {
-        count: s.count + 1,
-        layer: s.layer,
-        unit: s.unit,
+        count: line.count + 1,
+        layer: line.layer,
+        unit: line.unit,
         letter: b,
     }
 }
 
-fn add_letter(s: Line, b: u8) -> Line
-    requires { ⌜ s .layer + 256 * s .unit ≤ 2 ^ 32 ⌝ }
-    ensures { λ r. ⌜ r ≡ named s b ⌝ }
+// One letter more of a layer's name. A name beyond four letters is no flat file's; those behind the fourth count nothing.
+fn add_letter(line: Line, b: u8) -> Line
+    requires { ⌜ line .layer + 256 * line .unit ≤ 2 ^ 32 ⌝ }
+    ensures { λ r. ⌜ r ≡ named line b ⌝ }
 {
     if b == b';' {
-        return s;
+        return line;
     }
     Line {
-        count: s.count,
-        layer: s.layer + b as u32 * s.unit,
-        unit: s.unit / 256,
-        letter: s.letter,
+        count: line.count,
+        layer: line.layer + b as u32 * line.unit,
+        unit: line.unit / 256,
+        letter: line.letter,
     }
 }
 
-fn line_after(s: Line, b: u8) -> Line
-    requires { ⌜ Fits s ⌝ }
-    ensures { λ r. ⌜ r ≡ lineAfter s b ⌝ }
+// The line with one byte more. A line feed ends it, and its layer lasts.
+fn line_after(line: Line, b: u8) -> Line
+    requires { ⌜ Fits line ⌝ }
+    ensures { λ r. ⌜ r ≡ lineAfter line b ⌝ }
 {
     if b == LINE_FEED {
         return Line {
-            count: s.count,
-            layer: s.layer,
+            count: line.count,
+            layer: line.layer,
             unit: 0,
             letter: 0,
         };
     }
-    let letter = s.letter;
+    let letter = line.letter;
     if letter == 0 {
-        return open_line(s, b);
+        return open_line(line, b);
     }
     if letter == b'L' {
-        return add_letter(s, b);
+        return add_letter(line, b);
     }
-    s
+    line
 }
 
 // Its value with one digit more. A number beyond the range is no flat file's, and is held so that it fits.
@@ -152,6 +155,7 @@ fn push_digit(value: u32, b: u8) -> u32
     10 * value + (b - b'0') as u32
 }
 
+// A number ends at a space and at its line's semicolon.
 fn ends_number(b: u8) -> bool
     ensures { λ r. ⌜ r ≡ ends b ⌝ }
 {
@@ -235,13 +239,13 @@ fn higher_of(a: i64, b: i64) -> i64
     b
 }
 
-fn include(s: Span, z: i64) -> Span
-    ensures { λ r. ⌜ r ≡ includes s z ⌝ }
+fn include(span: Span, z: i64) -> Span
+    ensures { λ r. ⌜ r ≡ includes span z ⌝ }
 {
-    let some = s.some;
+    let some = span.some;
     if some {
-        let low = lower_of(s.low, z);
-        let high = higher_of(s.high, z);
+        let low = lower_of(span.low, z);
+        let high = higher_of(span.high, z);
         return Span {
             some: true,
             low,
@@ -302,17 +306,17 @@ fn axis_of(letter: u8, index: usize) -> u8
 }
 
 // A number that ends is taken where it is one of the axis.
-fn span_after(axis: u8, s: Span, letter: u8, n: Numeral, b: u8) -> Span
+fn span_after(axis: u8, span: Span, letter: u8, n: Numeral, b: u8) -> Span
     requires { ⌜ n .index ≤ 2 ^ 32 ⌝ }
-    ensures { λ r. ⌜ r ≡ spanAfter axis s letter n b ⌝ }
+    ensures { λ r. ⌜ r ≡ spanAfter axis span letter n b ⌝ }
 {
     if ends_number(b) {
         if axis_of(letter, n.index) == axis {
-            return include(s, value_of(n));
+            return include(span, value_of(n));
         }
-        return s;
+        return span;
     }
-    s
+    span
 }
 
 // ---- writing
@@ -379,20 +383,20 @@ fn put_heading(out: &mut [u8], at: usize, count: u64, layer: u32, letter: u8) ->
 }
 
 // What is written at a byte of the flat file: a shape's letter gives the heading of its line, and its numbers are copied.
-fn put_byte(out: &mut [u8], at: usize, s: Line, b: u8) -> usize
+fn put_byte(out: &mut [u8], at: usize, line: Line, b: u8) -> usize
     requires { ⌜ at ≤ 2 ^ 58 ⌝ }
-    ensures { λ r. ⌜ Writes (now (out .entry)) (now (out .exit)) at r (wrote s b) ⌝ }
+    ensures { λ r. ⌜ Writes (now (out .entry)) (now (out .exit)) at r (wrote line b) ⌝ }
     ensures { λ r. ⌜ r ≤ at + 34 ⌝ }
 {
     if b == LINE_FEED {
         return at;
     }
-    let letter = s.letter;
+    let letter = line.letter;
     if letter == 0 {
         if is_quiet(b) {
             return at;
         }
-        return put_heading(out, at, s.count, s.layer, b);
+        return put_heading(out, at, line.count, line.layer, b);
     }
     if is_quiet(letter) {
         return at;
@@ -403,18 +407,19 @@ fn put_byte(out: &mut [u8], at: usize, s: Line, b: u8) -> usize
     pen::put(out, at, b)
 }
 
+// The lines of all shapes, from one pass over the flat file.
 fn put_shapes(flat: &[u8], out: &mut [u8]) -> Walked
     requires { ⌜ length (now flat) ≤ 16777216 ⌝ }
     ensures { λ r. ⌜ Walks (now (flat .entry)) (now (out .entry)) (now (out .exit)) r ⌝ }
 {
     let mut at = 0;
-    let mut s = Line {
+    let mut line = Line {
         count: 1,
         layer: 0,
         unit: 0,
         letter: 0,
     };
-    let mut n = Numeral {
+    let mut number = Numeral {
         index: 0,
         negative: false,
         value: 0,
@@ -424,11 +429,11 @@ fn put_shapes(flat: &[u8], out: &mut [u8]) -> Walked
     let mut i = 0;
     while i < flat.len() {
         let b = flat[i];
-        at = put_byte(out, at, s, b);
-        xs = span_after(X, xs, s.letter, n, b);
-        ys = span_after(Y, ys, s.letter, n, b);
-        n = numeral_after(n, b);
-        s = line_after(s, b);
+        at = put_byte(out, at, line, b);
+        xs = span_after(X, xs, line.letter, number, b);
+        ys = span_after(Y, ys, line.letter, number, b);
+        number = numeral_after(number, b);
+        line = line_after(line, b);
         i += 1;
     }
     Walked { at, xs, ys }
@@ -474,7 +479,8 @@ fn put_refusal(out: &mut [u8], number: u64, place: u64) -> usize
 }
 
 // Prints into `out` what the list program prints of an answer and its flat file, as far as the room reaches, and gives back how many bytes that are
-// whatever the room: so a room of no bytes measures.
+// whatever the room: so a room of no bytes measures. It takes any bytes: of those that are no text's flat file the contract says by the account what is
+// printed, and two outcomes that it allows are equal (`one-listing` of proofs/Agrees.antt).
 pub fn list(flat: &[u8], answer: definition::Answer, out: &mut [u8]) -> usize
     ensures { λ r. ⌜ Listed answer (now (flat .entry)) (now (out .entry)) (now (out .exit)) r ⌝ }
 {

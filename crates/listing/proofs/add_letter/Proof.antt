@@ -12,10 +12,10 @@ unfolding named
 returns c = simp (eq-eqb _ _ (c .if1 .taken))
 
 mul-t5 : tie.Need-mul-t5
-mul-t5 c = omega (arith, letter-room (c .before .before .args .b) (c .before .before .args .s .unit) (c .before .before .args .s .layer) (omega arith) (omega arith) (c .before .before .pre))
+mul-t5 c = omega (arith, letter-room (c .before .before .args .b) (c .before .before .args .line .unit) (c .before .before .args .line .layer) (omega arith) (omega arith) (c .before .before .pre))
 
 add-t6 : tie.Need-add-t6
-add-t6 c = omega (arith, letter-room (c .before .before .before .args .b) (c .before .before .before .args .s .unit) (c .before .before .before .args .s .layer) (omega arith) (omega arith) (c .before .before .before .pre))
+add-t6 c = omega (arith, letter-room (c .before .before .before .args .b) (c .before .before .before .args .line .unit) (c .before .before .before .args .line .layer) (omega arith) (omega arith) (c .before .before .before .pre))
 
 returns-2 : tie.Need-returns-2
 unfolding named

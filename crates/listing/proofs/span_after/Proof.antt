@@ -21,7 +21,7 @@ include-requires : tie.Need-include-requires
 include-requires c κs = search needs
 
 returns : tie.Need-returns
-returns c = taken-by (c .before .before .before .before .before .before .args .axis) (c .before .before .before .before .before .before .args .s) (c .before .before .before .before .before .before .args .letter) (c .before .before .before .before .before .before .args .n) (c .before .before .before .before .before .before .args .b) (c .before .before .before .before .before .ends-number .ensures) (c .before .before .before .before .if1 .taken) (c .before .before .before .axis-of .ensures) (c .before .before .if2 .taken) (c .before .value-of .ensures) (c .include .ensures) (record { sfits = c .before .value-of .ok })
+returns c = taken-by (c .before .before .before .before .before .before .args .axis) (c .before .before .before .before .before .before .args .span) (c .before .before .before .before .before .before .args .letter) (c .before .before .before .before .before .before .args .n) (c .before .before .before .before .before .before .args .b) (c .before .before .before .before .before .ends-number .ensures) (c .before .before .before .before .if1 .taken) (c .before .before .before .axis-of .ensures) (c .before .before .if2 .taken) (c .before .value-of .ensures) (c .include .ensures) (record { sfits = c .before .value-of .ok })
 
 returns-2 : tie.Need-returns-2
 unfolding spanAfter
