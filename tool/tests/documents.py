@@ -35,7 +35,7 @@ def test_refusals():
 
 def test_sessions():
     """Each line `$ command` of these documents, and what it shows."""
-    for name in ("README.md", "docs/README-draft.md", "docs/REFUSALS.md"):
+    for name in ("README.md", "docs/REFUSALS.md"):
         if not os.path.exists(os.path.join(TOP, name)):
             continue
         for command, shows in re.findall(r"^    \$ (.*)\n((?:    (?!\$ ).*\n)*)", document(name), re.M):
