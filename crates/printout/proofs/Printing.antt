@@ -1,0 +1,110 @@
+-- From the reader's promise and the listing's to what the program prints: the flat file stands at the start of the room, the listing at the start of its
+-- own, which holds every listing.
+-- Assumes nothing.
+use mathlib.Core.Path.{_≡_, refl, sym, ap, _∙_, subst}
+use mathlib.Core.List.{List, []}
+use Prim.Native.Nat.{ℕ, _+_, _*_, _≤_, _<_}
+use native.Mathlib.Omega.{arith}
+use lib.ListN.{length, take, drop, length-append, length-drop}
+use lib.Seq.{take-at}
+use Rattle.definition.specs.Counts.{counts, shapesOf}
+use Rattle.definition.specs.Words.{bytesOf}
+use Rattle.definition.specs.Flat.{digits, decimal, flat}
+use Rattle.definition.specs.declared.Answer.{Answer}
+use Rattle.definition.specs.Answer.{Outcome, accepted, rejected, flatFile, answer, given-back, Answers, Promised}
+use Rattle.definition.specs.Listing.{fields, listing, Lists, over, within}
+use Rattle.definition.proofs.Right.{unique}
+use Rattle.definition.proofs.Demand1.{refusal-holds, success-holds}
+use Rattle.pen.specs.Writes.{Writes}
+use Rattle.pen.proofs.Writing.{begins, same-bytes, one-outcome}
+use Rattle.listing.specs.Account.{account, refusedLine}
+use Rattle.listing.specs.Listed.{Listed}
+use Rattle.printout.specs.Prints.{Lays, Prints, roomLength, listingLength}
+
+-- ---- the flat file at the start of the room
+
+given-length : (o : Outcome) → given-back o .length ≡ length (flatFile o)
+unfolding given-back flatFile
+given-length (accepted c es) = refl
+given-length (rejected n p chain) = refl
+
+pub record Flat (left f : List ℕ) (n : ℕ) : Type 0 where
+  pub size : length f ≡ n
+  pub fits : n ≤ length left
+  pub is : take n left ≡ f
+
+pub flat-left : {t room left : List ℕ} {r : Answer} (p : Promised t room r left) → Flat left (flatFile (p .outcome)) (r .length)
+flat-left {t} {room} {left} {r} p =
+    let f = flatFile (p .outcome) in
+    let e : length f ≡ r .length = sym (ap (λ (a : Answer). a .length) (p .given) ∙ given-length (p .outcome)) in
+    let q : length left ≡ length f + length (drop (length f) room) = ap length (p .kept) ∙ length-append f (drop (length f) room) in
+    record { size = e; fits = omega (arith, e, q); is = ap (take (r .length)) (p .kept) ∙ take-at f (drop (length f) room) (r .length) e }
+
+-- the room is as long as it was
+left-length : {t room left : List ℕ} {r : Answer} → Promised t room r left → length left ≡ length room
+left-length {t} {room} {left} p = go (p .outcome) refl
+  where
+    go : (o : Outcome) → p .outcome ≡ o → length left ≡ length room
+    go (accepted c es) e =
+        let h = success-holds p e in
+        let f = flat (shapesOf es) in
+        let q : length left ≡ length f + length (drop (length f) room) = ap length (h .room-holds) ∙ length-append f (drop (length f) room) in
+        let n = length-drop (length f) room in
+        let k = h .fits in
+        omega (arith, q, n, k)
+    go (rejected n q chain) e = ap length (refusal-holds p e .0 .room-kept)
+
+-- ---- the listing at the start of its room
+
+lays : {old new bytes : List ℕ} {r : ℕ} → Writes old new 0 r bytes → r ≤ length old → Lays old new r bytes
+lays {old} {new} {bytes} {r} w h =
+    let e : length bytes ≡ r = let s = w .ends in omega (arith, s) in
+    let k = w .kept in
+    let l : take r new ≡ bytes = ap (take r) (begins w (omega (arith, e, h))) ∙ take-at bytes (drop (length bytes) old) r e in
+    record { writes = w; fits = omega (arith, k, h); part = sym (ap length l ∙ e); is = l }
+
+pub printed : {t room left old new : List ℕ} {a : Answer} {r : ℕ} → length t ≤ 32768 → length room ≡ roomLength → length old ≡ listingLength
+    → Promised t room a left → Listed a (take (a .length) left) old new r → Prints t old new r
+printed {t} {room} {left} {a = a} {r} h n m p l =
+    let f = flat-left p in
+    let k = left-length p in
+    let short : r ≤ 4 * length (take (a .length) left) + 256 = l .short (p .answers) (p .given) (f .is) in
+    let size : length (take (a .length) left) ≡ a .length = ap length (f .is) ∙ f .size in
+    let inside = f .fits in
+    record {
+      bytes = listing (p .outcome);
+      lists = within h (subst (λ (x : ℕ). Answers t x (p .outcome)) n (p .answers));
+      lays = lays (l .is (p .answers) (p .given) (f .is)) (omega (arith, short, size, inside, k, n, m));
+    }
+
+-- ---- a text that is longer than the program takes
+
+refusal-is : account (answer 1 0 0 (counts 0 0 0)) [] ≡ listing (rejected 1 0 [])
+unfolding account listing refusedLine
+refusal-is = refl
+
+refusal-length : length (listing (rejected 1 0 [])) ≡ 12
+unfolding listing fields bytesOf decimal digits
+refusal-length = refl
+
+pub refusal-laid : {old new : List ℕ} {r : ℕ} → length old ≡ listingLength → Listed (answer 1 0 0 (counts 0 0 0)) [] old new r
+    → Lays old new r (listing (rejected 1 0 []))
+refusal-laid {old} {new} {r} m l =
+    let w : Writes old new 0 r (listing (rejected 1 0 [])) = subst (Writes old new 0 r) refusal-is (l .along) in
+    let e = w .ends in
+    let k = refusal-length in
+    lays w (omega (arith, e, k, m))
+
+pub over-printed : {t old new : List ℕ} {r : ℕ} → 32768 < length t → Lays old new r (listing (rejected 1 0 [])) → Prints t old new r
+over-printed h l = record { bytes = listing (rejected 1 0 []); lists = over h; lays = l }
+
+-- ---- two outcomes that the contract allows are one
+
+one-list : {t p q : List ℕ} → Lists t p → Lists t q → p ≡ q
+one-list (over h) (over k) = refl
+one-list (over h) (within k b) = absurd (omega (arith, h, k))
+one-list (within h a) (over k) = absurd (omega (arith, h, k))
+one-list (within h a) (within k b) = ap listing (unique a b)
+
+pub one-printout : {t old new new′ : List ℕ} {r r′ : ℕ} → Prints t old new r → Prints t old new′ r′ → (new ≡ new′) × (r ≡ r′)
+one-printout p q = one-outcome (same-bytes (one-list (p .lists) (q .lists)) (p .lays .writes)) (q .lays .writes)
