@@ -13,7 +13,8 @@ after it, and the recogniser counts the depth.
 import re
 
 SPECS = "crates/grammar/specs/"
-ROLES = "skip head second turn axis sign lead later name stop".split()
+# In this order a comparison tells the letters that begin no piece, the first digit of a number, the ends of commands and all further letters apart.
+ROLES = "skip sign later lead stop head second turn axis name".split()
 STUCK, DEEP, UNIT = 255, 128, 256
 
 
@@ -36,7 +37,7 @@ def classes():
 def productions():
     """The rules as nested tuples: ('one', role, class), ('seq', r, s), ('alt', r, s), ('many', r), ('option', r), ('comment',)."""
     text = open(SPECS + "Productions.antt", encoding="utf-8").read()
-    text = re.sub(r"^(--|use ).*$", "", text, flags=re.M)
+    text = re.sub(r"( *--|^use ).*$", "", text, flags=re.M)
     rules = {"commentText": ("comment",)}
     for name, body in re.findall(r"^abbrev pub (?:\S+) : Expression\n(\S+) =((?:.|\n)*?)(?=^abbrev|\Z)", text, re.M):
         words = re.findall(r"[()▹∣]|[^\s()▹∣]+", body)

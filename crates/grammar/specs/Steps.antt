@@ -60,15 +60,15 @@ roleOf q d a = getD roles (markOf q d a) skip
 -- the number of a role
 unfoldable pub number : Role → ℕ
 number skip = 0
-number head = 1
-number second = 2
-number turn = 3
-number axis = 4
-number sign = 5
-number lead = 6
-number later = 7
-number name = 8
-number stop = 9
+number sign = 1
+number later = 2
+number lead = 3
+number stop = 4
+number head = 5
+number second = 6
+number turn = 7
+number axis = 8
+number name = 9
 
 -- the state lies within a definition
 unfoldable pub inside : ℕ → Bool
