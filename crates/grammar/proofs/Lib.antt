@@ -13,4 +13,5 @@ pub mod Boundaries
 pub mod Verdicts
 pub mod Unique
 pub mod Ahead
+pub mod Numerals
 pub mod Host

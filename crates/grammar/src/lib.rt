@@ -117,14 +117,23 @@ pub fn step(kinds: &[u8; 256], next: &[u16; tables::ENTRY_COUNT], q: usize, d: u
     nest(q, d, k)
 }
 
-// Where the table leads from state q, outside comments: most bytes lead to a state and need no more than this.
+// The table's entry for a byte at state q, outside comments: its role's number and where it leads. Crates above that go by the byte look here first:
+// most bytes lead to a state, and need no more than this.
+pub fn entry_at(kinds: &[u8; 256], next: &[u16; tables::ENTRY_COUNT], q: usize, b: u8) -> usize
+    requires { ⌜ KindsLent (now kinds) × NextLent (now next) ⌝ }
+    requires { ⌜ q < stateCount ⌝ }
+    ensures { λ r. ⌜ r ≡ entryOf q (kindOf b) ⌝ }
+{
+    let k = kind(kinds, b);
+    entry(next, q, k)
+}
+
 fn plain_next(kinds: &[u8; 256], next: &[u16; tables::ENTRY_COUNT], q: usize, b: u8) -> usize
     requires { ⌜ KindsLent (now kinds) × NextLent (now next) ⌝ }
     requires { ⌜ q < stateCount ⌝ }
     ensures { λ r. ⌜ r ≡ nextOf q (kindOf b) ⌝ }
 {
-    let k = kind(kinds, b);
-    entry(next, q, k) % tables::ROLE_UNIT
+    entry_at(kinds, next, q, b) % tables::ROLE_UNIT
 }
 
 fn recognised(text: &[u8], kinds: &[u8; 256], next: &[u16; tables::ENTRY_COUNT]) -> Verdict
