@@ -61,7 +61,7 @@ unfolding rowsFrom
 passing-begin words numbers drawing room cols p s = record {
   passed = p;
   onward = λ q. start-text q room;
-  fit = record { within = omega arith; state = omega arith; depth = omega arith };
+  fit = record { within = omega arith; state = omega arith };
   sorted = record { room = omega arith; rising = λ i j h k. absurd (omega (arith, k)) };
   sized = s;
   words-kept = refl;

@@ -85,7 +85,7 @@ abbrev pub same-scene : {t : List ℕ} {rows : List Row} {drawing drawing′ : L
 same-scene e s = record { table = s .table; stands = s .stands; chain = s .chain; open-are = s .open-are ∙ sym e }
 
 behind-fits : {t : List ℕ} {from a b : ℕ} → Body t from a b → Fit t (behind true from)
-behind-fits k = record { within = k .within; state = omega arith; depth = omega arith }
+behind-fits k = record { within = k .within; state = omega arith }
 
 pub started : {t : List ℕ} {rows : List Row} {net : Net} {depth from a b : ℕ} (c : Counts) (pen : Pen) (words numbers : List ℤ) (drawing room : List ℕ)
     → Scene t rows drawing (32 - depth) → Body t from a b → Reached c pen → {spot : Spot} → spot ≡ behind true from

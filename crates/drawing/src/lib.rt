@@ -155,7 +155,6 @@ fn body_at(from: usize) -> pieces::Spot
     pieces::Spot {
         at: from,
         state: grammar::tables::INSIDE_STATE,
-        depth: 0,
     }
 }
 
@@ -577,11 +576,7 @@ fn draw_text<'a>(
     requires { ⌜ (mostValues + 2 ≤ length (now words)) × (mostValues + 2 ≤ length (now numbers)) × (length (now drawing) ≡ 32) ⌝ }
     ensures { λ r. ⌜ ((p : Passed (now (text .entry))) → Painted noneYet atStart (toDraw p) (now (room .entry)) r (now (room .exit))) ⌝ }
 {
-    let mut spot = pieces::Spot {
-        at: 0,
-        state: 0,
-        depth: 0,
-    };
+    let mut spot = pieces::Spot { at: 0, state: 0 };
     let mut layer: u32 = 0;
     let mut count: usize = 0;
     let mut done = Counts {

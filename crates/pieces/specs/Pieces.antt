@@ -1,23 +1,24 @@
 -- The pieces of a marked text: first letters, second letters of D commands, numbers, further letters, and semicolons behind commands. They stand
--- between bytes and commands, so that nothing above names a state or a role. A running account, not to be believed: it is read off the marking that
+-- between bytes and commands, so that nothing above names a state. A running account, not to be believed: it is read off the marking that
 -- crates/definition reads its commands off, and crates/reading proves that the two come to the same.
 -- Assumes nothing.
 use mathlib.Core.Path.{_≡_}
 use mathlib.Core.Bool.{Bool, true, false}
 use mathlib.Core.List.{List, [], _∷_}
+use mathlib.Core.Logic.{_⊎_}
 use Prim.Native.Nat.{ℕ, _+_, _-_, _≤_, _<_}
-use lib.Dec.{ltb, eqb}
+use lib.Dec.{ltb, leb, eqb}
 use lib.ListN.{length, drop}
 use Rattle.grammar.specs.Notation.{Role, Letter, skip, head, second, turn, axis, sign, lead, later, name, stop}
 use Rattle.grammar.specs.Tables.{stateCount, insideState, outsideState}
 use Rattle.grammar.specs.Steps.{marked, inside, number}
+use Rattle.grammar.proofs.Numerals.{Numeral}
 use Rattle.definition.specs.Words.{if_then_else_}
 use Rattle.definition.specs.Commands.{worth}
 use Rattle.pieces.specs.declared.Spot.{Spot}
 use Rattle.pieces.specs.declared.Piece.{Piece}
 use Rattle.pieces.specs.declared.Piece.the-variants.{First, Second, Number, Word, Stop}
-use Rattle.pieces.specs.declared.Found.{Found}
-use Rattle.pieces.specs.declared.Found.the-variants.{Got, End}
+use Rattle.pieces.specs.declared.Begun.{Begun}
 
 -- 01: every number lies within 16,777,215 of zero
 abbrev pub largest : ℕ
@@ -75,22 +76,22 @@ unfoldable pub pieces : ℕ → ℕ → List Letter → List Piece
 pieces n p [] = []
 pieces n p (l ∷ m) = withPiece (l .role) n p (l .byte) (worth (digitOf (l .byte)) m) (pieces (n + 1) (placeAfter (l .role) n) m)
 
--- the letters that the reader of the text t has before it at place i, in state q with d open comments; and the pieces from a spot on
+-- the letters that the recogniser of the text t has before it at place i, in state q with d open comments; and the pieces from a spot on
 abbrev pub left : List ℕ → ℕ → ℕ → ℕ → List Letter
 left t q d i = marked q d (drop i t)
 
 abbrev pub stream : List ℕ → Spot → List Piece
-stream t s = pieces (s .at) (s .at) (left t (s .state) (s .depth) (s .at))
+stream t s = pieces (s .at) (s .at) (left t (s .state) 0 (s .at))
 
-abbrev pub spot : ℕ → ℕ → ℕ → Spot
-spot i q d = record { at = i; state = q; depth = d }
+abbrev pub spot : ℕ → ℕ → Spot
+spot i q = record { at = i; state = q }
 
 abbrev pub start : Spot
-start = spot 0 0 0
+start = spot 0 0
 
 -- the spot behind a command's semicolon that ends at place n, within a definition or not: known from that alone, so that a body can be read again
 abbrev pub behind : Bool → ℕ → Spot
-behind i n = spot n (if i then insideState else outsideState) 0
+behind i n = spot n (if i then insideState else outsideState)
 
 -- whether a definition is open behind a piece: only the S of a DS leads in, and only the F of a DF out
 abbrev pub insideAfter : Piece → Bool → Bool
@@ -104,7 +105,6 @@ insideAfter Stop i = i
 pub record Fit (t : List ℕ) (s : Spot) : Type 0 where
   pub within : s .at ≤ length t
   pub state : s .state < stateCount
-  pub depth : s .depth ≤ s .at
 
 -- what a piece holds is a byte, or a number that is capped
 abbrev pub Small : Piece → Type 0
@@ -123,28 +123,37 @@ pub record Step (t : List ℕ) (s : Spot) (x : Piece) (to : Spot) : Type 0 where
   pub crosses : inside (to .state) ≡ insideAfter x (inside (s .state))
   pub stops : x ≡ Stop → to ≡ behind (inside (s .state)) (to .at)
 
--- the contract of `next_piece`
-abbrev pub Reads : List ℕ → Spot → Found → Type 0
-Reads t s (Got x to) = Step t s x to
-Reads t s End = stream t s ≡ []
+-- a byte is a digit
+unfoldable pub digital : ℕ → Bool
+digital b = if ltb b 48 then false else leb b 57
 
--- the rest of a number at place p, with its sign, of which digits worth v have been read
-pub record Rest (t : List ℕ) (s : Spot) (p : ℕ) (σ : Bool) (v : ℕ) (x : Piece) (to : Spot) : Type 0 where
-  pub is : x ≡ Number p σ (capped (worth v (left t (s .state) (s .depth) (s .at))))
-  pub on : stream t s ≡ stream t to
-  pub ahead : s .at ≤ to .at
-  pub fit : Fit t to
-  pub same : inside (to .state) ≡ inside (s .state)
+-- m is the first digit of the next piece from s on, a number: its size is that of the digits from here on
+pub record Led (t : List ℕ) (s : Spot) (m : Begun) : Type 0 where
+  pub is :
+      stream t s
+      ≡ Number (m .place) (ltb (m .place) (m .at)) (capped (worth (digitOf (m .byte)) (left t (m .to .state) 0 (m .to .at)))) ∷ stream t (m .to)
+  pub small : m .byte < 256
+  pub ahead : s .at < m .to .at
+  pub fit : Fit t (m .to)
+  pub same : inside (m .to .state) ≡ inside (s .state)
+  pub numeral : Numeral (m .to .state)
 
-abbrev pub ReadsNumber : List ℕ → Spot → ℕ → Bool → ℕ → Found → Type 0
-ReadsNumber t s p σ v (Got x to) = Rest t s p σ v x to
-ReadsNumber t s p σ v End = ⊥
+-- the contract of `next_mark`: from s on, m is the letter that begins the next piece, or there is none
+pub record Begins (t : List ℕ) (s : Spot) (m : Begun) : Type 0 where
+  pub none : m .mark ≡ number skip → stream t s ≡ []
+  pub some : (m .mark ≡ number skip → ⊥) → number lead ≤ m .mark
+  pub led : m .mark ≡ number lead → Led t s m
+  pub stop : m .mark ≡ number stop → Step t s Stop (m .to)
+  pub first : m .mark ≡ number head → Step t s (First (m .at) (m .byte)) (m .to)
+  pub letter : number head < m .mark → Step t s (Second (m .byte)) (m .to) ⊎ Step t s (Word (m .byte)) (m .to)
 
--- by the number m of a role: whether the letter is a further letter, and the place of a number that begins behind it at i
-unfoldable pub further : ℕ → Bool
-unfolding number
-further m = if eqb m (number turn) then true else if eqb m (number axis) then true else eqb m (number name)
+-- a comment of which the parenthesis before place i has been read ends before place r; the state q is the one behind it
+pub record Closes (t : List ℕ) (q i r : ℕ) : Type 0 where
+  pub ahead : i ≤ r
+  pub within : r ≤ length t
+  pub on : pieces i i (left t q 1 i) ≡ pieces r r (left t q 0 r)
 
+-- by the number m of a role: the place of a number that begins behind its letter at i
 unfoldable pub nextPlace : ℕ → ℕ → ℕ
 unfolding number
 nextPlace m i = if eqb m (number sign) then i else i + 1

@@ -4,12 +4,14 @@
 use mathlib.Core.Path.{_≡_, refl, sym, ap, _∙_, subst}
 use mathlib.Core.Bool.{Bool, true, false, _&&_, _||_}
 use mathlib.Core.List.{List, [], _∷_}
+use mathlib.Core.Logic.{_⊎_, ⊎-elim}
 use Prim.Native.Nat.{ℕ, _+_, _*_, _/_, _≤_, _<_}
 use native.Mathlib.Nat.{mul-le-mul-right}
 use native.Mathlib.Omega.{arith}
 use borrow.Author.Tests.{lt-ltb, le-ltb, ltb-false, eqb-false}
 use lib.Dec.{ltb, eqb}
-use Rattle.grammar.specs.Steps.{choose}
+use Rattle.grammar.specs.Notation.{lead, head}
+use Rattle.grammar.specs.Steps.{choose, number}
 use Rattle.pieces.specs.Pieces.{tooLarge, stream, start, Fit, Step}
 use Rattle.pieces.specs.declared.Spot.{Spot}
 use Rattle.pieces.specs.declared.Piece.{Piece}
@@ -24,7 +26,8 @@ use Rattle.reading.specs.declared.Doing.{Doing}
 use Rattle.reading.specs.declared.Ended.{Ended}
 use Rattle.reading.specs.declared.Ended.the-variants.{Then, Broken}
 use Rattle.reading.specs.declared.Fault.{Fault}
-use Rattle.reading.specs.declared.Fault.the-variants.{Refused}
+use Rattle.reading.specs.declared.Fault.the-variants.{Clear, Refused}
+use Rattle.reading.proofs.Ahead.{Finds, none, some}
 
 -- the end of a command
 module _ (s : Scope) (c : Doing) (hb : c .busy ≡ true) (y : ℕ) (ey : y ≡ layerOf s) (k : ℕ) (ek : k ≡ wholeNo (c .letter) (c .word) (c .count) (c .turns) (c .a) (c .b) y) where
@@ -151,74 +154,73 @@ pub record Checking (t : List ℕ) (spot : Spot) (s : Scope) (c : Doing) : Type 
 
 pub checking-start : (t : List ℕ) (s : Scope) (c : Doing) → s ≡ atStart → c ≡ idle → Checking t start s c
 checking-start t s c es e = record {
-  fit = record { within = omega arith; state = omega arith; depth = omega arith };
+  fit = record { within = omega arith; state = omega arith };
   fair = subst Fair (sym es) (record { a = omega arith; b = omega arith });
   sane = subst (Sane 0) (sym e) (sane-fresh 0 false 0 0);
   is = ap (λ (d : Doing). runs (stream t start) s d) e ∙ ap (λ (d : Scope). runs (stream t start) d idle) es;
 }
 
-module _ (t : List ℕ) (spot : Spot) (s : Scope) (c : Doing) (g : Checking t spot s c) where
-  pub checking-ended : stream t spot ≡ [] → (f : Fault) → f ≡ runs [] s c → f ≡ runs (stream t start) atStart idle
-  checking-ended e f ef = ef ∙ sym (ap (λ (l : List Piece). runs l s c) e) ∙ g .is
+module _ {t : List ℕ} {spot : Spot} {s : Scope} {c : Doing} (g : Checking t spot s c) where
+  over : stream t spot ≡ [] → runs [] s c ≡ runs (stream t start) atStart idle
+  over e = sym (ap (λ (l : List Piece). runs l s c) e) ∙ g .is
 
-  module _ (to : Spot) where
-    -- a piece that leaves the scope s′ and the command c′
-    module _ (x : Piece) (st : Step t spot x to) where
-      before : runs (x ∷ stream t to) s c ≡ runs (stream t start) atStart idle
-      before = sym (ap (λ (l : List Piece). runs l s c) (st .is)) ∙ g .is
+  -- a piece that leaves the scope s′ and the command c′
+  module _ {to : Spot} (x : Piece) (st : Step t spot x to) where
+    before : runs (x ∷ stream t to) s c ≡ runs (stream t start) atStart idle
+    before = sym (ap (λ (l : List Piece). runs l s c) (st .is)) ∙ g .is
 
-      next : (s′ : Scope) (c′ : Doing) → Fair s′ → Sane (spot .at + 1) c′ → runs (stream t to) s′ c′ ≡ runs (x ∷ stream t to) s c → Checking t to s′ c′
-      next s′ c′ f k e =
-          let a = st .ahead in
-          record { fit = st .fit; fair = f; sane = sane-up (spot .at + 1) (to .at) c′ (omega arith) k; is = e ∙ before }
+    next : (s′ : Scope) (c′ : Doing) → Fair s′ → Sane (spot .at + 1) c′ → runs (stream t to) s′ c′ ≡ runs (x ∷ stream t to) s c → Checking t to s′ c′
+    next s′ c′ f k e =
+        let a = st .ahead in
+        record { fit = st .fit; fair = f; sane = sane-up (spot .at + 1) (to .at) c′ (omega arith) k; is = e ∙ before }
 
-    pub checking-number : (p : ℕ) (σ : Bool) (n : ℕ) → Step t spot (Number p σ n) to → (d : Doing) → d ≡ counted s c p n → Checking t to s d
+  pub checking-number : {to : Spot} {p : ℕ} {σ : Bool} {n : ℕ} {d : Doing} → Step t spot (Number p σ n) to → d ≡ counted s c p n → Checking t to s d
+  unfolding runs
+  checking-number {to} {p} {σ} {n} {d} st e =
+      next (Number p σ n) st s d (g .fair) (subst (Sane (spot .at + 1)) (sym e) (sane-counted (spot .at) s c p n (st .small) (g .sane)))
+      (ap (λ (k : Doing). runs (stream t to) s k) e)
+
+  pub checking-letter : {to : Spot} {w : ℕ} {d : Doing} → Step t spot (Second w) to ⊎ Step t spot (Word w) to → d ≡ worded c w → Checking t to s d
+  unfolding runs
+  checking-letter {to} {w} {d} l e =
+      ⊎-elim (λ st. next (Second w) st s d (g .fair) (sane (st .small)) is) (λ st. next (Word w) st s d (g .fair) (sane (st .small)) is) l
+    where
+      sane : w < 256 → Sane (spot .at + 1) d
+      sane h = subst (Sane (spot .at + 1)) (sym e) (sane-worded (spot .at) c w h (g .sane))
+
+      is : runs (stream t to) s d ≡ runs (stream t to) s (worded c w)
+      is = ap (λ (k : Doing). runs (stream t to) s k) e
+
+  -- a piece that ends a command, or the end of the pieces
+  module _ {e : Ended} (ee : e ≡ finished s c) where
+    ends : (f : Scope → Fault) {y : Ended} → e ≡ y → onward f y ≡ onward f (finished s c)
+    ends f eu = sym (ap (λ (y : Ended). onward f y) (sym ee ∙ eu))
+
+    pub checking-bad : {to : Spot} {n k q : ℕ} → Finds t spot to n → (n ≡ number lead → ⊥) → n ≤ number head → e ≡ Broken k q → Refused k q ≡ runs (stream t start) atStart idle
     unfolding runs
-    checking-number p σ n st d e =
-        next (Number p σ n) st s d (g .fair) (subst (Sane (spot .at + 1)) (sym e) (sane-counted (spot .at) s c p n (st .small) (g .sane)))
-        (ap (λ (k : Doing). runs (stream t to) s k) e)
+    checking-bad (none z h) l a eu = ends (λ v. Clear) eu ∙ over h
+    checking-bad {to} (some (First p b) z st) l a eu = ends (λ v. runs (stream t to) v (begun p b)) eu ∙ before (First p b) st
+    checking-bad (some (Second b) z st) l a eu = absurd (omega arith)
+    checking-bad (some (Number p σ n) z st) l a eu = absurd (l z)
+    checking-bad (some (Word b) z st) l a eu = absurd (omega arith)
+    checking-bad {to} (some Stop z st) l a eu = ends (λ v. runs (stream t to) v idle) eu ∙ before Stop st
 
-    pub checking-word : (w : ℕ) → Step t spot (Word w) to → (d : Doing) → d ≡ worded c w → Checking t to s d
-    unfolding runs
-    checking-word w st d e =
-        next (Word w) st s d (g .fair) (subst (Sane (spot .at + 1)) (sym e) (sane-worded (spot .at) c w (st .small) (g .sane)))
-        (ap (λ (k : Doing). runs (stream t to) s k) e)
+    module _ {u : Scope} (eu : e ≡ Then u) where
+      fair-then : Fair u
+      fair-then = subst FairEnd (sym ee ∙ eu) (fair-finished s c (g .fair) (g .sane .a))
 
-    pub checking-second : (w : ℕ) → Step t spot (Second w) to → (d : Doing) → d ≡ worded c w → Checking t to s d
-    unfolding runs
-    checking-second w st d e =
-        next (Second w) st s d (g .fair) (subst (Sane (spot .at + 1)) (sym e) (sane-worded (spot .at) c w (st .small) (g .sane)))
-        (ap (λ (k : Doing). runs (stream t to) s k) e)
+      pub checking-clear : stream t spot ≡ [] → Clear ≡ runs (stream t start) atStart idle
+      unfolding runs
+      checking-clear h = ends (λ v. Clear) eu ∙ over h
 
-    -- a piece that ends a command, before the command c′ or none
-    module _ (e : Ended) (ee : e ≡ finished s c) where
-      fair-then : (u : Scope) → e ≡ Then u → Fair u
-      fair-then u eu = subst FairEnd (sym ee ∙ eu) (fair-finished s c (g .fair) (g .sane .a))
+      pub checking-first : {to : Spot} {p l : ℕ} {d : Doing} → Step t spot (First p l) to → d ≡ begun p l → Checking t to u d
+      unfolding runs
+      checking-first {to} {p} {l} {d} st ed =
+          next (First p l) st u d fair-then (subst (Sane (spot .at + 1)) (sym ed) (sane-fresh (spot .at + 1) true p l))
+          (ap (λ (k : Doing). runs (stream t to) u k) ed ∙ ends (λ v. runs (stream t to) v (begun p l)) eu)
 
-      ends : (f : Scope → Fault) (u : Scope) → e ≡ Then u → f u ≡ onward f (finished s c)
-      ends f u eu = sym (ap (λ (y : Ended). onward f y) (sym ee ∙ eu))
-
-      breaks : (f : Scope → Fault) (k p : ℕ) → e ≡ Broken k p → Refused k p ≡ onward f (finished s c)
-      breaks f k p eu = sym (ap (λ (y : Ended). onward f y) (sym ee ∙ eu))
-
-      module _ (p l : ℕ) (st : Step t spot (First p l) to) where
-        pub checking-first : (u : Scope) → e ≡ Then u → (d : Doing) → d ≡ begun p l → Checking t to u d
-        unfolding runs
-        checking-first u eu d ed =
-            next (First p l) st u d (fair-then u eu) (subst (Sane (spot .at + 1)) (sym ed) (sane-fresh (spot .at + 1) true p l))
-            (ap (λ (k : Doing). runs (stream t to) u k) ed ∙ ends (λ v. runs (stream t to) v (begun p l)) u eu)
-
-        pub checking-first-bad : (k q : ℕ) → e ≡ Broken k q → Refused k q ≡ runs (stream t start) atStart idle
-        unfolding runs
-        checking-first-bad k q eu = breaks (λ v. runs (stream t to) v (begun p l)) k q eu ∙ before (First p l) st
-
-      module _ (st : Step t spot Stop to) where
-        pub checking-stop : (u : Scope) → e ≡ Then u → (d : Doing) → d ≡ idle → Checking t to u d
-        unfolding runs
-        checking-stop u eu d ed =
-            next Stop st u d (fair-then u eu) (subst (Sane (spot .at + 1)) (sym ed) (sane-fresh (spot .at + 1) false 0 0))
-            (ap (λ (k : Doing). runs (stream t to) u k) ed ∙ ends (λ v. runs (stream t to) v idle) u eu)
-
-        pub checking-stop-bad : (k q : ℕ) → e ≡ Broken k q → Refused k q ≡ runs (stream t start) atStart idle
-        unfolding runs
-        checking-stop-bad k q eu = breaks (λ v. runs (stream t to) v idle) k q eu ∙ before Stop st
+      pub checking-stop : {to : Spot} {d : Doing} → Step t spot Stop to → d ≡ idle → Checking t to u d
+      unfolding runs
+      checking-stop {to} {d} st ed =
+          next Stop st u d fair-then (subst (Sane (spot .at + 1)) (sym ed) (sane-fresh (spot .at + 1) false 0 0))
+          (ap (λ (k : Doing). runs (stream t to) u k) ed ∙ ends (λ v. runs (stream t to) v idle) eu)

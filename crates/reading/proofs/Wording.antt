@@ -4,6 +4,7 @@
 use mathlib.Core.Path.{_≡_, refl, sym, ap, _∙_, subst}
 use mathlib.Core.Bool.{Bool, true, false}
 use mathlib.Core.List.{List, [], _∷_, _++_, append-assoc, append-nil}
+use mathlib.Core.Logic.{_⊎_, inl, inr}
 use Prim.Native.Nat.{ℕ, zero, suc, _+_, _-_, _*_, _/_, _≤_, _<_}
 use native.Mathlib.Nat.{add-zero, zero-add, add-suc, suc-add, add-assoc, mul-div-right}
 use native.Mathlib.Omega.{arith}
@@ -15,7 +16,8 @@ use lib.Signed.{mag}
 use mir.Syntax.{w32}
 use mir.Val.{SFits, toZ, ofZ}
 use mir.Facts.{toZ-ofZ, toZ-pos}
-use Rattle.grammar.specs.Steps.{choose, inside}
+use Rattle.grammar.specs.Notation.{skip, lead, stop, head}
+use Rattle.grammar.specs.Steps.{choose, inside, number}
 use Rattle.definition.specs.Words.{if_then_else_}
 use Rattle.pieces.specs.Pieces.{stream, behind, insideAfter, Fit, Step}
 use Rattle.pieces.specs.declared.Spot.{Spot}
@@ -28,6 +30,7 @@ use Rattle.reading.specs.Words.{held, signed, word, valueOf, letterWords
 use Rattle.reading.specs.declared.Line.{Line}
 use Rattle.reading.specs.declared.Read.{Read}
 use Rattle.reading.specs.declared.Read.the-variants.{Decoded, Nothing}
+use Rattle.reading.proofs.Ahead.{Finds, none, some}
 use Rattle.reading.proofs.Checking.{name-room}
 
 never : false ≡ true → ⊥
@@ -237,82 +240,79 @@ second-turns l a b x xs c hx h =
       roomy = w .roomy;
     }
 
-module _ (t : List ℕ) (s₀ : Spot) (l a b : ℕ) (ws₀ : List ℤ) (s : Spot) (c : Line) (ws : List ℤ) (g : Wording t s₀ l a b ws₀ s c ws) where
+module _ {t : List ℕ} {s₀ : Spot} {l a b : ℕ} {ws₀ : List ℤ} {s : Spot} {c : Line} {ws : List ℤ} (g : Wording t s₀ l a b ws₀ s c ws) where
   pub words-length : length ws ≡ length ws₀
   words-length = ap (λ (z : List ℤ). length z) (g .room) ∙ length-sets ws₀ 2 (g .drawn)
 
-  module _ (to : Spot) (c′ : Line) (ws′ : List ℤ) where
-    stepped : (x : Piece) → Step t s x to → (d : Line) (vs : List ℤ) → Turns l a b x (stream t to) c d vs → Lined ws (c .at) vs d c′ ws′ → Wording t s₀ l a b ws₀ to c′ ws′
-    stepped x st d vs u w =
-        let i : itemsOf (stream t s) ≡ itemsOf (x ∷ stream t to) = ap (λ (k : List Piece). itemsOf k) (st .is) in
-        let h₁ = st .ahead in
-        let h₂ = g .from in
-        let h₃ = g .at-is in
-        let h₄ = g .at-le in
-        let h₅ = g .count-le in
-        let h₆ = u .next in
-        let h₇ = u .few in
-        let h₈ = u .counted in
-        subst (λ (e : Line). Wording t s₀ l a b ws₀ to e ws′) (sym (w .line))
-        (record {
-          fit = st .fit;
-          from = omega arith;
-          drawn = g .drawn ++ vs;
-          at-is = let e = length-append (g .drawn) vs in omega arith;
-          at-le = omega arith;
-          count-le = omega arith;
-          roomy = u .roomy;
-          room =
-              w .laid
-              ∙ ap (λ (k : ℕ). sets ws k vs) (g .at-is)
-              ∙ ap (λ (z : List ℤ). sets z (2 + length (g .drawn)) vs) (g .room)
-              ∙ sets-append (g .drawn) vs ws₀ 2;
-          body =
-              append-assoc (g .drawn) vs (bodyOf a b l (d .word) (d .count) (itemsOf (stream t to)))
-              ∙ ap (λ (z : List ℤ). g .drawn ++ z) (sym (u .body) ∙ ap (λ (k : List Piece). bodyOf a b l (c .word) (c .count) k) (sym i))
-              ∙ g .body;
-          rest = sym (u .rest) ∙ ap (λ (k : List Piece). written k) (sym (st .is)) ∙ g .rest;
-          last = sym (u .last) ∙ ap (λ (k : List Piece). lastOf (c .word) (letters k)) (sym i) ∙ g .last;
-          count = sym (u .count) ∙ ap (λ (k : List Piece). c .count + tally k) (sym i) ∙ g .count;
-          name = sym (u .name) ∙ ap (λ (k : List Piece). c .name + packedBy (c .unit) (letters k)) (sym i) ∙ g .name;
-          stopping = sym (u .stopping) ∙ ap (λ (k : List Piece). stops k) (sym (st .is)) ∙ g .stopping;
-          opened =
-              ap (λ (j : Bool). insideBehind j (itemsOf (stream t to))) (st .crosses)
-              ∙ sym (u .opened (inside (s .state)))
-              ∙ ap (λ (k : List Piece). insideBehind (inside (s .state)) k) (sym i)
-              ∙ g .opened;
-        })
+  stepped : {to : Spot} {c′ : Line} {ws′ : List ℤ} {x : Piece} {d : Line} {vs : List ℤ} → Step t s x to → Turns l a b x (stream t to) c d vs → Lined ws (c .at) vs d c′ ws′ → Wording t s₀ l a b ws₀ to c′ ws′
+  stepped {to} {c′} {ws′} {x} {d} {vs} st u w =
+      let i : itemsOf (stream t s) ≡ itemsOf (x ∷ stream t to) = ap (λ (k : List Piece). itemsOf k) (st .is) in
+      let h₁ = st .ahead in
+      let h₂ = g .from in
+      let h₃ = g .at-is in
+      let h₄ = g .at-le in
+      let h₅ = g .count-le in
+      let h₆ = u .next in
+      let h₇ = u .few in
+      let h₈ = u .counted in
+      subst (λ (e : Line). Wording t s₀ l a b ws₀ to e ws′) (sym (w .line))
+      (record {
+        fit = st .fit;
+        from = omega arith;
+        drawn = g .drawn ++ vs;
+        at-is = let e = length-append (g .drawn) vs in omega arith;
+        at-le = omega arith;
+        count-le = omega arith;
+        roomy = u .roomy;
+        room =
+            w .laid
+            ∙ ap (λ (k : ℕ). sets ws k vs) (g .at-is)
+            ∙ ap (λ (z : List ℤ). sets z (2 + length (g .drawn)) vs) (g .room)
+            ∙ sets-append (g .drawn) vs ws₀ 2;
+        body =
+            append-assoc (g .drawn) vs (bodyOf a b l (d .word) (d .count) (itemsOf (stream t to)))
+            ∙ ap (λ (z : List ℤ). g .drawn ++ z) (sym (u .body) ∙ ap (λ (k : List Piece). bodyOf a b l (c .word) (c .count) k) (sym i))
+            ∙ g .body;
+        rest = sym (u .rest) ∙ ap (λ (k : List Piece). written k) (sym (st .is)) ∙ g .rest;
+        last = sym (u .last) ∙ ap (λ (k : List Piece). lastOf (c .word) (letters k)) (sym i) ∙ g .last;
+        count = sym (u .count) ∙ ap (λ (k : List Piece). c .count + tally k) (sym i) ∙ g .count;
+        name = sym (u .name) ∙ ap (λ (k : List Piece). c .name + packedBy (c .unit) (letters k)) (sym i) ∙ g .name;
+        stopping = sym (u .stopping) ∙ ap (λ (k : List Piece). stops k) (sym (st .is)) ∙ g .stopping;
+        opened =
+            ap (λ (j : Bool). insideBehind j (itemsOf (stream t to))) (st .crosses)
+            ∙ sym (u .opened (inside (s .state)))
+            ∙ ap (λ (k : List Piece). insideBehind (inside (s .state)) k) (sym i)
+            ∙ g .opened;
+      })
 
-    pub wording-number : (p : ℕ) (σ : Bool) (n : ℕ) → Step t s (Number p σ n) to → Lined ws (c .at) (valueOf a b l (c .word) (c .count) σ n ∷ []) (lineNumber c) c′ ws′ → Wording t s₀ l a b ws₀ to c′ ws′
-    wording-number p σ n st w = stepped (Number p σ n) st (lineNumber c) _ (number-turns l a b p σ n (stream t to) c (g .roomy)) w
+  pub wording-number : {to : Spot} {c′ : Line} {ws′ : List ℤ} {p : ℕ} {σ : Bool} {n : ℕ} → Step t s (Number p σ n) to → Lined ws (c .at) (valueOf a b l (c .word) (c .count) σ n ∷ []) (lineNumber c) c′ ws′ → Wording t s₀ l a b ws₀ to c′ ws′
+  wording-number {to} {p} {σ} {n} st w = stepped st (number-turns l a b p σ n (stream t to) c (g .roomy)) w
 
-    pub wording-word : (x : ℕ) → Step t s (Word x) to → Lined ws (c .at) (letterWords l x) (lineLetter l c x) c′ ws′ → Wording t s₀ l a b ws₀ to c′ ws′
-    wording-word x st w = stepped (Word x) st (lineLetter l c x) _ (word-turns l a b x (stream t to) c (st .small) (g .roomy)) w
-
-    pub wording-second : (x : ℕ) → Step t s (Second x) to → Lined ws (c .at) (letterWords l x) (lineLetter l c x) c′ ws′ → Wording t s₀ l a b ws₀ to c′ ws′
-    wording-second x st w = stepped (Second x) st (lineLetter l c x) _ (second-turns l a b x (stream t to) c (st .small) (g .roomy)) w
+  pub wording-letter : {to : Spot} {c′ : Line} {ws′ : List ℤ} {x : ℕ} → Step t s (Second x) to ⊎ Step t s (Word x) to → Lined ws (c .at) (letterWords l x) (lineLetter l c x) c′ ws′ → Wording t s₀ l a b ws₀ to c′ ws′
+  wording-letter {to} {x} (inl st) w = stepped st (second-turns l a b x (stream t to) c (st .small) (g .roomy)) w
+  wording-letter {to} {x} (inr st) w = stepped st (word-turns l a b x (stream t to) c (st .small) (g .roomy)) w
 
   -- the end of the command
-  module _ (none : itemsOf (stream t s) ≡ []) (p : ℕ) where
+  module _ (no-items : itemsOf (stream t s) ≡ []) (p : ℕ) where
     last-is : lastOf 0 (letters (itemsOf (stream t s₀))) ≡ c .word
     unfolding letters lastOf
-    last-is = sym (g .last) ∙ ap (λ (k : List Piece). lastOf (c .word) (letters k)) none
+    last-is = sym (g .last) ∙ ap (λ (k : List Piece). lastOf (c .word) (letters k)) no-items
 
     count-is : tally (itemsOf (stream t s₀)) ≡ c .count
     unfolding tally
-    count-is = sym (g .count) ∙ ap (λ (k : List Piece). c .count + tally k) none ∙ add-zero (c .count)
+    count-is = sym (g .count) ∙ ap (λ (k : List Piece). c .count + tally k) no-items ∙ add-zero (c .count)
 
     name-is : packedBy firstUnit (letters (itemsOf (stream t s₀))) ≡ c .name
     unfolding letters packedBy
-    name-is = sym (g .name) ∙ ap (λ (k : List Piece). c .name + packedBy (c .unit) (letters k)) none ∙ add-zero (c .name)
+    name-is = sym (g .name) ∙ ap (λ (k : List Piece). c .name + packedBy (c .unit) (letters k)) no-items ∙ add-zero (c .name)
 
     body-is : bodyOf a b l 0 0 (itemsOf (stream t s₀)) ≡ g .drawn
     unfolding bodyOf
-    body-is = sym (g .body) ∙ ap (λ (k : List Piece). g .drawn ++ bodyOf a b l (c .word) (c .count) k) none ∙ append-nil (g .drawn)
+    body-is = sym (g .body) ∙ ap (λ (k : List Piece). g .drawn ++ bodyOf a b l (c .word) (c .count) k) no-items ∙ append-nil (g .drawn)
 
     inside-is : inside (s .state) ≡ insideBehind (inside (s₀ .state)) (itemsOf (stream t s₀))
     unfolding insideBehind
-    inside-is = sym (ap (λ (k : List Piece). insideBehind (inside (s .state)) k) none) ∙ g .opened
+    inside-is = sym (ap (λ (k : List Piece). insideBehind (inside (s .state)) k) no-items) ∙ g .opened
 
     words-are : wordsOf a b (writtenAt p l (stream t s₀)) ≡ framed (kindBy l (c .word)) p (g .drawn ++ closed l c)
     unfolding wordsOf
@@ -347,19 +347,23 @@ module _ (t : List ℕ) (s₀ : Spot) (l a b : ℕ) (ws₀ : List ℤ) (s : Spot
         } in
         subst (λ (q : Read). ReadsItems t s₀ p l a b ws₀ q ws′) (sym (k .is)) out
 
-  pub wording-ended : (p : ℕ) → stream t s ≡ [] → (r : Read) (ws′ : List ℤ) → Closed ws l p c s r ws′ → ReadsItems t s₀ p l a b ws₀ r ws′
-  unfolding itemsOf stops
-  wording-ended p e r ws′ k =
-      wording-done (ap (λ (z : List Piece). itemsOf z) e) p s refl (g .fit) (omega arith) (λ h. absurd (never (sym (ap (λ (z : List Piece). stops z) e) ∙ h))) r ws′ k
+  ended : {p : ℕ} {r : Read} {ws′ : List ℤ} (xs : List Piece) → stream t s ≡ xs → itemsOf xs ≡ [] → stops xs ≡ false → Closed ws l p c s r ws′ → ReadsItems t s₀ p l a b ws₀ r ws′
+  ended {p} {r} {ws′} xs e i o k =
+      wording-done (ap (λ (z : List Piece). itemsOf z) e ∙ i) p s refl (g .fit) (omega arith) (λ h. absurd (never (sym (ap (λ (z : List Piece). stops z) e ∙ o) ∙ h))) r ws′ k
 
-  pub wording-first : (p : ℕ) (q y : ℕ) (to : Spot) → Step t s (First q y) to → (r : Read) (ws′ : List ℤ) → Closed ws l p c s r ws′ → ReadsItems t s₀ p l a b ws₀ r ws′
+  -- where no piece is left, or before the next command's first letter
+  pub wording-ended : {to : Spot} {n p : ℕ} {r : Read} {ws′ : List ℤ} → Finds t s to n → (n ≡ number lead → ⊥) → n ≤ number head → (n ≡ number stop → ⊥) → Closed ws l p c s r ws′ → ReadsItems t s₀ p l a b ws₀ r ws′
   unfolding itemsOf stops
-  wording-first p q y to st r ws′ k =
-      wording-done (ap (λ (z : List Piece). itemsOf z) (st .is)) p s refl (g .fit) (omega arith) (λ h. absurd (never (sym (ap (λ (z : List Piece). stops z) (st .is)) ∙ h))) r ws′ k
+  wording-ended (none z h) d u e k = ended [] h refl refl k
+  wording-ended {to} (some (First q y) z st) d u e k = ended (First q y ∷ stream t to) (st .is) refl refl k
+  wording-ended (some (Second y) z st) d u e k = absurd (omega arith)
+  wording-ended (some (Number q σ v) z st) d u e k = absurd (d z)
+  wording-ended (some (Word y) z st) d u e k = absurd (omega arith)
+  wording-ended (some Stop z st) d u e k = absurd (e z)
 
-  pub wording-stop : (p : ℕ) (to : Spot) → Step t s Stop to → (r : Read) (ws′ : List ℤ) → Closed ws l p c to r ws′ → ReadsItems t s₀ p l a b ws₀ r ws′
+  pub wording-stop : {to : Spot} {p : ℕ} {r : Read} {ws′ : List ℤ} → Step t s Stop to → Closed ws l p c to r ws′ → ReadsItems t s₀ p l a b ws₀ r ws′
   unfolding itemsOf written
-  wording-stop p to st r ws′ k =
+  wording-stop {to} {p} {r} {ws′} st k =
       let h = st .ahead in
       wording-done (ap (λ (z : List Piece). itemsOf z) (st .is)) p to (ap (λ (z : List Piece). written z) (st .is)) (st .fit) (omega arith) (λ e. st .stops refl) r ws′ k
 
@@ -373,62 +377,55 @@ pub record Seeking (t : List ℕ) (s₀ s : Spot) : Type 0 where
 pub seeking-start : (t : List ℕ) (s : Spot) → Fit t s → Seeking t s s
 seeking-start t s f = record { fit = f; from = omega arith; is = refl; opened = refl }
 
-module _ (t : List ℕ) (s₀ s : Spot) (g : Seeking t s₀ s) where
-  pub seeking-ended : (a b : ℕ) (ws ws′ : List ℤ) → ws′ ≡ ws → stream t s ≡ [] → ReadsCommand t s₀ a b ws Nothing ws′
+module _ {t : List ℕ} {s₀ s : Spot} (g : Seeking t s₀ s) where
+  pub seeking-ended : stream t s ≡ [] → written (stream t s₀) ≡ []
   unfolding written
-  seeking-ended a b ws ws′ k e = (sym (g .is) ∙ ap (λ (z : List Piece). written z) e, k)
+  seeking-ended e = sym (g .is) ∙ ap (λ (z : List Piece). written z) e
 
-  module _ (to : Spot) where
-    past : (x : Piece) → Step t s x to → written (x ∷ stream t to) ≡ written (stream t to)
-        → ((i : Bool) → insideFirst i (x ∷ stream t to) ≡ insideFirst (insideAfter x i) (stream t to)) → Seeking t s₀ to
-    past x st e o =
-        let h₁ = st .ahead in
-        let h₂ = g .from in
+  past : {to : Spot} {x : Piece} → Step t s x to → written (x ∷ stream t to) ≡ written (stream t to)
+      → ((i : Bool) → insideFirst i (x ∷ stream t to) ≡ insideFirst (insideAfter x i) (stream t to)) → Seeking t s₀ to
+  past {to} {x} st e o =
+      let h₁ = st .ahead in
+      let h₂ = g .from in
+      record {
+        fit = st .fit;
+        from = omega arith;
+        is = sym e ∙ ap (λ (z : List Piece). written z) (sym (st .is)) ∙ g .is;
+        opened =
+            ap (λ (j : Bool). insideFirst j (stream t to)) (st .crosses)
+            ∙ sym (o (inside (s .state)))
+            ∙ ap (λ (z : List Piece). insideFirst (inside (s .state)) z) (sym (st .is))
+            ∙ g .opened;
+      }
+
+  -- a piece that begins no command is passed over
+  pub seeking-past : {to : Spot} {n : ℕ} → Finds t s to n → (n ≡ number skip → ⊥) → (n ≡ number head → ⊥) → Seeking t s₀ to
+  unfolding written insideFirst
+  seeking-past (none z h) k e = absurd (k z)
+  seeking-past (some (First p b) z st) k e = absurd (e z)
+  seeking-past (some (Second b) z st) k e = past st refl (λ i. refl)
+  seeking-past (some (Number p σ v) z st) k e = past st refl (λ i. refl)
+  seeking-past (some (Word b) z st) k e = past st refl (λ i. refl)
+  seeking-past (some Stop z st) k e = past st refl (λ i. refl)
+
+  open-first : {to : Spot} {p l : ℕ} → Step t s (First p l) to → inside (to .state) ≡ insideFirst (inside (s₀ .state)) (stream t s₀)
+  unfolding insideFirst
+  open-first st = st .crosses ∙ sym (ap (λ (z : List Piece). insideFirst (inside (s .state)) z) (st .is)) ∙ g .opened
+
+  pub seeking-found : {to : Spot} {p l : ℕ} {ws ws₁ : List ℤ} → Step t s (First p l) to → ws₁ ≡ ws → (a b : ℕ) (r : Read) (ws′ : List ℤ) → ReadsItems t to p l a b ws₁ r ws′ → ReadsCommand t s₀ a b ws r ws′
+  unfolding written
+  seeking-found {to} {p} {l} {ws} st e a b (Decoded k q n end) ws′ d =
+      let c = writtenAt p l (stream t to) in
+      let h₁ = st .ahead in
+      let h₂ = g .from in
+      let h₃ = d .ahead in
+      let u : Tells a b c (inside (to .state)) ws k q n end ws′ = subst (λ (z : List ℤ). Tells a b c (inside (to .state)) z k q n end ws′) e (d .tells) in (
+        c,
         record {
-          fit = st .fit;
-          from = omega arith;
-          is = sym e ∙ ap (λ (z : List Piece). written z) (sym (st .is)) ∙ g .is;
-          opened =
-              ap (λ (j : Bool). insideFirst j (stream t to)) (st .crosses)
-              ∙ sym (o (inside (s .state)))
-              ∙ ap (λ (z : List Piece). insideFirst (inside (s .state)) z) (sym (st .is))
-              ∙ g .opened;
-        }
-
-    pub seeking-number : (p : ℕ) (σ : Bool) (n : ℕ) → Step t s (Number p σ n) to → Seeking t s₀ to
-    unfolding written insideFirst
-    seeking-number p σ n st = past (Number p σ n) st refl (λ i. refl)
-
-    pub seeking-second : (x : ℕ) → Step t s (Second x) to → Seeking t s₀ to
-    unfolding written insideFirst
-    seeking-second x st = past (Second x) st refl (λ i. refl)
-
-    pub seeking-word : (x : ℕ) → Step t s (Word x) to → Seeking t s₀ to
-    unfolding written insideFirst
-    seeking-word x st = past (Word x) st refl (λ i. refl)
-
-    pub seeking-stop : Step t s Stop to → Seeking t s₀ to
-    unfolding written insideFirst
-    seeking-stop st = past Stop st refl (λ i. refl)
-
-    open-first : (p l : ℕ) → Step t s (First p l) to → inside (to .state) ≡ insideFirst (inside (s₀ .state)) (stream t s₀)
-    unfolding insideFirst
-    open-first p l st = st .crosses ∙ sym (ap (λ (z : List Piece). insideFirst (inside (s .state)) z) (st .is)) ∙ g .opened
-
-    pub seeking-found : (p l : ℕ) → Step t s (First p l) to → (a b : ℕ) (ws ws₁ : List ℤ) → ws₁ ≡ ws → (r : Read) (ws′ : List ℤ) → ReadsItems t to p l a b ws₁ r ws′ → ReadsCommand t s₀ a b ws r ws′
-    unfolding written
-    seeking-found p l st a b ws ws₁ e (Decoded k q n end) ws′ d =
-        let c = writtenAt p l (stream t to) in
-        let h₁ = st .ahead in
-        let h₂ = g .from in
-        let h₃ = d .ahead in
-        let u : Tells a b c (inside (to .state)) ws k q n end ws′ = subst (λ (z : List ℤ). Tells a b c (inside (to .state)) z k q n end ws′) e (d .tells) in (
-          c,
-          record {
-            is = sym (g .is) ∙ ap (λ (z : List Piece). written z) (st .is) ∙ ap (λ (z : List Written). c ∷ z) (d .is);
-            tells = subst (λ (i : Bool). Tells a b c i ws k q n end ws′) (open-first p l st) u;
-            fit = d .fit;
-            ahead = omega arith;
-          },
-        )
-    seeking-found p l st a b ws ws₁ e Nothing ws′ d = absurd d
+          is = sym (g .is) ∙ ap (λ (z : List Piece). written z) (st .is) ∙ ap (λ (z : List Written). c ∷ z) (d .is);
+          tells = subst (λ (i : Bool). Tells a b c i ws k q n end ws′) (open-first st) u;
+          fit = d .fit;
+          ahead = omega arith;
+        },
+      )
+  seeking-found st e a b Nothing ws′ d = absurd d

@@ -478,65 +478,41 @@ fn finish(s: Scope, c: Doing) -> Ended
     Ended::Then(s)
 }
 
-fn at_end(s: Scope, c: Doing) -> Fault
-    ensures { λ r. ⌜ r ≡ runs [] s c ⌝ }
-{
-    match finish(s, c) {
-        Ended::Then(_) => Fault::Clear,
-        Ended::Broken(no, at) => Fault::Refused(no, at),
-    }
-}
-
 fn checked(text: &[u8], kinds: &[u8; 256], next: &[u16; grammar::tables::ENTRY_COUNT]) -> Fault
     requires { ⌜ KindsLent (now kinds) × NextLent (now next) ⌝ }
     ensures { λ r. ⌜ r ≡ runs (stream (now (text .entry)) start) atStart idle ⌝ }
 {
-    let mut spot = pieces::Spot {
-        at: 0,
-        state: 0,
-        depth: 0,
-    };
+    let mut spot = pieces::Spot { at: 0, state: 0 };
     let mut s = without(0);
     let mut c = new_command(false, 0, 0);
     loop {
-        match pieces::next_piece(text, kinds, next, spot) {
-            pieces::Found::End => {
-                return at_end(s, c);
-            }
-            pieces::Found::Got(x, to) => match x {
-                pieces::Piece::Number(p, _, n) => {
-                    c = add_number(s, c, p, n);
-                    spot = to;
+        let m = pieces::next_mark(text, kinds, next, spot);
+        let mark = m.mark;
+        if mark == grammar::tables::LEAD {
+            let n = pieces::read_number(text, m);
+            c = add_number(s, c, m.place, n.size);
+            spot = n.to;
+        } else if grammar::tables::HEAD < mark {
+            c = add_letter(c, m.byte);
+            spot = m.to;
+        } else {
+            match finish(s, c) {
+                Ended::Broken(no, at) => {
+                    return Fault::Refused(no, at);
                 }
-                pieces::Piece::First(p, l) => match finish(s, c) {
-                    Ended::Then(t) => {
-                        s = t;
-                        c = new_command(true, p, l);
-                        spot = to;
+                Ended::Then(t) => {
+                    if mark == grammar::tables::SKIP {
+                        return Fault::Clear;
                     }
-                    Ended::Broken(no, at) => {
-                        return Fault::Refused(no, at);
-                    }
-                },
-                pieces::Piece::Second(w) => {
-                    c = add_letter(c, w);
-                    spot = to;
-                }
-                pieces::Piece::Word(w) => {
-                    c = add_letter(c, w);
-                    spot = to;
-                }
-                pieces::Piece::Stop => match finish(s, c) {
-                    Ended::Then(t) => {
-                        s = t;
+                    s = t;
+                    spot = m.to;
+                    if mark == grammar::tables::HEAD {
+                        c = new_command(true, m.at, m.byte);
+                    } else {
                         c = new_command(false, 0, 0);
-                        spot = to;
                     }
-                    Ended::Broken(no, at) => {
-                        return Fault::Refused(no, at);
-                    }
-                },
-            },
+                }
+            }
         }
     }
 }
@@ -746,30 +722,21 @@ fn read_items(
         name: 0,
     };
     loop {
-        match pieces::next_piece(text, kinds, next, spot) {
-            pieces::Found::End => {
-                return close(words, letter, place, c, spot);
+        let m = pieces::next_mark(text, kinds, next, spot);
+        let mark = m.mark;
+        if mark == grammar::tables::LEAD {
+            let minus = m.place < m.at;
+            let n = pieces::read_number(text, m);
+            c = line_number(words, c, a, b, letter, minus, n.size);
+            spot = n.to;
+        } else if grammar::tables::HEAD < mark {
+            c = line_letter(words, c, letter, m.byte);
+            spot = m.to;
+        } else {
+            if mark == grammar::tables::STOP {
+                return close(words, letter, place, c, m.to);
             }
-            pieces::Found::Got(x, to) => match x {
-                pieces::Piece::Number(_, minus, n) => {
-                    c = line_number(words, c, a, b, letter, minus, n);
-                    spot = to;
-                }
-                pieces::Piece::First(_, _) => {
-                    return close(words, letter, place, c, spot);
-                }
-                pieces::Piece::Second(w) => {
-                    c = line_letter(words, c, letter, w);
-                    spot = to;
-                }
-                pieces::Piece::Word(w) => {
-                    c = line_letter(words, c, letter, w);
-                    spot = to;
-                }
-                pieces::Piece::Stop => {
-                    return close(words, letter, place, c, to);
-                }
-            },
+            return close(words, letter, place, c, spot);
         }
     }
 }
@@ -790,28 +757,15 @@ pub fn read_command(
 {
     let mut spot = from;
     loop {
-        match pieces::next_piece(text, kinds, next, spot) {
-            pieces::Found::End => {
-                return Read::Nothing;
-            }
-            pieces::Found::Got(x, to) => match x {
-                pieces::Piece::First(p, l) => {
-                    return read_items(text, kinds, next, words, to, p, l, a, b);
-                }
-                pieces::Piece::Second(_) => {
-                    spot = to;
-                }
-                pieces::Piece::Number(_, _, _) => {
-                    spot = to;
-                }
-                pieces::Piece::Word(_) => {
-                    spot = to;
-                }
-                pieces::Piece::Stop => {
-                    spot = to;
-                }
-            },
+        let m = pieces::next_mark(text, kinds, next, spot);
+        let mark = m.mark;
+        if mark == grammar::tables::SKIP {
+            return Read::Nothing;
         }
+        if mark == grammar::tables::HEAD {
+            return read_items(text, kinds, next, words, m.to, m.at, m.byte, a, b);
+        }
+        spot = m.to;
     }
 }
 

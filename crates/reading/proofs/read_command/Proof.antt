@@ -1,14 +1,13 @@
 -- `read_command` meets its contract: Seeking holds up to a first letter, the run is as it was, and what is left of the text falls.
 -- Assumes nothing.
-use mathlib.Core.Path.{_≡_, refl, ap, subst, _∙_}
-use Prim.Native.Nat.{_-_}
-use native.Mathlib.Omega.{arith}
-use lib.ListN.{length}
+use mathlib.Core.Path.{_≡_, refl, ap, _∙_}
 use mathlib.Core.List.{List}
+use Prim.Native.Nat.{_-_}
 use lib.IntN.{ℤ}
-use Rattle.pieces.specs.Pieces.{Reads}
-use Rattle.pieces.proofs.Lexing.{by-piece}
-use Rattle.reading.proofs.Wording.{Seeking, seeking-start, seeking-ended, seeking-number, seeking-second, seeking-word, seeking-stop, seeking-found}
+use lib.ListN.{length}
+use Rattle.grammar.specs.Steps.{number}
+use Rattle.reading.proofs.Ahead.{finds, mark-less}
+use Rattle.reading.proofs.Wording.{Seeking, seeking-start, seeking-ended, seeking-past, seeking-found}
 use Rattle.reading.proofs.read_command.Statement.{statement}
 use Rattle.reading.proofs.read_command.Tie as tie
 
@@ -21,68 +20,34 @@ abbrev μ-loop : tie.MeasureT-loop
 loop-holds : tie.Need-loop-holds Inv-loop μ-loop
 loop-holds c = (seeking-start _ _ (c .before .pre .1 .0), refl)
 
-next-piece-requires : tie.Need-next-piece-requires Inv-loop μ-loop
-next-piece-requires c κs = (c .before .before .pre .0, c .loop .inv .0 .fit)
-
-enum-told : tie.Need-enum-told Inv-loop μ-loop
-enum-told c = c .match .keys1
+next-mark-requires : tie.Need-next-mark-requires Inv-loop μ-loop
+next-mark-requires c κs = (c .before .before .pre .0, c .loop .inv .0 .fit)
 
 same-length : tie.Need-same-length Inv-loop μ-loop
-same-length c = ap (λ (z : List ℤ). length z) (c .before .before .before .loop .inv .1)
+same-length c = ap (λ (z : List ℤ). length z) (c .before .before .loop .inv .1)
 
 returns : tie.Need-returns Inv-loop μ-loop
-returns c = seeking-ended (c .before .before .before .before .before .args .text .now) (c .before .before .before .before .before .args .from) (c .before .before .before .loop .spot) (c .before .before .before .loop .inv .0) (c .before .before .before .before .before .args .a) (c .before .before .before .before .before .args .b) (c .before .before .before .before .before .args .words .now) (c .before .before .before .loop .words) (c .before .before .before .loop .inv .1) (subst (Reads (c .before .before .before .before .before .args .text .now) (c .before .before .before .loop .spot)) (c .enum-told .given .1) (c .before .before .next-piece .ensures))
-
-enum-known-x : tie.Need-enum-known-x Inv-loop μ-loop
-enum-known-x c = c .match .keys2
-
-enum-known-x-2 : tie.Need-enum-known-x-2 Inv-loop μ-loop
-enum-known-x-2 c = c .match2 .keys1
+unfolding number
+returns c = (seeking-ended (c .before .before .loop .inv .0) (c .before .next-mark .ensures .none (c .if1 .taken)), c .before .before .loop .inv .1)
 
 read-items-requires : tie.Need-read-items-requires Inv-loop μ-loop
-read-items-requires c κs = (c .before .before .before .before .before .before .before .before .before .before .pre .0, ((subst (Reads (c .before .before .before .before .before .before .before .before .before .before .args .text .now) (c .before .before .before .before .before .before .before .before .loop .spot)) (c .before .before .before .before .before .x .given .1) (c .before .before .before .before .before .before .before .next-piece .ensures)) .fit, c .before .before .before .before .before .before .before .before .before .before .pre .1 .1, c .before .before .before .before .before .before .before .before .before .before .pre .1 .2))
+unfolding number
+read-items-requires c κs = (c .before .before .before .before .before .before .pre .0, (c .before .before .before .next-mark .ensures .first (c .before .if2 .taken) .fit, c .before .before .before .before .before .before .pre .1 .1, c .before .before .before .before .before .before .pre .1 .2))
 
 same-length-2 : tie.Need-same-length-2 Inv-loop μ-loop
-same-length-2 c = c .before .read-items .kept .1 .1 .1 .0 ∙ ap (λ (z : List ℤ). length z) (c .before .before .before .before .before .before .before .before .before .before .loop .inv .1)
+same-length-2 c = c .before .read-items .kept .1 .1 .1 .0 ∙ ap (λ (z : List ℤ). length z) (c .before .before .before .before .before .before .loop .inv .1)
 
 returns-2 : tie.Need-returns-2 Inv-loop μ-loop
-returns-2 c = seeking-found (c .before .before .before .before .before .before .before .before .before .before .before .before .args .text .now) (c .before .before .before .before .before .before .before .before .before .before .before .before .args .from) (c .before .before .before .before .before .before .before .before .before .before .loop .spot) (c .before .before .before .before .before .before .before .before .before .before .loop .inv .0) _ _ _ (by-piece (c .before .before .before .before .x2 .given .1) (subst (Reads (c .before .before .before .before .before .before .before .before .before .before .before .before .args .text .now) (c .before .before .before .before .before .before .before .before .before .before .loop .spot)) (c .before .before .before .before .before .before .before .x .given .1) (c .before .before .before .before .before .before .before .before .before .next-piece .ensures))) (c .before .before .before .before .before .before .before .before .before .before .before .before .args .a) (c .before .before .before .before .before .before .before .before .before .before .before .before .args .b) (c .before .before .before .before .before .before .before .before .before .before .before .before .args .words .now) (c .before .before .before .before .before .before .before .before .before .before .loop .words) (c .before .before .before .before .before .before .before .before .before .before .loop .inv .1) (c .before .read-items .result) _ (c .before .read-items .ensures)
-
-enum-told-2 : tie.Need-enum-told-2 Inv-loop μ-loop
-enum-told-2 c = c .match2 .keys2
+unfolding number
+returns-2 c = seeking-found (c .before .before .before .before .before .before .loop .inv .0) (c .before .before .before .before .before .next-mark .ensures .first (c .before .before .before .if2 .taken)) (c .before .before .before .before .before .before .loop .inv .1) (c .before .before .before .before .before .before .before .before .args .a) (c .before .before .before .before .before .before .before .before .args .b) (c .before .read-items .result) _ (c .before .read-items .ensures)
 
 loop-less : tie.Need-loop-less Inv-loop μ-loop
-loop-less c = let st = (subst (Reads (c .before .before .before .before .before .before .before .before .args .text .now) (c .before .before .before .before .before .before .loop .spot)) (c .before .before .before .x .given .1) (c .before .before .before .before .before .next-piece .ensures)) in let h = st .ahead in let k = st .fit .within in omega arith
+unfolding number
+loop-less c = mark-less (c .before .before .before .next-mark .ensures) (c .before .before .if1 .left)
 
 loop-again : tie.Need-loop-again Inv-loop μ-loop
-loop-again c = (seeking-second (c .before .before .before .before .before .before .before .before .args .text .now) (c .before .before .before .before .before .before .before .before .args .from) (c .before .before .before .before .before .before .loop .spot) (c .before .before .before .before .before .before .loop .inv .0) _ _ (by-piece (c .enum-told2 .given .1) (subst (Reads (c .before .before .before .before .before .before .before .before .args .text .now) (c .before .before .before .before .before .before .loop .spot)) (c .before .before .before .x .given .1) (c .before .before .before .before .before .next-piece .ensures))), c .before .before .before .before .before .before .loop .inv .1)
-
-enum-told-3 : tie.Need-enum-told-3 Inv-loop μ-loop
-enum-told-3 c = c .match2 .keys3
-
-loop-less-2 : tie.Need-loop-less-2 Inv-loop μ-loop
-loop-less-2 c = let st = (subst (Reads (c .before .before .before .before .before .before .before .before .args .text .now) (c .before .before .before .before .before .before .loop .spot)) (c .before .before .before .x .given .1) (c .before .before .before .before .before .next-piece .ensures)) in let h = st .ahead in let k = st .fit .within in omega arith
-
-loop-again-2 : tie.Need-loop-again-2 Inv-loop μ-loop
-loop-again-2 c = (seeking-number (c .before .before .before .before .before .before .before .before .args .text .now) (c .before .before .before .before .before .before .before .before .args .from) (c .before .before .before .before .before .before .loop .spot) (c .before .before .before .before .before .before .loop .inv .0) _ _ _ _ (by-piece (c .enum-told3 .given .1) (subst (Reads (c .before .before .before .before .before .before .before .before .args .text .now) (c .before .before .before .before .before .before .loop .spot)) (c .before .before .before .x .given .1) (c .before .before .before .before .before .next-piece .ensures))), c .before .before .before .before .before .before .loop .inv .1)
-
-enum-told-4 : tie.Need-enum-told-4 Inv-loop μ-loop
-enum-told-4 c = c .match2 .keys4
-
-loop-less-3 : tie.Need-loop-less-3 Inv-loop μ-loop
-loop-less-3 c = let st = (subst (Reads (c .before .before .before .before .before .before .before .before .args .text .now) (c .before .before .before .before .before .before .loop .spot)) (c .before .before .before .x .given .1) (c .before .before .before .before .before .next-piece .ensures)) in let h = st .ahead in let k = st .fit .within in omega arith
-
-loop-again-3 : tie.Need-loop-again-3 Inv-loop μ-loop
-loop-again-3 c = (seeking-word (c .before .before .before .before .before .before .before .before .args .text .now) (c .before .before .before .before .before .before .before .before .args .from) (c .before .before .before .before .before .before .loop .spot) (c .before .before .before .before .before .before .loop .inv .0) _ _ (by-piece (c .enum-told4 .given .1) (subst (Reads (c .before .before .before .before .before .before .before .before .args .text .now) (c .before .before .before .before .before .before .loop .spot)) (c .before .before .before .x .given .1) (c .before .before .before .before .before .next-piece .ensures))), c .before .before .before .before .before .before .loop .inv .1)
-
-enum-told-5 : tie.Need-enum-told-5 Inv-loop μ-loop
-enum-told-5 c = c .match2 .keys5
-
-loop-less-4 : tie.Need-loop-less-4 Inv-loop μ-loop
-loop-less-4 c = let st = (subst (Reads (c .before .before .before .before .before .before .before .before .args .text .now) (c .before .before .before .before .before .before .loop .spot)) (c .before .before .before .x .given .1) (c .before .before .before .before .before .next-piece .ensures)) in let h = st .ahead in let k = st .fit .within in omega arith
-
-loop-again-4 : tie.Need-loop-again-4 Inv-loop μ-loop
-loop-again-4 c = (seeking-stop (c .before .before .before .before .before .before .before .before .args .text .now) (c .before .before .before .before .before .before .before .before .args .from) (c .before .before .before .before .before .before .loop .spot) (c .before .before .before .before .before .before .loop .inv .0) _ (by-piece (c .enum-told5 .given .1) (subst (Reads (c .before .before .before .before .before .before .before .before .args .text .now) (c .before .before .before .before .before .before .loop .spot)) (c .before .before .before .x .given .1) (c .before .before .before .before .before .next-piece .ensures))), c .before .before .before .before .before .before .loop .inv .1)
+unfolding number
+loop-again c = (seeking-past (c .before .before .before .before .loop .inv .0) (finds (c .before .before .before .next-mark .ensures)) (c .before .before .if1 .left) (c .before .if2 .left), c .before .before .before .before .loop .inv .1)
 
 pub read-command-spec : {M : Type 1} → statement M
 read-command-spec =
@@ -91,24 +56,11 @@ read-command-spec =
     Inv-loop
     μ-loop
     loop-holds
-    next-piece-requires
-    enum-told
+    next-mark-requires
     same-length
     returns
-    enum-known-x
-    enum-known-x-2
     read-items-requires
     same-length-2
     returns-2
-    enum-told-2
     loop-less
-    loop-again
-    enum-told-3
-    loop-less-2
-    loop-again-2
-    enum-told-4
-    loop-less-3
-    loop-again-3
-    enum-told-5
-    loop-less-4
-    loop-again-4)
+    loop-again)

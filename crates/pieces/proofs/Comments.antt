@@ -1,0 +1,85 @@
+-- Comments, passed over: within one the state stays, every letter is skipped, and no piece begins.
+-- Assumes nothing.
+use mathlib.Core.Path.{_≡_, refl, sym, ap, _∙_, subst}
+use mathlib.Core.List.{List, [], _∷_}
+use Prim.Native.Nat.{ℕ, _+_, _≤_, _<_}
+use native.Mathlib.Omega.{arith}
+use lib.Dec.{eqb}
+use lib.ListN.{length, getD}
+use Rattle.grammar.specs.Notation.{Role, Letter, skip}
+use Rattle.grammar.specs.Tables.{stateCount, stuck, roles, letter, lparKind, rparKind, foreignKind}
+use Rattle.grammar.specs.Steps.{kindOf, modeAfter, within, Moved}
+use Rattle.grammar.specs.declared.Mode.{Mode}
+use Rattle.grammar.specs.declared.Move.{Move}
+use Rattle.grammar.proofs.Steps.{step-depth, within-is, mark-in}
+use Rattle.grammar.proofs.Boundaries.{within-at}
+use Rattle.pieces.specs.Pieces.{pieces, left, Closes}
+use Rattle.pieces.proofs.Lexing.{role, pieces-none, left-ended, left-stuck, left-next}
+
+-- within a comment that began before place i₀: d are open at place i
+pub record Commented (t : List ℕ) (q i₀ d i : ℕ) : Type 0 where
+  pub state : q < stateCount
+  pub within-text : i ≤ length t
+  pub from : i₀ ≤ i
+  pub busy : 1 ≤ d
+  pub shallow : d ≤ i
+  pub on : pieces i₀ i₀ (left t q 1 i₀) ≡ pieces i i (left t q d i)
+
+pub comment-start : (t : List ℕ) (q i : ℕ) → q < stateCount → 1 ≤ i → i ≤ length t → Commented t q i 1 i
+comment-start t q i hq h k = record { state = hq; within-text = k; from = omega arith; busy = omega arith; shallow = h; on = refl }
+
+none-left : (t : List ℕ) (q i j : ℕ) → length t ≤ j → [] ≡ pieces j j (left t q 0 j)
+none-left t q i j h = sym (ap (λ (l : List Letter). pieces j j l) (left-ended t q 0 j h) ∙ pieces-none j j)
+
+module _ (t : List ℕ) (q i₀ d i : ℕ) (g : Commented t q i₀ d i) where
+  pub comment-ended : length t ≤ i → Closes t q i₀ i
+  comment-ended h = record {
+    ahead = g .from;
+    within = g .within-text;
+    on = g .on ∙ ap (λ (l : List Letter). pieces i i l) (left-ended t q d i h) ∙ pieces-none i i ∙ none-left t q i i h;
+  }
+
+  module _ (hi : i < length t) (hb : getD t i 0 < 256) (r : Move) (mv : Moved q d (getD t i 0) r) where
+    open-still : d ≡ 0 → ⊥
+    open-still e = let h = g .busy in omega arith
+
+    pub comment-stuck : r .state ≡ stuck → Closes t q i₀ (length t)
+    comment-stuck e = record {
+      ahead = let h = g .from in omega arith;
+      within = omega arith;
+      on = g .on ∙ ap (λ (l : List Letter). pieces i i l) (left-stuck t q d i hi hb r mv e) ∙ pieces-none i i ∙ none-left t q i (length t) (omega arith);
+    }
+
+    module _ (n : r .state ≡ stuck → ⊥) where
+      same-state : r .state ≡ q
+      same-state =
+          let k = kindOf (getD t i 0) in
+          let w : within q d k ≡ modeAfter q d (getD t i 0) = within-is q d (getD t i 0) k refl open-still in
+          let e : within q d k .state ≡ r .state = ap (λ (p : Mode). p .state) (w ∙ sym (mv .goes)) in
+          sym e ∙ within-at (λ (x : ℕ). x ≡ q) q d (eqb k lparKind) (eqb k rparKind) (eqb k foreignKind) (λ s. n (sym e ∙ s)) refl
+
+      comment-on : pieces i₀ i₀ (left t q 1 i₀) ≡ pieces (i + 1) (i + 1) (left t q (r .depth) (i + 1))
+      unfolding pieces
+      comment-on =
+          let ρ : role r ≡ skip = ap (λ (m : ℕ). getD roles m skip) (mv .mark ∙ sym (mark-in q d (getD t i 0) open-still)) in
+          g .on
+          ∙ ap (λ (l : List Letter). pieces i i l) (left-next t q d i hi hb r mv (g .state) n)
+          ∙ ap (λ (x : Role). pieces i i (letter (getD t i 0) x ∷ left t (r .state) (r .depth) (i + 1))) ρ
+          ∙ ap (λ (x : ℕ). pieces (i + 1) (i + 1) (left t x (r .depth) (i + 1))) same-state
+
+      pub comment-next : (r .depth ≡ 0 → ⊥) → Commented t q i₀ (r .depth) (i + 1)
+      comment-next m =
+          let k : modeAfter q d (getD t i 0) .depth ≤ d + 1 = step-depth q d (getD t i 0) in
+          let e : r .depth ≡ modeAfter q d (getD t i 0) .depth = ap (λ (p : Mode). p .depth) (mv .goes) in
+          let h = g .shallow in
+          let f = g .from in
+          record { state = g .state; within-text = omega arith; from = omega arith; busy = omega arith; shallow = omega arith; on = comment-on }
+
+      pub comment-closed : r .depth ≡ 0 → Closes t q i₀ (i + 1)
+      comment-closed e =
+          let f = g .from in
+          record {
+            ahead = omega arith;
+            within = omega arith;
+            on = comment-on ∙ ap (λ (x : ℕ). pieces (i + 1) (i + 1) (left t q x (i + 1))) e;
+          }
