@@ -1,12 +1,13 @@
 -- Writes into a room, one after the other: what every function of the pen, and its callers, compose by.
 -- Assumes nothing.
 use mathlib.Core.Path.{_≡_, refl, sym, ap, _∙_, subst}
+use mathlib.Core.Logic.{_≢_}
 use mathlib.Core.List.{List, [], _∷_, _++_, append-assoc, append-nil}
 use Prim.Native.Nat.{ℕ, suc, _+_, _≤_}
 use native.Mathlib.Nat.{add-zero, add-suc, suc-add}
 use native.Mathlib.Omega.{arith}
 use lib.ListN.{length, set, drop, length-append}
-use lib.Seq.{sets, length-sets, sets-eq}
+use lib.Seq.{set-out, set-comm, sets, length-sets, sets-eq}
 use Rattle.pen.specs.Writes.{Writes}
 
 pub sets-append : {A : Type 0} (l : List A) (i : ℕ) (a b : List A) → sets (sets l i a) (i + length a) b ≡ sets l i (a ++ b)
@@ -14,12 +15,32 @@ sets-append l i [] b = ap (λ (k : ℕ). sets l k b) (add-zero i)
 sets-append l i (x ∷ a) b =
     ap (λ (k : ℕ). sets (sets (set l i x) (suc i) a) k b) (add-suc i (length a) ∙ sym (suc-add i (length a))) ∙ sets-append (set l i x) (suc i) a b
 
+-- past a list's end nothing is stored
+sets-out : {A : Type 0} (l : List A) (i : ℕ) (vs : List A) → length l ≤ i → sets l i vs ≡ l
+sets-out l i [] h = refl
+sets-out {A} l i (x ∷ vs) h = ap (λ (m : List A). sets m (suc i) vs) (set-out l i x h) ∙ sets-out l (suc i) vs (omega (arith, h))
+
+set-behind : {A : Type 0} (l : List A) (i : ℕ) (vs : List A) (j : ℕ) (x : A) → i + length vs ≤ j → sets (set l j x) i vs ≡ set (sets l i vs) j x
+set-behind l i [] j x h = refl
+set-behind {A} l i (v ∷ vs) j x h =
+    let apart : j ≢ i = λ e. omega (arith, e, h) in
+    ap (λ (m : List A). sets m (suc i) vs) (set-comm l j i x v apart) ∙ set-behind (set l i v) (suc i) vs j x (omega (arith, h))
+
+-- the last may be stored before the others
+pub last-first : {A : Type 0} (l : List A) (i : ℕ) (vs : List A) (j : ℕ) (x : A) → j ≡ i + length vs → sets (set l j x) i vs ≡ sets l i (vs ++ (x ∷ []))
+last-first {A} l i vs j x e =
+    set-behind l i vs j x (omega (arith, e)) ∙ ap (λ (k : ℕ). set (sets l i vs) k x) e ∙ sets-append l i vs (x ∷ [])
+
 -- the record from what a function stores and gives back
 pub written : {old new : List ℕ} {at next : ℕ} {bytes : List ℕ} → new ≡ sets old at bytes → next ≡ at + length bytes → Writes old new at next bytes
 written {old} {new} {at} {next} {bytes} l e = record { kept = ap length l ∙ length-sets old at bytes; laid = l; ends = e }
 
 pub nothing : (room : List ℕ) (at : ℕ) → Writes room room at at []
 nothing room at = written refl (sym (add-zero at))
+
+-- in a room that ends before them bytes are only counted
+pub only-counted : {room : List ℕ} {at next : ℕ} {bytes : List ℕ} → length room ≤ at → next ≡ at + length bytes → Writes room room at next bytes
+only-counted {room} {at} {next} {bytes} h e = written (sym (sets-out room at bytes h)) e
 
 -- two in a row are one
 pub both : {r₀ r₁ r₂ : List ℕ} {i j k : ℕ} {a b : List ℕ} → Writes r₀ r₁ i j a → Writes r₁ r₂ j k b → Writes r₀ r₂ i k (a ++ b)

@@ -32,16 +32,45 @@ pub fn put(room: &mut [u8], at: usize, byte: u8) -> usize
     at + 1
 }
 
-// The highest digit is written first: a number has the digits of its tenth and then its last.
+// How many digits a number has.
+fn digit_count(n: u64) -> usize
+    ensures { λ r. ⌜ r ≡ length (shortest n) ⌝ }
+{
+    let mut count: usize = 1;
+    let mut high = n;
+    while 10 <= high {
+        high /= 10;
+        count += 1;
+    }
+    count
+}
+
+// The digits, from the last on, each in its place.
+fn put_backward(room: &mut [u8], at: usize, end: usize, n: u64)
+    requires { ⌜ (end ≡ at + length (shortest n)) × (end ≤ 2 ^ 63) ⌝ }
+    ensures { λ _. ⌜ now (room .exit) ≡ sets (now (room .entry)) at (shortest n) ⌝ }
+{
+    let mut rest = n;
+    let mut i = end;
+    while at < i {
+        i -= 1;
+        put(room, i, (48 + rest % 10) as u8);
+        rest /= 10;
+    }
+}
+
+// Digits are counted first and then stored from the last on: two loops, where a call for each digit is dear. Where the room ends before them, as it
+// does in a drawing that measures, they are only counted.
 pub fn put_digits(room: &mut [u8], at: usize, n: u64) -> usize
     requires { ⌜ at ≤ 2 ^ 62 ⌝ }
     ensures { λ r. ⌜ Writes (now (room .entry)) (now (room .exit)) at r (shortest n) ⌝ }
 {
-    if n < 10 {
-        return put(room, at, (48 + n) as u8);
+    let end = at + digit_count(n);
+    if room.len() <= at {
+        return end;
     }
-    let next = put_digits(room, at, n / 10);
-    put(room, next, (48 + n % 10) as u8)
+    put_backward(room, at, end, n);
+    end
 }
 
 // The lowest number of 64 bits has no positive of its own, so one is added before the sign is turned, and again behind.

@@ -1,8 +1,7 @@
 -- `pen::put` meets its contract: past the room's end nothing is stored, which is what a store there does to a list.
 -- Assumes nothing.
-use mathlib.Core.Path.{refl, sym}
-use lib.Seq.{set-out}
-use Rattle.pen.proofs.Writing.{written}
+use mathlib.Core.Path.{refl}
+use Rattle.pen.proofs.Writing.{only-counted}
 use borrow.Author.Needs.{needs}
 use Rattle.pen.proofs.put.Statement.{statement}
 use Rattle.pen.proofs.put.Tie as tie
@@ -23,7 +22,7 @@ add-result-2 : tie.Need-add-result-2
 add-result-2 c = search needs
 
 returns-2 : tie.Need-returns-2
-returns-2 c = written (sym (set-out _ _ _ (c .if1 .left))) refl
+returns-2 c = only-counted (c .if1 .left) refl
 
 pub put-spec : {M : Type 1} → statement M
 put-spec =
