@@ -11,8 +11,8 @@ use lib.IntN.{ℤ, pos}
 use mir.Syntax.{w32}
 use mir.Val.{ofZ, toZ}
 use lib.Signed.{mag}
-use lib.ListN.{List·getD-append, length, drop, getD, set, length-append}
-use lib.Seq.{sets, length-sets, getD-drop, drop-drop, drop-append-seam, getD-append-add}
+use lib.ListN.{length, take, drop, getD, set, length-append, length-drop}
+use lib.Seq.{sets, length-sets, length-take-le, take-suc, take-at, getD-drop, drop-drop, drop-append-seam, getD-append-add}
 use Rattle.definition.specs.Commands.{Shape, Kind, box, flash, wire, polygon}
 use Rattle.definition.specs.Flat.{letterOf}
 use Rattle.definition.specs.Words.{Point, point, any}
@@ -21,7 +21,7 @@ use Rattle.turns.specs.Nets.{asPoint, apply, turned}
 use Rattle.turns.specs.declared.Net.{Net}
 use Rattle.turns.specs.declared.Pair.{Pair}
 use Rattle.turns.proofs.Signed.{told}
-use Rattle.pen.specs.Moves.{sizeCount, directionCount, Pointed, Moves, ShapedAt, MovesShape}
+use Rattle.pen.specs.Moves.{sizeCount, directionCount, BeginAt, EndAt, Copied, Pointed, Moves, ShapedAt, MovesShape}
 use Rattle.pen.proofs.Writing.{sets-append}
 
 both-++ : (a b : List (Point ℤ)) → both (a ++ b) ≡ both a ++ both b
@@ -164,33 +164,78 @@ aim-told net r x y hx hy e = rw (← told w32 x hx, ← told w32 y hy) e
 -- ---- a shape
 
 -- sizes and directions by the letter
-pub record Counted (k : Kind) (sizes directions : ℕ) : Type 0 where
-  pub sizes-are : sizeCount k ≡ sizes
-  pub directions-are : directionCount k ≡ directions
-
 apart : (m n : ℕ) → m < n → n ≡ m → ⊥
 apart m n h e = omega (arith, e)
 
-by-P : (k : Kind) → letterOf k ≡ 80 → Counted k 0 0
-unfolding letterOf sizeCount directionCount
-by-P polygon e = record { sizes-are = refl; directions-are = refl }
-by-P box e = absurd (apart 66 80 (omega arith) (sym e))
-by-P flash e = absurd (apart 80 82 (omega arith) e)
-by-P wire e = absurd (apart 80 87 (omega arith) e)
+pub sizes-P : (k : Kind) → letterOf k ≡ 80 → sizeCount k ≡ 0
+unfolding letterOf sizeCount
+sizes-P polygon e = refl
+sizes-P box e = absurd (apart 66 80 (omega arith) (sym e))
+sizes-P flash e = absurd (apart 80 82 (omega arith) e)
+sizes-P wire e = absurd (apart 80 87 (omega arith) e)
 
-by-B : (k : Kind) → letterOf k ≡ 66 → Counted k 2 1
-unfolding letterOf sizeCount directionCount
-by-B box e = record { sizes-are = refl; directions-are = refl }
-by-B polygon e = absurd (apart 66 80 (omega arith) e)
-by-B flash e = absurd (apart 66 82 (omega arith) e)
-by-B wire e = absurd (apart 66 87 (omega arith) e)
+is-box : (k : Kind) → letterOf k ≡ 66 → k ≡ box
+unfolding letterOf
+is-box box e = refl
+is-box polygon e = absurd (apart 66 80 (omega arith) e)
+is-box flash e = absurd (apart 66 82 (omega arith) e)
+is-box wire e = absurd (apart 66 87 (omega arith) e)
 
-by-other : (k : Kind) → (letterOf k ≡ 80 → ⊥) → (letterOf k ≡ 66 → ⊥) → Counted k 1 0
-unfolding letterOf sizeCount directionCount
-by-other flash p b = record { sizes-are = refl; directions-are = refl }
-by-other wire p b = record { sizes-are = refl; directions-are = refl }
-by-other polygon p b = absurd (p refl)
-by-other box p b = absurd (b refl)
+pub sizes-B : (k : Kind) → letterOf k ≡ 66 → sizeCount k ≡ 2
+unfolding sizeCount
+sizes-B k e = ap sizeCount (is-box k e)
+
+pub sizes-other : (k : Kind) → (letterOf k ≡ 80 → ⊥) → (letterOf k ≡ 66 → ⊥) → sizeCount k ≡ 1
+unfolding letterOf sizeCount
+sizes-other flash p b = refl
+sizes-other wire p b = refl
+sizes-other polygon p b = absurd (p refl)
+sizes-other box p b = absurd (b refl)
+
+pub directions-B : (k : Kind) → letterOf k ≡ 66 → directionCount k ≡ 1
+unfolding directionCount
+directions-B k e = ap directionCount (is-box k e)
+
+pub directions-other : (k : Kind) → (letterOf k ≡ 66 → ⊥) → directionCount k ≡ 0
+unfolding letterOf directionCount
+directions-other flash b = refl
+directions-other wire b = refl
+directions-other polygon b = refl
+directions-other box b = absurd (b refl)
+
+few-sizes : (k : Kind) → sizeCount k ≤ 2
+unfolding sizeCount
+few-sizes box = omega arith
+few-sizes flash = omega arith
+few-sizes wire = omega arith
+few-sizes polygon = omega arith
+
+pub none-copied : {words numbers : List ℤ} {from : ℕ} → from ≡ 2 → Copied words numbers from numbers
+none-copied {words} {numbers} e = record { laid = ap (λ (n : ℕ). sets numbers 2 (take (n - 2) (drop 2 words))) (sym e) }
+
+pub one-copied : {words numbers numbers₁ numbers₂ : List ℤ} {i from : ℕ} → Copied words numbers i numbers₁ → numbers₂ ≡ set numbers₁ i (getD words i (pos 0))
+    → 2 ≤ i → i < length words → from ≡ i + 1 → Copied words numbers from numbers₂
+one-copied {words} {numbers} {i = i} {from} c e l h f =
+    let old = take (i - 2) (drop 2 words) in
+    let v = getD words i (pos 0) in
+    let at : i ≡ 2 + length old = omega (arith, length-take-le (i - 2) (drop 2 words) (omega (arith, short))) in
+    record {
+      laid =
+          e
+          ∙ (ap (λ (x : List ℤ). set x i v) (c .laid)
+          ∙ (ap (λ (n : ℕ). set (sets numbers 2 old) n v) at ∙ (sets-append numbers 2 old (v ∷ []) ∙ ap (sets numbers 2) (sym more))));
+    }
+  where
+    short : i - 2 < length (drop 2 words)
+    short = omega (arith, length-drop 2 words, h, l)
+
+    more : take (from - 2) (drop 2 words) ≡ take (i - 2) (drop 2 words) ++ (getD words i (pos 0) ∷ [])
+    more =
+        let n : from - 2 ≡ suc (i - 2) = omega (arith, f, l) in
+        let there : 2 + (i - 2) ≡ i = omega (arith, l) in
+        ap (λ (m : ℕ). take m (drop 2 words)) n
+        ∙ (take-suc (drop 2 words) (i - 2) (pos 0) short
+        ∙ ap (λ (x : ℤ). take (i - 2) (drop 2 words) ++ (x ∷ [])) (getD-drop 2 words (i - 2) (pos 0) ∙ ap (λ (m : ℕ). getD words m (pos 0)) there))
 
 no-directions : (l : List (Point ℤ)) → length l ≡ 0 → l ≡ []
 no-directions [] e = refl
@@ -200,6 +245,10 @@ one-direction : (l : List (Point ℤ)) → length l ≡ 1 → (d : Point ℤ) ×
 one-direction [] e = absurd (omega (arith, e))
 one-direction (p ∷ []) e = (p, refl)
 one-direction (p ∷ q ∷ l) e = absurd (omega (arith, e))
+
+both-length : (l : List (Point ℤ)) → length (both l) ≡ 2 * length l
+both-length [] = refl
+both-length (p ∷ l) = let e = both-length l in omega (arith, e)
 
 module _ {words : List ℤ} {letter end : ℕ} (h : ShapedAt words letter end) where
   abbrev k : Shape ℤ
@@ -213,155 +262,99 @@ module _ {words : List ℤ} {letter end : ℕ} (h : ShapedAt words letter end) w
       ∙ (append-assoc (k .sizes) (both (k .points) ++ both (k .directions)) (h .rest)
       ∙ ap (λ (l : List ℤ). k .sizes ++ l) (append-assoc (both (k .points)) (both (k .directions)) (h .rest))))
 
-  pub counted : letter ≡ 80 → Counted (k .kind) 0 0
-  counted e = by-P (k .kind) (sym (h .shaped .letter-is) ∙ e)
+  all-long : end ≡ 2 + (length (k .sizes) + (length (both (k .points)) + 2 * directionCount (k .kind)))
+  all-long =
+      let e₁ = ap length (h .shaped .values-are) in
+      let e₂ = length-append (k .sizes) (both (k .points) ++ both (k .directions)) in
+      let e₃ = length-append (both (k .points)) (both (k .directions)) in
+      omega (arith, h .ends, e₁, e₂, e₃, both-length (k .directions), h .shaped .directions)
 
-  pub counted-box : letter ≡ 66 → Counted (k .kind) 2 1
-  counted-box e = by-B (k .kind) (sym (h .shaped .letter-is) ∙ e)
+  module _ {from last : ℕ} (f : BeginAt letter from) (t : EndAt letter end last) where
+    pub begins : from ≡ 2 + length (k .sizes)
+    begins = omega (arith, f .behind-sizes (k .kind) (h .shaped .letter-is), h .shaped .sizes)
 
-  pub counted-other : (letter ≡ 80 → ⊥) → (letter ≡ 66 → ⊥) → Counted (k .kind) 1 0
-  counted-other p b = by-other (k .kind) (λ e. p (h .shaped .letter-is ∙ e)) (λ e. b (h .shaped .letter-is ∙ e))
+    pub ends : last ≡ from + length (both (k .points))
+    ends = omega (arith, all-long, begins, t .before-directions (k .kind) (h .shaped .letter-is))
 
-  module _ {s d : ℕ} (c : Counted (k .kind) s d) where
-    pub sized : length (k .sizes) ≡ s
-    sized = h .shaped .sizes ∙ c .sizes-are
+    -- the places are in order
+    pub in-order : (2 ≤ from) × (from ≤ 4) × (from ≤ last) × (last ≤ end)
+    in-order =
+        let begin = begins in
+        let stop = ends in
+        let n = t .before-directions (k .kind) (h .shaped .letter-is) in
+        (omega (arith, begin), omega (arith, begin, few-sizes (k .kind), h .shaped .sizes), omega (arith, stop), omega (arith, n))
 
-    pub directed : length (k .directions) ≡ d
-    directed = h .shaped .directions ∙ c .directions-are
-
-    pub all-long : length (h .values) ≡ s + (length (both (k .points)) + length (both (k .directions)))
-    all-long =
-        ap length (h .shaped .values-are)
-        ∙ (length-append (k .sizes) (both (k .points) ++ both (k .directions)) ∙ let e = length-append (both (k .points)) (both (k .directions)) in omega (arith, sized, e))
+    pub box-ends : letter ≡ 66 → (4 ≤ last) × (last + 2 ≡ end)
+    box-ends e =
+        let b = sym (h .shaped .letter-is) ∙ e in
+        let begin = f .behind-sizes (k .kind) (h .shaped .letter-is) in
+        let stop = t .before-directions (k .kind) (h .shaped .letter-is) in
+        (omega (arith, begin, sizes-B (k .kind) b, in-order .2), omega (arith, stop, directions-B (k .kind) b))
 
     -- where its points stand
-    unfoldable pub pointed : (from to : ℕ) → from ≡ 2 + s → to + length (both (k .directions)) ≡ end → Pointed words from to
-    pointed from to f t = record {
+    unfoldable pub pointed : Pointed words from last
+    pointed = record {
       points = k .points;
       rest = both (k .directions) ++ h .rest;
       are =
-          ap (λ (n : ℕ). drop n words) f
-          ∙ (sym (drop-drop s 2 words)
-          ∙ (ap (drop s) parted ∙ (ap (λ (n : ℕ). drop n (k .sizes ++ (both (k .points) ++ (both (k .directions) ++ h .rest)))) (sym sized) ∙ drop-append-seam (k .sizes) (both (k .points) ++ (both (k .directions) ++ h .rest)))));
-      ends = omega (arith, f, t, h .ends, all-long);
-      within = omega (arith, t, h .within);
+          ap (λ (n : ℕ). drop n words) begins
+          ∙ (sym (drop-drop (length (k .sizes)) 2 words)
+          ∙ (ap (drop (length (k .sizes))) parted ∙ drop-append-seam (k .sizes) (both (k .points) ++ (both (k .directions) ++ h .rest))));
+      ends = sym ends;
+      within = omega (arith, in-order .3, h .within);
     }
 
     -- its sizes
-    pub size-at : (j : ℕ) → j < s → getD words (2 + j) (pos 0) ≡ getD (k .sizes) j (pos 0)
-    size-at j l =
-        sym (getD-drop 2 words j (pos 0))
-        ∙ (ap (λ (x : List ℤ). getD x j (pos 0)) parted ∙ List·getD-append (k .sizes) (both (k .points) ++ (both (k .directions) ++ h .rest)) (pos 0) j (omega (arith, sized, l)))
+    sizes-are : take (from - 2) (drop 2 words) ≡ k .sizes
+    sizes-are =
+        ap (take (from - 2)) parted ∙ take-at (k .sizes) (both (k .points) ++ (both (k .directions) ++ h .rest)) (from - 2) (omega (arith, begins))
 
     -- its direction
-    pub direction-at : (p : Point ℤ) → k .directions ≡ p ∷ [] → (i : ℕ) → i + 2 ≡ end → (j : ℕ) → getD words (i + j) (pos 0) ≡ getD (p .x ∷ p .y ∷ h .rest) j (pos 0)
-    direction-at p e i t j =
+    direction-at : (p : Point ℤ) → k .directions ≡ p ∷ [] → (j : ℕ) → getD words (last + j) (pos 0) ≡ getD (p .x ∷ p .y ∷ h .rest) j (pos 0)
+    direction-at p e j =
         let S = k .sizes in
         let P = both (k .points) in
         let D = both (k .directions) ++ h .rest in
-        let two : length (both (k .directions)) ≡ 2 = ap (λ (l : List (Point ℤ)). length (both l)) e in
-        let n : i + j ≡ 2 + (length S + (length P + j)) = omega (arith, t, h .ends, all-long, sized, two) in
+        let n : last + j ≡ 2 + (length S + (length P + j)) = omega (arith, begins, ends) in
         ap (λ (m : ℕ). getD words m (pos 0)) n
         ∙ (sym (getD-drop 2 words (length S + (length P + j)) (pos 0))
         ∙ (ap (λ (l : List ℤ). getD l (length S + (length P + j)) (pos 0)) parted
         ∙ (getD-append-add S (P ++ D) (length P + j) (pos 0)
         ∙ (getD-append-add P D j (pos 0) ∙ ap (λ (l : List (Point ℤ)). getD (both l ++ h .rest) j (pos 0)) e))))
 
-  -- sizes, then points, then directions
-  module _ (net : Net) (numbers : List ℤ) where
-    shape-moved : {from to : ℕ} {numbers₁ numbers₂ numbers₃ : List ℤ} {far : Bool} → from ≡ 2 + length (k .sizes) → numbers₁ ≡ sets numbers 2 (k .sizes)
-        → Moves net (k .points) numbers₁ from far numbers₂ → to ≡ from + length (both (k .points)) → numbers₃ ≡ sets numbers₂ to (both (map (turned net) (k .directions)))
-        → MovesShape net k numbers far numbers₃
-    shape-moved {from} {to} {numbers₁} {numbers₂} {numbers₃} f l m t e =
-        let S = k .sizes in
-        let P = both (map (apply net) (k .points)) in
-        let D = both (map (turned net) (k .directions)) in
-        let u : to ≡ from + length P = omega (arith, t, map-both (apply net) (k .points)) in
-        record {
-          test = m .test;
-          laid =
-              e
-              ∙ (ap (λ (x : List ℤ). sets x to D) (m .laid)
-              ∙ (ap (λ (n : ℕ). sets (sets numbers₁ from P) n D) u
-              ∙ (sets-append numbers₁ from P D
-              ∙ (ap (λ (x : List ℤ). sets x from (P ++ D)) l
-              ∙ (ap (λ (n : ℕ). sets (sets numbers 2 S) n (P ++ D)) f ∙ sets-append numbers 2 S (P ++ D))))));
-        }
+    -- sizes, then points, then directions
+    module _ (net : Net) (numbers : List ℤ) {numbers₁ numbers₂ numbers₃ : List ℤ} {far : Bool} (s : Copied words numbers from numbers₁)
+        (m : Moves net (k .points) numbers₁ from far numbers₂) where
+      shape-moved : numbers₃ ≡ sets numbers₂ last (both (map (turned net) (k .directions))) → MovesShape net k numbers far numbers₃
+      shape-moved e =
+          let S = k .sizes in
+          let P = both (map (apply net) (k .points)) in
+          let D = both (map (turned net) (k .directions)) in
+          let u : last ≡ from + length P = omega (arith, ends, map-both (apply net) (k .points)) in
+          record {
+            test = m .test;
+            laid =
+                e
+                ∙ (ap (λ (x : List ℤ). sets x last D) (m .laid)
+                ∙ (ap (λ (n : ℕ). sets (sets numbers₁ from P) n D) u
+                ∙ (sets-append numbers₁ from P D
+                ∙ (ap (λ (x : List ℤ). sets x from (P ++ D)) (s .laid ∙ ap (sets numbers 2) sizes-are)
+                ∙ (ap (λ (n : ℕ). sets (sets numbers 2 S) n (P ++ D)) begins ∙ sets-append numbers 2 S (P ++ D))))));
+          }
 
-    none-aimed : {s : ℕ} → Counted (k .kind) s 0 → (x : List ℤ) (to : ℕ) → x ≡ sets x to (both (map (turned net) (k .directions)))
-    none-aimed c x to = ap (λ (l : List (Point ℤ)). sets x to (both (map (turned net) l))) (sym (no-directions (k .directions) (directed c)))
+      pub unaimed-moved : (letter ≡ 66 → ⊥) → numbers₃ ≡ numbers₂ → MovesShape net k numbers far numbers₃
+      unaimed-moved b e =
+          let n = directions-other (k .kind) (λ q. b (h .shaped .letter-is ∙ q)) in
+          let z = no-directions (k .directions) (h .shaped .directions ∙ n) in
+          shape-moved (e ∙ ap (λ (x : List (Point ℤ)). sets numbers₂ last (both (map (turned net) x))) (sym z))
 
-    no-sizes : (l : List ℤ) → length l ≡ 0 → l ≡ []
-    no-sizes [] e = refl
-    no-sizes (z ∷ l) e = absurd (omega (arith, e))
-
-    pub polygon-moved : (e : letter ≡ 80) {numbers′ : List ℤ} {far : Bool} → Moves net (k .points) numbers 2 far numbers′ → MovesShape net k numbers far numbers′
-    polygon-moved e {numbers′} m =
-        let c = counted e in
-        let z = no-sizes (k .sizes) (sized c) in
-        shape-moved (ap (λ (l : List ℤ). 2 + length l) (sym z)) (ap (sets numbers 2) (sym z)) m refl (none-aimed c numbers′ _)
-
-    one-size : (l : List ℤ) → length l ≡ 1 → l ≡ getD l 0 (pos 0) ∷ []
-    one-size [] e = absurd (omega (arith, e))
-    one-size (z ∷ []) e = refl
-    one-size (z ∷ y ∷ l) e = absurd (omega (arith, e))
-
-    pub other-moved : (p : letter ≡ 80 → ⊥) (b : letter ≡ 66 → ⊥) {numbers₁ numbers′ : List ℤ} {far : Bool} → numbers₁ ≡ set numbers 2 (getD words 2 (pos 0))
-        → Moves net (k .points) numbers₁ 3 far numbers′ → MovesShape net k numbers far numbers′
-    other-moved p b {numbers₁} {numbers′} l m =
-        let c = counted-other p b in
-        let z = one-size (k .sizes) (sized c) in
-        shape-moved (omega (arith, sized c)) (l ∙ (ap (set numbers 2) (size-at c 0 (omega arith)) ∙ ap (sets numbers 2) (sym z))) m refl (none-aimed c numbers′ _)
-
-    two-sizes : (l : List ℤ) → length l ≡ 2 → l ≡ getD l 0 (pos 0) ∷ getD l 1 (pos 0) ∷ []
-    two-sizes [] e = absurd (omega (arith, e))
-    two-sizes (z ∷ []) e = absurd (omega (arith, e))
-    two-sizes (z ∷ y ∷ []) e = refl
-    two-sizes (z ∷ y ∷ x ∷ l) e = absurd (omega (arith, e))
-
-    pub box-moved : (e : letter ≡ 66) (last : ℕ) → last + 2 ≡ end → {numbers₁ numbers₂ numbers₃ numbers′ : List ℤ} {far : Bool} → numbers₁ ≡ set numbers 2 (getD words 2 (pos 0))
-        → numbers₂ ≡ set numbers₁ 3 (getD words 3 (pos 0)) → Moves net (k .points) numbers₂ 4 far numbers₃
-        → ((p : Point ℤ) → p ≡ turned net (point (getD words last (pos 0)) (getD words (last + 1) (pos 0))) → numbers′ ≡ sets numbers₃ last (p .x ∷ p .y ∷ []))
-        → MovesShape net k numbers far numbers′
-    box-moved e last t {numbers₁} {numbers₂} {numbers₃} {numbers′} l₁ l₂ m a =
-        let c = counted-box e in
-        let z = two-sizes (k .sizes) (sized c) in
-        let d = one-direction (k .directions) (directed c) in
-        let on : (j : ℕ) → getD words (last + j) (pos 0) ≡ getD (d .0 .x ∷ d .0 .y ∷ h .rest) j (pos 0) = direction-at c (d .0) (d .1) last t in
-        let here : getD words last (pos 0) ≡ d .0 .x = ap (λ (n : ℕ). getD words n (pos 0)) (sym (add-zero last)) ∙ on 0 in
-        let two : length (both (k .directions)) ≡ 2 = ap (λ (x : List (Point ℤ)). length (both x)) (d .1) in
-        shape-moved (omega (arith, sized c))
-        (l₂
-        ∙ (ap (λ (x : List ℤ). set x 3 (getD words 3 (pos 0))) l₁
-        ∙ (ap (λ (x : ℤ). set (set numbers 2 x) 3 (getD words 3 (pos 0))) (size-at c 0 (omega arith))
-        ∙ (ap (λ (x : ℤ). set (set numbers 2 (getD (k .sizes) 0 (pos 0))) 3 x) (size-at c 1 (omega arith)) ∙ ap (sets numbers 2) (sym z)))))
-        m (omega (arith, t, h .ends, all-long c, two))
-        (a (turned net (d .0)) (λ j. turned net (point (sym here j) (sym (on 1) j))) ∙ ap (λ (x : List (Point ℤ)). sets numbers₃ last (both (map (turned net) x))) (sym (d .1)))
-
-  -- how far its words reach
-  both-length : (l : List (Point ℤ)) → length (both l) ≡ 2 * length l
-  both-length [] = refl
-  both-length (p ∷ l) = let e = both-length l in omega (arith, e)
-
-  pub long-enough : {s d : ℕ} → Counted (k .kind) s d → 2 + s + 2 * d ≤ end
-  long-enough c = let e = all-long c in let n = both-length (k .directions) in let m = directed c in omega (arith, h .ends)
-
-  sized-all : (x : Kind) → (letterOf x ≡ 80 → ⊥) → 1 ≤ sizeCount x
-  unfolding letterOf sizeCount
-  sized-all box p = omega arith
-  sized-all flash p = omega arith
-  sized-all wire p = omega arith
-  sized-all polygon p = absurd (p refl)
-
-  pub with-size : (letter ≡ 80 → ⊥) → 3 ≤ end
-  with-size p =
-      let n = sized-all (k .kind) (λ e. p (h .shaped .letter-is ∙ e)) in
-      let e = long-enough {s = sizeCount (k .kind)} {d = directionCount (k .kind)} (record { sizes-are = refl; directions-are = refl }) in
-      omega (arith, n, e)
-
-  -- where its points end
-  pub none-long : {s : ℕ} → Counted (k .kind) s 0 → end + length (both (k .directions)) ≡ end
-  none-long c = let n = both-length (k .directions) in let m = directed c in omega (arith, n, m)
-
-  pub two-long : {s : ℕ} → Counted (k .kind) s 1 → end - 2 + length (both (k .directions)) ≡ end
-  two-long c = let n = both-length (k .directions) in let m = directed c in let e = long-enough c in omega (arith, n, m, e)
+      pub aimed-moved : letter ≡ 66
+          → ((p : Point ℤ) → p ≡ turned net (point (getD words last (pos 0)) (getD words (last + 1) (pos 0))) → numbers₃ ≡ sets numbers₂ last (p .x ∷ p .y ∷ []))
+          → MovesShape net k numbers far numbers₃
+      aimed-moved b a =
+          let n = directions-B (k .kind) (sym (h .shaped .letter-is) ∙ b) in
+          let d = one-direction (k .directions) (h .shaped .directions ∙ n) in
+          let on : (j : ℕ) → getD words (last + j) (pos 0) ≡ getD (d .0 .x ∷ d .0 .y ∷ h .rest) j (pos 0) = direction-at (d .0) (d .1) in
+          let here : getD words last (pos 0) ≡ d .0 .x = ap (λ (n : ℕ). getD words n (pos 0)) (sym (add-zero last)) ∙ on 0 in
+          shape-moved
+          (a (turned net (d .0)) (λ j. turned net (point (sym here j) (sym (on 1) j))) ∙ ap (λ (x : List (Point ℤ)). sets numbers₂ last (both (map (turned net) x))) (sym (d .1)))

@@ -4,9 +4,9 @@
 use mathlib.Core.Path.{_≡_}
 use mathlib.Core.Bool.{Bool, true, false}
 use mathlib.Core.List.{List, _++_, map}
-use Prim.Native.Nat.{ℕ, _+_, _≤_}
+use Prim.Native.Nat.{ℕ, _+_, _-_, _*_, _≤_}
 use lib.IntN.{ℤ}
-use lib.ListN.{length, drop}
+use lib.ListN.{length, take, drop}
 use lib.Seq.{sets}
 use Rattle.definition.specs.Words.{Point, any}
 use Rattle.definition.specs.Commands.{Shape, shapeOf, Kind, box, flash, wire, polygon}
@@ -32,6 +32,13 @@ directionCount box = 1
 directionCount flash = 0
 directionCount wire = 0
 directionCount polygon = 0
+
+-- where the points of a shape with this letter begin among its words, and where they end
+pub record BeginAt (letter from : ℕ) : Type 0 where
+  pub behind-sizes : (k : Kind) → letter ≡ letterOf k → from ≡ 2 + sizeCount k
+
+pub record EndAt (letter end last : ℕ) : Type 0 where
+  pub before-directions : (k : Kind) → letter ≡ letterOf k → last + 2 * directionCount k ≡ end
 
 -- the most numbers of a command
 abbrev pub mostValues : ℕ
@@ -64,6 +71,10 @@ pub record Pointed (words : List ℤ) (from end : ℕ) : Type 0 where
   pub within : end ≤ length words
 
 -- ---- what is made of them
+
+-- the words from place 2 up to this one stand in their places
+pub record Copied (words numbers : List ℤ) (from : ℕ) (numbers′ : List ℤ) : Type 0 where
+  pub laid : numbers′ ≡ sets numbers 2 (take (from - 2) (drop 2 words))
 
 -- all points stand in their places, and whether one of them is beyond the range
 pub record Moves (net : Net) (points : List (Point ℤ)) (numbers : List ℤ) (from : ℕ) (far : Bool) (numbers′ : List ℤ) : Type 0 where

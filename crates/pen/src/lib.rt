@@ -13,7 +13,7 @@ ghost use Rattle.definition.specs.Flat.{shortest, decimal, spaced, line};
 ghost use Rattle.turns.specs.Nets.{Near, apply, turned};
 ghost use Rattle.pen.specs.Writes.{Writes, number, layerLine};
 ghost use Rattle.pen.specs.Names.{nameOf};
-ghost use Rattle.pen.specs.Moves.{Pointed, Moves, ShapedAt, MovesShape, PutsShape};
+ghost use Rattle.pen.specs.Moves.{Pointed, Moves, ShapedAt, BeginAt, EndAt, Copied, MovesShape, PutsShape};
 
 // How a shape's line was made from its words: not at all, since a point is beyond the range, or up to the next place.
 pub enum Lined {
@@ -174,6 +174,21 @@ fn copy_number(words: &[i32], numbers: &mut [i64], i: usize)
     numbers[i] = words[i] as i64;
 }
 
+// All sizes, up to where the points begin.
+fn copy_sizes(words: &[i32], numbers: &mut [i64], from: usize)
+    requires { ⌜ (2 ≤ from) × (from ≤ 4) × (from ≤ length (now words)) × (from ≤ length (now numbers)) ⌝ }
+    ensures { λ _. ⌜ Copied (now (words .entry)) (now (numbers .entry)) from (now (numbers .exit)) ⌝ }
+{
+    if from < 3 {
+        return;
+    }
+    copy_number(words, numbers, 2);
+    if from < 4 {
+        return;
+    }
+    copy_number(words, numbers, 3);
+}
+
 fn set_point(numbers: &mut [i64], i: usize, p: turns::Pair)
     requires { ⌜ i + 1 < length (now numbers) ⌝ }
     ensures { λ _. ⌜ now (numbers .exit) ≡ sets (now (numbers .entry)) i (p .x ∷ p .y ∷ []) ⌝ }
@@ -225,7 +240,31 @@ fn move_points(words: &[i32], numbers: &mut [i64], from: usize, end: usize, net:
     far
 }
 
-// All numbers of a shape go to their final places, each where its word stands; a polygon has no size, a box two and a direction, the others one.
+// Where a shape's points begin: behind its sizes. A polygon has none, a box two, the others one.
+fn first_point(letter: u8) -> usize
+    ensures { λ r. ⌜ BeginAt letter r ⌝ }
+{
+    if letter == b'P' {
+        return 2;
+    }
+    if letter == b'B' {
+        return 4;
+    }
+    3
+}
+
+// Where they end: a box's before its direction.
+fn points_end(letter: u8, end: usize) -> usize
+    requires { ⌜ 2 ≤ end ⌝ }
+    ensures { λ r. ⌜ EndAt letter end r ⌝ }
+{
+    if letter == b'B' {
+        return end - 2;
+    }
+    end
+}
+
+// All numbers of a shape go to their final places, each where its word stands. Points of every shape are moved by one call, so that it is made in line.
 pub fn move_shape(
     words: &[i32],
     numbers: &mut [i64],
@@ -237,16 +276,13 @@ pub fn move_shape(
     requires { ⌜ Near (2 ^ 61) net ⌝ }
     ensures { λ r. ⌜ ((h : ShapedAt (now (words .entry)) letter end) → MovesShape net (h .shape) (now (numbers .entry)) r (now (numbers .exit))) ⌝ }
 {
-    if letter == b'P' {
-        return move_points(words, numbers, 2, end, net);
-    }
-    copy_number(words, numbers, 2);
+    let from = first_point(letter);
+    let last = points_end(letter, end);
+    copy_sizes(words, numbers, from);
+    let far = move_points(words, numbers, from, last, net);
     if letter != b'B' {
-        return move_points(words, numbers, 3, end, net);
+        return far;
     }
-    copy_number(words, numbers, 3);
-    let last = end - 2;
-    let far = move_points(words, numbers, 4, last, net);
     aim_at(words, numbers, last, net);
     far
 }
