@@ -264,7 +264,8 @@ fn points_end(letter: u8, end: usize) -> usize
     end
 }
 
-// All numbers of a shape go to their final places, each where its word stands. Points of every shape are moved by one call, so that it is made in line.
+// All numbers of a shape go to their final places, each where its word stands. Points are moved at one place for every shape: a function that is
+// called only there is compiled in line.
 pub fn move_shape(
     words: &[i32],
     numbers: &mut [i64],
