@@ -26,7 +26,7 @@ use Rattle.table.specs.Rows.{Told as Entering}
 use Rattle.table.proofs.Entering.{rows-length}
 use Rattle.pieces.specs.Pieces.{stream, tooLarge, Fit}
 use Rattle.pieces.specs.declared.Spot.{Spot}
-use Rattle.reading.specs.Written.{written}
+use Rattle.commands.specs.Written.{written}
 use Rattle.drawing.specs.declared.Counts.{Counts}
 use Rattle.drawing.specs.declared.Pen.{Pen}
 use Rattle.drawing.specs.declared.Drawn.the-variants.{Done, Refused}

@@ -19,8 +19,8 @@ use Rattle.table.specs.Rows.{forgetRow}
 use Rattle.pieces.specs.Pieces.{stream, letterS}
 use Rattle.pieces.specs.Pieces.{start as textStart}
 use Rattle.pieces.specs.declared.Spot.{Spot}
-use Rattle.reading.specs.Letters.{letterD, letterL}
-use Rattle.reading.specs.Written.{Written, written}
+use Rattle.commands.specs.Letters.{letterD, letterL}
+use Rattle.commands.specs.Written.{Written, written}
 use Rattle.drawing.specs.declared.Counts.{Counts}
 use Rattle.drawing.specs.declared.Pen.{Pen}
 use Rattle.drawing.specs.declared.Drawn.the-variants.{Done, Refused}

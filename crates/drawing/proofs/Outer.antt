@@ -19,8 +19,8 @@ use Rattle.turns.specs.Nets.{Carries}
 use Rattle.turns.specs.Words.{turnsWords}
 use Rattle.table.specs.declared.Row.{Row}
 use Rattle.pen.specs.Names.{nameOf}
-use Rattle.reading.specs.Letters.{letterC}
-use Rattle.reading.specs.Written.{Written}
+use Rattle.commands.specs.Letters.{letterC}
+use Rattle.commands.specs.Written.{Written}
 use Rattle.drawing.specs.declared.Counts.{Counts}
 use Rattle.drawing.specs.declared.Pen.{Pen}
 use Rattle.drawing.specs.declared.Drawn.{Drawn}

@@ -20,11 +20,11 @@ use Rattle.table.specs.declared.Row.{Row}
 use Rattle.pieces.specs.Pieces.{letterS, Fit}
 use Rattle.pieces.specs.Pieces.{start as textStart}
 use Rattle.pieces.specs.declared.Spot.{Spot}
-use Rattle.reading.specs.Letters.{letterD, letterL}
-use Rattle.reading.specs.Written.{Written}
-use Rattle.reading.specs.declared.Read.{Read}
-use Rattle.reading.specs.declared.Read.the-variants.{Nothing}
-use Rattle.reading.specs.Words.{DecodedOne, ReadsCommand}
+use Rattle.commands.specs.Letters.{letterD, letterL}
+use Rattle.commands.specs.Written.{Written}
+use Rattle.commands.specs.declared.Read.{Read}
+use Rattle.commands.specs.declared.Read.the-variants.{Nothing}
+use Rattle.commands.specs.Words.{DecodedOne, ReadsCommand}
 use Rattle.drawing.specs.declared.Counts.{Counts}
 use Rattle.drawing.specs.declared.Pen.{Pen}
 use Rattle.drawing.specs.declared.Drawn.{Drawn}

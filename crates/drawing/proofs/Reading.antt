@@ -16,11 +16,11 @@ use Rattle.turns.specs.Words.{turnsWords}
 use Rattle.pen.specs.Names.{nameOf}
 use Rattle.pieces.specs.Pieces.{stream, behind}
 use Rattle.pieces.specs.declared.Spot.{Spot}
-use Rattle.reading.specs.Letters.{letterL}
-use Rattle.reading.specs.Written.{Written, written, insideBehind}
-use Rattle.reading.specs.declared.Read.{Read}
-use Rattle.reading.specs.declared.Read.the-variants.{Decoded, Nothing}
-use Rattle.reading.specs.Words.{wordsOf, insideFirst, DecodedOne, ReadsCommand}
+use Rattle.commands.specs.Letters.{letterL}
+use Rattle.commands.specs.Written.{Written, written, insideBehind}
+use Rattle.commands.specs.declared.Read.{Read}
+use Rattle.commands.specs.declared.Read.the-variants.{Decoded, Nothing}
+use Rattle.commands.specs.Words.{wordsOf, insideFirst, DecodedOne, ReadsCommand}
 use Rattle.drawing.specs.Voices.{Voice, Voiced, Told, none-told, one-told}
 use Rattle.pen.specs.Moves.{mostValues, Shaped}
 use Rattle.pen.specs.Moves.{ShapedAt}

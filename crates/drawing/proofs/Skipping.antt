@@ -15,10 +15,10 @@ use Rattle.definition.specs.Table.{Table}
 use Rattle.definition.specs.Drawing.{deeds, story}
 use Rattle.pieces.specs.Pieces.{stream, letterF, Fit}
 use Rattle.pieces.specs.declared.Spot.{Spot}
-use Rattle.reading.specs.Written.{Written, written}
-use Rattle.reading.specs.declared.Read.{Read}
-use Rattle.reading.specs.declared.Read.the-variants.{Nothing}
-use Rattle.reading.specs.Words.{DecodedOne, ReadsCommand}
+use Rattle.commands.specs.Written.{Written, written}
+use Rattle.commands.specs.declared.Read.{Read}
+use Rattle.commands.specs.declared.Read.the-variants.{Nothing}
+use Rattle.commands.specs.Words.{DecodedOne, ReadsCommand}
 use Rattle.drawing.specs.Voices.{Voice, a-shape, a-call, a-layer, a-start, a-finish, a-delete, a-nothing, Told, none-told}
 use Rattle.pen.specs.Moves.{mostValues}
 use Rattle.drawing.specs.Outside.{Passes}

@@ -25,11 +25,11 @@ use Rattle.turns.proofs.Nets.{near-more}
 use Rattle.pen.specs.Names.{nameOf}
 use Rattle.pieces.specs.Pieces.{behind, Fit, letterF}
 use Rattle.pieces.specs.declared.Spot.{Spot}
-use Rattle.reading.specs.Letters.{letterC, letterL}
-use Rattle.reading.specs.Written.{Written}
-use Rattle.reading.specs.declared.Read.{Read}
-use Rattle.reading.specs.declared.Read.the-variants.{Decoded, Nothing}
-use Rattle.reading.specs.Words.{DecodedOne, ReadsCommand}
+use Rattle.commands.specs.Letters.{letterC, letterL}
+use Rattle.commands.specs.Written.{Written}
+use Rattle.commands.specs.declared.Read.{Read}
+use Rattle.commands.specs.declared.Read.the-variants.{Decoded, Nothing}
+use Rattle.commands.specs.Words.{DecodedOne, ReadsCommand}
 use Rattle.table.specs.declared.Row.{Row}
 use Rattle.drawing.specs.declared.Counts.{Counts}
 use Rattle.drawing.specs.declared.Pen.{Pen}

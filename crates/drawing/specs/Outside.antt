@@ -15,7 +15,7 @@ use Rattle.definition.specs.Drawing.{retained, define, deeds, Event, drawShape,
 use Rattle.table.specs.Rows.{Columns, rowsOf, Sorted, Sized}
 use Rattle.pieces.specs.Pieces.{stream, behind, tooLarge, Fit}
 use Rattle.pieces.specs.declared.Spot.{Spot}
-use Rattle.reading.specs.Written.{Written, written}
+use Rattle.commands.specs.Written.{Written, written}
 use Rattle.drawing.specs.declared.Counts.{Counts}
 use Rattle.drawing.specs.declared.Pen.{Pen}
 use Rattle.drawing.specs.declared.Drawn.the-variants.{Done, Refused}

@@ -15,9 +15,9 @@ use Rattle.turns.specs.Words.{turnsWords}
 use Rattle.pen.specs.Names.{nameOf}
 use Rattle.pen.specs.Moves.{mostValues, Shaped}
 use Rattle.pieces.specs.Pieces.{letterS, letterF, tooLarge}
-use Rattle.reading.specs.Letters.{letterC, letterD, letterL}
-use Rattle.reading.specs.Written.{Written, lastLetter, insideBehind}
-use Rattle.reading.specs.Words.{wordsOf, kindBy}
+use Rattle.commands.specs.Letters.{letterC, letterD, letterL}
+use Rattle.commands.specs.Written.{Written, lastLetter, insideBehind}
+use Rattle.commands.specs.Words.{wordsOf, kindBy}
 
 -- no letter that drawing knows
 pub record Silent (letter : ℕ) : Type 0 where

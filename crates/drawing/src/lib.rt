@@ -31,7 +31,7 @@ ghost use Rattle.definition.specs.Commands.{Command};
 ghost use Rattle.definition.specs.Standing.{Standing};
 ghost use Rattle.definition.specs.Table.{Table};
 ghost use Rattle.pieces.specs.Pieces.{tooLarge, stream, Fit};
-ghost use Rattle.reading.specs.Written.{written};
+ghost use Rattle.commands.specs.Written.{written};
 ghost use Rattle.table.specs.Rows.{Sized};
 ghost use Rattle.drawing.specs.Voices.{Told};
 ghost use Rattle.drawing.specs.Rows.{Stands};
@@ -288,11 +288,11 @@ fn draw_body<'a>(
     let mut done = counts;
     let mut pen = before;
     loop {
-        match reading::read_command(text, kinds, next, words, spot, a, b) {
-            reading::Read::Nothing => {
+        match commands::read_command(text, kinds, next, words, spot, a, b) {
+            commands::Read::Nothing => {
                 return Drawn::Done(done, pen);
             }
-            reading::Read::Decoded(kind, place, end, to) => {
+            commands::Read::Decoded(kind, place, end, to) => {
                 if kind == b'F' {
                     return Drawn::Done(done, pen);
                 }
@@ -414,14 +414,14 @@ fn skip_body(
 {
     let mut spot = from;
     loop {
-        match reading::read_command(text, kinds, next, words, spot, a, b) {
-            reading::Read::Nothing => {
+        match commands::read_command(text, kinds, next, words, spot, a, b) {
+            commands::Read::Nothing => {
                 return Skipped {
                     place: spot.at,
                     to: spot,
                 };
             }
-            reading::Read::Decoded(kind, place, _, to) => {
+            commands::Read::Decoded(kind, place, _, to) => {
                 if kind == b'F' {
                     return Skipped { place, to };
                 }
@@ -586,11 +586,11 @@ fn draw_text<'a>(
     };
     let mut pen = Pen { at: 0, layer: 0 };
     loop {
-        match reading::read_command(text, kinds, next, words, spot, 1, 1) {
-            reading::Read::Nothing => {
+        match commands::read_command(text, kinds, next, words, spot, 1, 1) {
+            commands::Read::Nothing => {
                 return Drawn::Done(done, pen);
             }
-            reading::Read::Decoded(kind, place, end, to) => {
+            commands::Read::Decoded(kind, place, end, to) => {
                 spot = to;
                 if kind == b'L' {
                     layer = words[2] as u32;

@@ -1,8 +1,8 @@
 // The reader (01, "What the reader takes and gives"): `flatten` answers of any text and any room, and `cif_flatten` the same for hosts. Refusals 1 and 18
 // stand here, 2 to 9 in reading, 10 to 17 in drawing.
+use commands::Fault;
 use definition::Answer;
 use drawing::Drawn;
-use reading::Fault;
 ghost use mathlib.Core.Path.{_≡_};
 ghost use mathlib.Core.List.{_∷_, []};
 ghost use Prim.Native.Nat.{_^_, _≤_};

@@ -1,11 +1,7 @@
 -- What crates above cite. The account as the code goes along is the account: Meaning.runs-first. Two refusals that are allowed are one:
 -- Unique.one-refusal. The account is the definition's: AllSay.all-say, Agree.fault-is; words are exact after no fault: Exact.all-exact.
-pub mod Scaling
-pub mod Ahead
-pub mod Checking
 pub mod Meaning
 pub mod Unique
-pub mod Wording
 pub mod Texts
 pub mod Tokens
 pub mod Says

@@ -15,9 +15,9 @@ use Rattle.pieces.specs.Pieces.{letterS, letterF, capped}
 use Rattle.pieces.specs.declared.Piece.{Piece}
 use Rattle.pieces.specs.declared.Piece.the-variants.{Second, Word}
 use Rattle.pieces.specs.declared.Piece.the-variants.{Number as Numeral}
-use Rattle.reading.specs.Letters.{letterB, letterC, letterD, letterL, letterM, letterP, letterR, letterT, letterW}
-use Rattle.reading.specs.Written.{Written}
-use Rattle.reading.specs.Words.{signed}
+use Rattle.commands.specs.Letters.{letterB, letterC, letterD, letterL, letterM, letterP, letterR, letterT, letterW}
+use Rattle.commands.specs.Written.{Written}
+use Rattle.commands.specs.Words.{signed}
 
 -- a piece tells a number: its place, its sign, and its size up to the cap
 pub data Tells : Piece → Number → Type 0 where

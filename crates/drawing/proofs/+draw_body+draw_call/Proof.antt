@@ -25,7 +25,7 @@ use Rattle.drawing.proofs.draw_shape.Reads as draw-shape-reads
 use Rattle.drawing.proofs.is_drawable.Reads as is-drawable-reads
 use Rattle.drawing.proofs.is_open.Reads as is-open-reads
 use Rattle.drawing.proofs.read_call.Reads as read-call-reads
-use Rattle.reading.proofs.read_command.Reads as read-command-reads
+use Rattle.commands.proofs.read_command.Reads as read-command-reads
 use Rattle.table.proofs.find.Reads as find-reads
 use Rattle.drawing.proofs.+draw_body+draw_call.{statement}
 use Rattle.drawing.proofs.+draw_body+draw_call.Tie.{close}

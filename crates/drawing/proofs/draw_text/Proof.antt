@@ -14,7 +14,7 @@ use Rattle.drawing.proofs.draw_text.Lts as lts
 use Rattle.drawing.proofs.define.Reads as define-reads
 use Rattle.drawing.proofs.draw_outer.Reads as draw-outer-reads
 use Rattle.drawing.proofs.size_at.Reads as size-at-reads
-use Rattle.reading.proofs.read_command.Reads as read-command-reads
+use Rattle.commands.proofs.read_command.Reads as read-command-reads
 use Rattle.table.proofs.delete.Reads as delete-reads
 
 abbrev Inv-loop : tie.InvT-loop

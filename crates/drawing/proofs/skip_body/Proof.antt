@@ -10,7 +10,7 @@ use Rattle.drawing.proofs.skip_body.Statement.{statement}
 use Rattle.drawing.proofs.skip_body.Tie as tie
 use Rattle.drawing.proofs.skip_body.Reads as reads
 use Rattle.drawing.proofs.skip_body.Lts as lts
-use Rattle.reading.proofs.read_command.Reads as read-command-reads
+use Rattle.commands.proofs.read_command.Reads as read-command-reads
 
 abbrev Inv-loop : tie.InvT-loop
 Inv-loop text kinds next words₀ a b spot₀ words spot = Skims text a b spot₀ words₀ words spot

@@ -7,7 +7,7 @@ use Rattle.grammar.specs.Notation.{Letter}
 use Rattle.grammar.specs.Tables.{kinds, table}
 use Rattle.grammar.proofs.Markings.{marking-is}
 use Rattle.pieces.specs.Pieces.{stream, start}
-use Rattle.reading.specs.Account.{atStart, faultOf}
+use Rattle.commands.specs.Account.{atStart, faultOf}
 use Rattle.reading.proofs.Meaning.{runs-first}
 use Rattle.reading.proofs.Agree.{fault-is}
 use Rattle.reading.proofs.check.Statement.{statement}
