@@ -15,7 +15,7 @@ use Rattle.pen.proofs.Names.{no-name}
 use Rattle.pieces.specs.Pieces.{stream, behind}
 use Rattle.pieces.specs.declared.Spot.{Spot}
 use Rattle.commands.specs.Written.{written}
-use Rattle.drawing.specs.declared.Counts.{Counts}
+use Rattle.counts.specs.declared.Counts.{Counts}
 use Rattle.drawing.specs.declared.Pen.{Pen}
 use Rattle.drawing.specs.declared.Drawn.the-variants.{Done, Refused}
 use Rattle.drawing.specs.Painting.{Reached, Painted}

@@ -3,26 +3,30 @@
 use mathlib.Core.Path.{_≡_, refl, sym, ap, _∙_, subst}
 use mathlib.Core.Bool.{Bool, true, false, _||_}
 use mathlib.Core.List.{List, [], _∷_, _++_, map}
-use mathlib.Core.Option.{Option, none, some}
-use Prim.Native.Nat.{ℕ, zero, suc, _+_, _-_, _≤_, _<_}
+use mathlib.Core.Option.{none, some}
+use Prim.Native.Nat.{ℕ, zero, suc, _-_, _≤_, _<_}
 use native.Mathlib.Nat.{pos-of-ne-zero}
 use native.Mathlib.Omega.{arith}
-use borrow.Author.Tests.{lt-ltb, le-ltb, ne-eqb}
+use borrow.Author.Tests.{ne-eqb}
 use lib.Dec.{eqb}
 use lib.IntN.{ℤ}
 use lib.ListN.{length, take, set}
 use lib.Seq.{take-suc-set, take-take, take-set-le}
-use Rattle.definition.specs.Words.{Placed, at, any}
+use Rattle.definition.specs.Words.{at, any}
 use Rattle.definition.specs.Commands.{Turn}
 use Rattle.definition.specs.Turns.{offAxes}
 use Rattle.definition.specs.Table.{Definition, Table, find}
 use Rattle.definition.specs.Drawing.{Chain, Event, called, refused, callFault, unless, drawBody, drawCall}
-use Rattle.definition.specs.Counts.{finished, stopped, counted, shapesOf}
-use Rattle.drawing.specs.declared.Counts.{Counts}
+use Rattle.definition.specs.Counts.{counted, shapesOf}
+use Rattle.counts.specs.declared.Counts.{Counts}
+use Rattle.counts.specs.declared.Counted.{Counted}
+use Rattle.counts.specs.declared.Counted.the-variants.{More, Full}
+use Rattle.counts.specs.Counting.{CountsCall}
+use Rattle.counts.proofs.Told.{call-goes, call-stops, call-more}
 use Rattle.drawing.specs.declared.Pen.{Pen}
 use Rattle.drawing.specs.declared.Drawn.{Drawn}
-use Rattle.drawing.specs.declared.Drawn.the-variants.{Done, Refused}
-use Rattle.drawing.specs.Painting.{tally, Reached, Painted}
+use Rattle.drawing.specs.declared.Drawn.the-variants.{Refused}
+use Rattle.drawing.specs.Painting.{Reached, Painted}
 use Rattle.drawing.proofs.Painting.{quiet, refusal, next-drawn}
 
 -- the symbols of the open calls
@@ -30,6 +34,12 @@ pub symbols-any : (n : ℕ) (chain : Chain) → any (λ c. eqb (c .what) n) chai
 unfolding any
 symbols-any n [] = refl
 symbols-any n (c ∷ chain) = ap (λ (r : Bool). eqb (c .what) n || r) (symbols-any n chain)
+
+-- counts that a call is one of are such as the drawing can come to
+pub call-reached : {c more : Counts} {pen : Pen} {a : Counted} → CountsCall c a → a ≡ More more → Reached c pen → Reached more pen
+call-reached {c} {more} {pen} count q k =
+    let (few, is) = call-more c count more q in
+    subst (λ (x : Counts). Reached x pen) (sym is) (record { calls-most = omega (arith, few); shapes-most = k .shapes-most; place-most = k .place-most })
 
 module _ (t : Table) (chain : Chain) (net : List (Turn ℤ)) (p n : ℕ) (ts : List (Turn ℤ)) where
   abbrev opened : Bool
@@ -95,22 +105,17 @@ module _ (t : Table) (chain : Chain) (net : List (Turn ℤ)) (p n : ℕ) (ts : L
             go zero z = absurd (z refl)
             go (suc l) z = drawn-call d e f l o ∙ ap (λ (i : ℕ). called p chain d ∷ inner d e f i) (omega arith)
 
-        pub call-many : 1048576 ≤ c .calls → Answers left (Refused 15 p) room
-        call-many h =
-            subst (λ (es : List Event). Painted c pen es room (Refused 15 p) room) (sym below)
-            (refusal c pen (called p chain d) (inner d e f (left - 1)) room 15 p chain (unfold counted in rw (le-ltb (c .calls) 1048576 h)))
+        module _ {a : Counted} (count : CountsCall c a) where
+          pub call-many : (number : ℕ) → a ≡ Full number → Answers left (Refused number p) room
+          call-many number q =
+              subst (λ (es : List Event). Painted c pen es room (Refused number p) room) (sym below)
+              (refusal c pen (called p chain d) (inner d e f (left - 1)) room number p chain (call-stops c count number q p chain d))
 
-        abbrev counting : Counts
-        counting = record { calls = c .calls + 1; shapes = c .shapes; redefinitions = c .redefinitions }
-
-        pub call-reached : c .calls < 1048576 → Reached c pen → Reached counting pen
-        call-reached h r = record { calls-most = omega (arith, h); shapes-most = r .shapes-most; place-most = r .place-most }
-
-        -- a call that is counted draws what its body draws
-        pub call-drawn : c .calls < 1048576 → Reached c pen → {r : Drawn} {room′ : List ℕ} → Painted counting pen (inner d e f (left - 1)) room r room′ → Answers left r room′
-        call-drawn h k {r} {room′} x =
-            subst (λ (es : List Event). Painted c pen es room r room′) (sym below)
-            (next-drawn (quiet c counting pen (called p chain d) room (unfold counted in rw (lt-ltb (c .calls) 1048576 h)) (unfold shapesOf in refl) (call-reached h k)) (inner d e f (left - 1)) x)
+          -- a call that is counted draws what its body draws
+          pub call-drawn : (more : Counts) → a ≡ More more → Reached c pen → {r : Drawn} {room′ : List ℕ} → Painted more pen (inner d e f (left - 1)) room r room′ → Answers left r room′
+          call-drawn more q k {r} {room′} x =
+              subst (λ (es : List Event). Painted c pen es room r room′) (sym below)
+              (next-drawn (quiet c more pen (called p chain d) room (call-goes c count more q p chain d) (unfold shapesOf in refl) (call-reached count q k)) (inner d e f (left - 1)) x)
 
 -- ---- the symbols being drawn, in a lent run of 32
 

@@ -17,7 +17,7 @@ use Rattle.definition.specs.Commands.{Command, start}
 use Rattle.definition.specs.Standing.{Standing, after}
 use Rattle.definition.specs.Table.{Definition, Table, find, enter}
 use Rattle.definition.specs.Drawing.{define, Event, entered, refused, happens}
-use Rattle.definition.specs.Counts.{counted, shapesOf}
+use Rattle.definition.specs.Counts.{finished, counted, shapesOf}
 use Rattle.table.specs.declared.Row.{Row}
 use Rattle.table.specs.declared.Entered.{Entered}
 use Rattle.table.specs.declared.Entered.the-variants.{Replaced, Added, Full}
@@ -27,7 +27,8 @@ use Rattle.table.proofs.Entering.{rows-length}
 use Rattle.pieces.specs.Pieces.{stream, tooLarge, Fit}
 use Rattle.pieces.specs.declared.Spot.{Spot}
 use Rattle.commands.specs.Written.{written}
-use Rattle.drawing.specs.declared.Counts.{Counts}
+use Rattle.counts.specs.declared.Counts.{Counts}
+use Rattle.counts.specs.Counting.{tally, CountsRedefinition}
 use Rattle.drawing.specs.declared.Pen.{Pen}
 use Rattle.drawing.specs.declared.Drawn.the-variants.{Done, Refused}
 use Rattle.drawing.specs.Painting.{Reached, Painted}
@@ -73,10 +74,12 @@ module _ {t : List ℕ} {rows : List Row} {table : Table} (s : Stands t rows tab
 
 -- ---- what happens
 
-module _ (table : Table) (d : Definition) (c : Counts) where
-  abbrev counting : ℕ → Counts
-  counting n = record { calls = c .calls; shapes = c .shapes; redefinitions = n }
+-- a redefinition leaves calls and shapes as they are
+redefined-reached : {c more : Counts} {pen : Pen} → CountsRedefinition c more → Reached c pen → Reached more pen
+redefined-reached {pen = pen} one r =
+    subst (λ (x : Counts). Reached x pen) (sym (one .is)) (record { calls-most = r .calls-most; shapes-most = r .shapes-most; place-most = r .place-most })
 
+module _ (table : Table) (d : Definition) (c : Counts) where
   fits-in : length (enter d table) ≤ 512 → happens table (define d) ≡ entered d table ∷ []
   unfolding happens
   fits-in h = rw (le-ltb 512 (length (enter d table)) h)
@@ -85,13 +88,16 @@ module _ (table : Table) (d : Definition) (c : Counts) where
   unfolding happens
   too-much e = rw e
 
-  entered-so : {b : Bool} → none? (find (d .symbol) table) ≡ b → length (enter d table) ≤ 512 → (pen : Pen) (room : List ℕ) → Reached c pen
-      → Painted c pen (happens table (define d)) room (Done (counting (if b then c .redefinitions else c .redefinitions + 1)) pen) room
-  unfolding counted shapesOf
-  entered-so {b} e h pen room r =
-      let n : ℕ = if b then c .redefinitions else c .redefinitions + 1 in
-      subst (λ (es : List Event). Painted c pen es room (Done (counting n) pen) room) (sym (fits-in h))
-      (quiet c (counting n) pen (entered d table) room (rw e) refl (record { calls-most = r .calls-most; shapes-most = r .shapes-most; place-most = r .place-most }))
+  entered-so : {c′ : Counts} → counted (tally c) (entered d table) ≡ finished (tally c′) → length (enter d table) ≤ 512 → (pen : Pen) (room : List ℕ) → Reached c′ pen
+      → Painted c pen (happens table (define d)) room (Done c′ pen) room
+  unfolding shapesOf
+  entered-so {c′} e h pen room r =
+      subst (λ (es : List Event). Painted c pen es room (Done c′ pen) room) (sym (fits-in h)) (quiet c c′ pen (entered d table) room e refl r)
+
+  -- the first of its number counts as nothing
+  first-entered : none? (find (d .symbol) table) ≡ true → counted (tally c) (entered d table) ≡ finished (tally c)
+  unfolding counted
+  first-entered e = rw e
 
   refused-so : length (enter d table) ≡ 513 → (pen : Pen) (room : List ℕ) → Painted c pen (happens table (define d)) room (Refused 10 (d .place)) room
   refused-so e pen room =
@@ -164,18 +170,20 @@ module _ {t : List ℕ} {words : List ℤ} {from : Spot} (h : Opens t words from
       long-now n e = sym (stands-length (stands-now n e)) ∙ rows-length new n 0
 
       module _ {to : Spot} (passes : Passes t (behindStart h) (h .commands) to) (fit-to : Fit t to) (ahead : from .at ≤ to .at) where
-        pub took-over : {r : Entered} → Enters old new count row r → r ≡ Replaced → Takes t new words from place c h table count (counting table d c (c .redefinitions + 1)) to
+        pub took-over : {r : Entered} → Enters old new count row r → r ≡ Replaced → (more : Counts) → CountsRedefinition c more
+            → Takes t new words from place c h table count more to
         unfolding Entering countAfter
-        took-over k q =
+        took-over k q more one =
             let e = subst (Enters old new count row) q k in
             record {
               sized = e .sized;
               sorted = e .sorted;
               stands = stands-now count (e .rows .0);
               happened =
-                  entered-so table d c (ap (λ (n : ℕ). none? (find n table)) (sym symbol-is) ∙ old-number stands s (e .rows .1))
-                  (let r = e .sorted .room in omega (arith, long-now count (e .rows .0)));
-              redefined = omega arith;
+                  λ pen room reach. entered-so table d c (one .ends d table (ap (λ (n : ℕ). none? (find n table)) (sym symbol-is) ∙ old-number stands s (e .rows .1)))
+                  (let r = e .sorted .room in omega (arith, long-now count (e .rows .0)))
+                  pen room (redefined-reached one reach);
+              redefined = let n : more .redefinitions ≡ c .redefinitions + 1 = ap (λ (x : Counts). x .redefinitions) (one .is) in omega (arith, n);
               passes = passes;
               fit = fit-to;
               ahead = ahead;
@@ -190,7 +198,7 @@ module _ {t : List ℕ} {words : List ℤ} {from : Spot} (h : Opens t words from
               sorted = e .sorted;
               stands = stands-now (count + 1) (e .rows .0);
               happened =
-                  entered-so table d c (ap (λ (n : ℕ). none? (find n table)) (sym symbol-is) ∙ new-number stands s (e .rows .1))
+                  entered-so table d c (first-entered table d c (ap (λ (n : ℕ). none? (find n table)) (sym symbol-is) ∙ new-number stands s (e .rows .1)))
                   (let r = e .sorted .room in omega (arith, long-now (count + 1) (e .rows .0)));
               redefined = omega arith;
               passes = passes;

@@ -21,7 +21,7 @@ use Rattle.pieces.specs.Pieces.{start as textStart}
 use Rattle.pieces.specs.declared.Spot.{Spot}
 use Rattle.commands.specs.Letters.{letterD, letterL}
 use Rattle.commands.specs.Written.{Written, written}
-use Rattle.drawing.specs.declared.Counts.{Counts}
+use Rattle.counts.specs.declared.Counts.{Counts}
 use Rattle.drawing.specs.declared.Pen.{Pen}
 use Rattle.drawing.specs.declared.Drawn.the-variants.{Done, Refused}
 use Rattle.drawing.specs.Painting.{Painted}

@@ -21,7 +21,7 @@ use Rattle.table.specs.declared.Row.{Row}
 use Rattle.pen.specs.Names.{nameOf}
 use Rattle.commands.specs.Letters.{letterC}
 use Rattle.commands.specs.Written.{Written}
-use Rattle.drawing.specs.declared.Counts.{Counts}
+use Rattle.counts.specs.declared.Counts.{Counts}
 use Rattle.drawing.specs.declared.Pen.{Pen}
 use Rattle.drawing.specs.declared.Drawn.{Drawn}
 use Rattle.drawing.specs.declared.Drawn.the-variants.{Done}

@@ -16,11 +16,12 @@ use Rattle.definition.proofs.Joined.{ending-++, shapesOf-++}
 use Rattle.pen.specs.Names.{nameOf}
 use Rattle.pen.specs.Writes.{Writes}
 use Rattle.pen.proofs.Writing.{both, written}
-use Rattle.drawing.specs.declared.Counts.{Counts}
+use Rattle.counts.specs.declared.Counts.{Counts}
 use Rattle.drawing.specs.declared.Pen.{Pen}
 use Rattle.drawing.specs.declared.Drawn.{Drawn}
 use Rattle.drawing.specs.declared.Drawn.the-variants.{Done, Refused}
-use Rattle.drawing.specs.Painting.{tally, goingBy, until, bytesOf, Reached, Goes, Answered, Painted}
+use Rattle.counts.specs.Counting.{tally}
+use Rattle.drawing.specs.Painting.{goingBy, until, bytesOf, Reached, Goes, Answered, Painted}
 
 pub never : (n p : ℕ) (chain : Chain) (c : Tally) → stopped n p chain ≡ finished c → ⊥
 never n p chain c e = let z : _≡_ {A = ℕ} 0 1 = cc in omega arith

@@ -25,7 +25,7 @@ use Rattle.commands.specs.Written.{Written}
 use Rattle.commands.specs.declared.Read.{Read}
 use Rattle.commands.specs.declared.Read.the-variants.{Nothing}
 use Rattle.commands.specs.Words.{DecodedOne, ReadsCommand}
-use Rattle.drawing.specs.declared.Counts.{Counts}
+use Rattle.counts.specs.declared.Counts.{Counts}
 use Rattle.drawing.specs.declared.Pen.{Pen}
 use Rattle.drawing.specs.declared.Drawn.{Drawn}
 use Rattle.drawing.specs.declared.Drawn.the-variants.{Done, Refused}
@@ -55,20 +55,23 @@ pub record Passing (t : List ℕ) (words₀ numbers₀ : List ℤ) (drawing₀ r
   pub drawing-kept : length drawing ≡ length drawing₀
   pub redefined : c .redefinitions ≤ spot .at
 
-pub passing-begin : {t : List ℕ} (words numbers : List ℤ) (drawing room : List ℕ) (cols : Columns) → Passed t → Sized cols
-    → Passing t words numbers drawing room cols words numbers drawing room textStart 0 0 noneYet atStart
+pub passing-begin : {t : List ℕ} (words numbers : List ℤ) (drawing room : List ℕ) (cols : Columns) → Passed t → Sized cols → {c : Counts} → c ≡ noneYet
+    → Passing t words numbers drawing room cols words numbers drawing room textStart 0 0 c atStart
 unfolding rowsFrom
-passing-begin words numbers drawing room cols p s = record {
-  passed = p;
-  onward = λ q. start-text q room;
-  fit = record { within = omega arith; state = omega arith };
-  sorted = record { room = omega arith; rising = λ i j h k. absurd (omega (arith, k)) };
-  sized = s;
-  words-kept = refl;
-  numbers-kept = refl;
-  drawing-kept = refl;
-  redefined = omega arith;
-}
+passing-begin {t} words numbers drawing room cols p s e = subst (λ (c : Counts). Passing t words numbers drawing room cols words numbers drawing room textStart 0 0 c atStart) (sym e) begin
+  where
+    begin : Passing t words numbers drawing room cols words numbers drawing room textStart 0 0 noneYet atStart
+    begin = record {
+      passed = p;
+      onward = λ q. start-text q room;
+      fit = record { within = omega arith; state = omega arith };
+      sorted = record { room = omega arith; rising = λ i j h k. absurd (omega (arith, k)) };
+      sized = s;
+      words-kept = refl;
+      numbers-kept = refl;
+      drawing-kept = refl;
+      redefined = omega arith;
+    }
 
 -- what `define` and `draw_outer` promise of their answers
 abbrev pub DefinesAt : (t : List ℕ) (old new : Columns) (words : List ℤ) (from : Spot) (place : ℕ) (c : Counts) (count : ℕ) → Defined → Type 0

@@ -16,9 +16,10 @@ use Rattle.definition.specs.Turns.{moved}
 use Rattle.definition.specs.Table.{Step, shape, instance, Definition, Table, find}
 use Rattle.definition.specs.Drawing.{Chain, Event, called, drew, entered, removed, refused, drawShape, drawStep, drawBody, callFault, unless, drawCall}
 use Rattle.definition.proofs.Counting.{redefinitionsOf, counted-all}
-use Rattle.drawing.specs.declared.Counts.{Counts}
+use Rattle.counts.specs.declared.Counts.{Counts}
 use Rattle.drawing.specs.declared.Pen.{Pen}
-use Rattle.drawing.specs.Painting.{tally, Goes}
+use Rattle.counts.specs.Counting.{tally}
+use Rattle.drawing.specs.Painting.{Goes}
 use Rattle.drawing.specs.Outside.{drawnBy}
 
 abbrev Bare : List Event → Type 0

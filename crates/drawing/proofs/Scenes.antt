@@ -4,7 +4,7 @@ use mathlib.Core.Path.{_≡_, refl, sym, ap, _∙_, subst}
 use mathlib.Core.Bool.{Bool, false}
 use mathlib.Core.List.{List, [], _∷_, _++_, map}
 use mathlib.Core.Option.{Option, none, some}
-use Prim.Native.Nat.{ℕ, _+_, _-_, _≤_, _<_}
+use Prim.Native.Nat.{ℕ, _-_, _≤_}
 use native.Mathlib.Omega.{arith}
 use lib.Dec.{eqb}
 use lib.IntN.{ℤ}
@@ -20,7 +20,10 @@ use Rattle.table.specs.declared.Row.{Row}
 use Rattle.table.specs.declared.Found.{Found}
 use Rattle.table.specs.declared.Found.the-variants.{Live, Nothing}
 use Rattle.table.specs.Rows.{findRow, foundBy}
-use Rattle.drawing.specs.declared.Counts.{Counts}
+use Rattle.counts.specs.declared.Counts.{Counts}
+use Rattle.counts.specs.declared.Counted.{Counted}
+use Rattle.counts.specs.declared.Counted.the-variants.{More}
+use Rattle.counts.specs.Counting.{CountsCall}
 use Rattle.drawing.specs.declared.Pen.{Pen}
 use Rattle.drawing.specs.declared.Drawn.{Drawn}
 use Rattle.drawing.specs.Painting.{Reached, Painted}
@@ -78,15 +81,12 @@ inner-scene {drawing = drawing} left s p n z h e = record {
 
 -- what the body draws, the call draws
 module _ {t : List ℕ} {rows : List Row} {drawing : List ℕ} {left : ℕ} (s : Scene t rows drawing (32 - left)) {n : ℕ} {row : Row} (k : Known t n row (s .table))
-    (some-left : left ≡ 0 → ⊥) (h : left ≤ 32) (long : length drawing ≡ 32) (c : Counts) (pen : Pen) (few : c .calls < 1048576) (reach : Reached c pen) where
-  abbrev more : Counts
-  more = record { calls = c .calls + 1; shapes = c .shapes; redefinitions = c .redefinitions }
-
+    (some-left : left ≡ 0 → ⊥) (h : left ≤ 32) (long : length drawing ≡ 32) (c : Counts) (pen : Pen) {a : Counted} (count : CountsCall c a) (more : Counts) (q : a ≡ More more) (reach : Reached c pen) where
   pub body-drawn : {net : Net} {room room′ : List ℕ} {r : Drawn} → Draws t rows (set drawing (32 - left) n) net (left - 1) (row .start) (row .a) (row .b) more pen room r room′
       → (p : ℕ) (outer ts : List (Turn ℤ)) → offAxes ts ≡ false → any (λ c. eqb (c .what) n) (s .chain) ≡ false → Carries (ts ++ outer) net
       → Painted c pen (drawCall left (s .table) (s .chain) outer p n ts) room r room′
   body-drawn {room = room} {room′ = room′} {r = r} drawn p outer ts e o carries =
       let chain′ = s .chain ++ (at p n ∷ []) in
-      call-drawn (s .table) (s .chain) outer p n ts c pen room (k .definition) e (k .is) left some-left o few reach
+      call-drawn (s .table) (s .chain) outer p n ts c pen room (k .definition) e (k .is) left some-left o count more q reach
       (subst (λ (b : List (Placed _)). Painted more pen (drawBody (drawCall (left - 1) (s .table) chain′ (ts ++ outer)) chain′ (ts ++ outer) b) room r room′) (sym (k .means .retains))
       (drawn (inner-scene left s p n some-left h long) (k .means .body) (ts ++ outer) carries))

@@ -3,9 +3,8 @@
 use mathlib.Core.Path.{_≡_, refl, sym, ap, _∙_, subst}
 use mathlib.Core.Bool.{Bool, true, false}
 use mathlib.Core.List.{List, [], _∷_, _++_, append-nil}
-use Prim.Native.Nat.{ℕ, _+_, _-_, _*_, _≤_, _<_}
+use Prim.Native.Nat.{ℕ, _+_, _-_, _*_, _≤_}
 use native.Mathlib.Omega.{arith}
-use borrow.Author.Tests.{lt-ltb, le-ltb}
 use lib.IntN.{ℤ}
 use lib.ListN.{length, take, drop}
 use lib.Seq.{sets}
@@ -23,7 +22,11 @@ use Rattle.pen.specs.Names.{nameOf}
 use Rattle.pen.specs.Writes.{Writes, layerLine}
 use Rattle.pen.proofs.Lines.{Handed, shape-said, layer-line-length}
 use Rattle.pen.proofs.Shapes.{placed-moved, part-placed}
-use Rattle.drawing.specs.declared.Counts.{Counts}
+use Rattle.counts.specs.declared.Counts.{Counts}
+use Rattle.counts.specs.declared.Counted.{Counted}
+use Rattle.counts.specs.declared.Counted.the-variants.{More, Full}
+use Rattle.counts.specs.Counting.{CountsShape}
+use Rattle.counts.proofs.Told.{shape-goes, shape-stops, shape-more}
 use Rattle.drawing.specs.declared.Pen.{Pen}
 use Rattle.drawing.specs.declared.Drawn.the-variants.{Done, Refused}
 use Rattle.pen.specs.Moves.{mostValues, ShapedAt, MovesShape}
@@ -58,21 +61,18 @@ module _ {words : List ℤ} {letter end : ℕ} (h : ShapedAt words letter end) (
           subst (λ (x : Event). Painted c pen (x ∷ []) room (Refused 16 p) room) (sym (is-far e))
           (refusal c pen (refused 16 p chain) [] room 16 p chain (unfold counted in refl))
 
-      pub shape-many : far ≡ false → 1048576 ≤ c .shapes → Painted c pen (event ∷ []) room (Refused 17 p) room
-      shape-many e l =
-          subst (λ (x : Event). Painted c pen (x ∷ []) room (Refused 17 p) room) (sym (is-near e))
-          (refusal c pen (drew shown) [] room 17 p chain (unfold counted in rw (le-ltb (c .shapes) 1048576 l)))
+      pub shape-many : far ≡ false → {a : Counted} → CountsShape c a → (n : ℕ) → a ≡ Full n → Painted c pen (event ∷ []) room (Refused n p) room
+      shape-many e count n q =
+          subst (λ (x : Event). Painted c pen (x ∷ []) room (Refused n p) room) (sym (is-near e)) (refusal c pen (drew shown) [] room n p chain (shape-stops c count n q shown))
 
     -- the numbers that are written
     pub part-is : end ≤ length numbers → take (end - 2) (drop 2 numbers′) ≡ numbersOfShape (moved ts k)
     part-is l = part-placed h net m l ∙ ap (λ (x : Shape ℤ). numbersOfShape x) (placed-moved ts net carries k)
 
-    module _ (c : Counts) (pen : Pen) (near : far ≡ false) (few : c .shapes < 1048576) (reach : Reached c pen) {room₀ room₁ room₂ : List ℕ} {next last : ℕ} {ns : List ℤ}
+    module _ (c : Counts) (pen : Pen) (near : far ≡ false) {a : Counted} (count : CountsShape c a) (more : Counts) (q : a ≡ More more) (reach : Reached c pen)
+        {room₀ room₁ room₂ : List ℕ} {next last : ℕ} {ns : List ℤ}
         (are : ns ≡ numbersOfShape (moved ts k)) (w₁ : Writes room₀ room₁ (pen .at) next (layerLine (nameOf (pen .layer)) (nameOf layer)))
         (w₂ : Writes room₁ room₂ next last (line letter (spaced ns))) (short : last ≤ next + 21 * length ns + 3) (size : length ns ≤ mostValues) where
-      abbrev more : Counts
-      more = record { calls = c .calls; shapes = c .shapes + 1; redefinitions = c .redefinitions }
-
       abbrev pen′ : Pen
       pen′ = record { at = last; layer = layer }
 
@@ -86,6 +86,8 @@ module _ {words : List ℤ} {letter end : ℕ} (h : ShapedAt words letter end) (
       reached : Reached more pen′
       reached =
           let n = layer-line-length (pen .layer) layer in
+          let (few, is) = shape-more c count more q in
+          subst (λ (x : Counts). Reached x pen′) (sym is)
           record {
             calls-most = reach .calls-most;
             shapes-most = omega (arith, few);
@@ -97,15 +99,15 @@ module _ {words : List ℤ} {letter end : ℕ} (h : ShapedAt words letter end) (
       said-so = append-nil (said (nameOf (pen .layer)) shown)
 
       drew-painted : Painted c pen (drew shown ∷ []) room₀ (Done more pen′) room₂
-      unfolding Answered ending goOn counted shapesOf until goingBy lines
+      unfolding Answered ending goOn shapesOf until goingBy lines
       drew-painted = record {
         answer = record {
-          ends = rw (lt-ltb (c .shapes) 1048576 few);
+          ends = rw (shape-goes c count more q shown);
           next = both-written .ends ∙ ap (λ (l : List ℕ). pen .at + length l) (sym said-so);
           on = λ ds. ap (λ (l : List ℕ). l ++ lines (nameOf layer) ds) (sym said-so);
           reached = reached;
         };
-        laid = both-written .laid ∙ (ap (sets room₀ (pen .at)) (sym said-so) ∙ rw (lt-ltb (c .shapes) 1048576 few));
+        laid = both-written .laid ∙ (ap (sets room₀ (pen .at)) (sym said-so) ∙ rw (shape-goes c count more q shown));
       }
 
       pub shape-near : Painted c pen (event ∷ []) room₀ (Done more pen′) room₂

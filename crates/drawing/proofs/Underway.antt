@@ -31,7 +31,7 @@ use Rattle.commands.specs.declared.Read.{Read}
 use Rattle.commands.specs.declared.Read.the-variants.{Decoded, Nothing}
 use Rattle.commands.specs.Words.{DecodedOne, ReadsCommand}
 use Rattle.table.specs.declared.Row.{Row}
-use Rattle.drawing.specs.declared.Counts.{Counts}
+use Rattle.counts.specs.declared.Counts.{Counts}
 use Rattle.drawing.specs.declared.Pen.{Pen}
 use Rattle.drawing.specs.declared.Drawn.{Drawn}
 use Rattle.drawing.specs.declared.Drawn.the-variants.{Done, Refused}

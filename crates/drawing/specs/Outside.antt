@@ -16,7 +16,7 @@ use Rattle.table.specs.Rows.{Columns, rowsOf, Sorted, Sized}
 use Rattle.pieces.specs.Pieces.{stream, behind, tooLarge, Fit}
 use Rattle.pieces.specs.declared.Spot.{Spot}
 use Rattle.commands.specs.Written.{Written, written}
-use Rattle.drawing.specs.declared.Counts.{Counts}
+use Rattle.counts.specs.declared.Counts.{Counts}
 use Rattle.drawing.specs.declared.Pen.{Pen}
 use Rattle.drawing.specs.declared.Drawn.the-variants.{Done, Refused}
 use Rattle.drawing.specs.declared.Defined.{Defined}

@@ -8,17 +8,15 @@ use lib.ListN.{length}
 use lib.Seq.{sets}
 use Rattle.definition.specs.Drawing.{Chain, Event}
 use Rattle.definition.specs.Drawing.{Drawn as Shown}
-use Rattle.definition.specs.Counts.{counts, End, finished, stopped, counted, ending, shapesOf}
+use Rattle.definition.specs.Counts.{End, finished, stopped, counted, ending, shapesOf}
 use Rattle.definition.specs.Counts.{Counts as Tally}
 use Rattle.definition.specs.Flat.{lines}
 use Rattle.pen.specs.Names.{nameOf}
-use Rattle.drawing.specs.declared.Counts.{Counts}
+use Rattle.counts.specs.declared.Counts.{Counts}
+use Rattle.counts.specs.Counting.{tally}
 use Rattle.drawing.specs.declared.Pen.{Pen}
 use Rattle.drawing.specs.declared.Drawn.{Drawn}
 use Rattle.drawing.specs.declared.Drawn.the-variants.{Done, Refused}
-
-abbrev pub tally : Counts → Tally
-tally c = counts (c .calls) (c .shapes) (c .redefinitions)
 
 -- the events before the first that is refused
 unfoldable pub goingBy : End → Event → (Tally → List Event) → List Event

@@ -12,7 +12,7 @@ use Rattle.definition.specs.Commands.{commands}
 use Rattle.definition.specs.Faults.{firstFault}
 use Rattle.definition.specs.Drawing.{Event}
 use Rattle.definition.specs.Answer.{drawingOf}
-use Rattle.drawing.specs.declared.Counts.{Counts}
+use Rattle.counts.specs.declared.Counts.{Counts}
 use Rattle.drawing.specs.declared.Pen.{Pen}
 
 -- a text that refusals 1 to 9 let pass

@@ -38,21 +38,10 @@ ghost use Rattle.drawing.specs.Rows.{Stands};
 ghost use Rattle.drawing.specs.Outside.{drawnBy, Speaks, Opens, Passes, Defines};
 ghost use Rattle.drawing.specs.Passed.{Passed, toDraw, noneYet, atStart};
 
-// 01, refusal 17: the most shapes that are drawn.
-const MOST_SHAPES: usize = 1_048_576;
-// 01, refusals 14 and 15: the deepest call, and the most calls.
+// 01, refusal 14: the deepest call.
 const DEEPEST: usize = 32;
-
-const MOST_CALLS: usize = 1_048_576;
 // A command has at most 2,049 numbers (01, refusal 9: 1,024 points, and a width), and two words in front.
 const MOST_WORDS: usize = 2051;
-
-// The running counts of 01, carried along by value.
-pub struct Counts {
-    pub calls: usize,
-    pub shapes: usize,
-    pub redefinitions: usize,
-}
 
 // Where the next byte of the flat file goes, and the layer of the last shape written, packed, 0 for none.
 pub struct Pen {
@@ -60,9 +49,9 @@ pub struct Pen {
     pub layer: u32,
 }
 
-// What a function that draws answers: how far it came, or a refusal's number and place.
+// What a function that draws answers: the running counts and how far the pen came, or a refusal's number and place.
 pub enum Drawn {
-    Done(Counts, Pen),
+    Done(counts::Counts, Pen),
     Refused(usize, usize),
 }
 
@@ -91,7 +80,7 @@ fn draw_shape(
     net: turns::Net,
     layer: u32,
     place: usize,
-    counts: Counts,
+    counts: counts::Counts,
     before: Pen,
 ) -> Drawn
     requires { ⌜ ShapedAt (now words) letter end × (end ≤ length (now numbers)) ⌝ }
@@ -101,18 +90,17 @@ fn draw_shape(
     if pen::move_shape(words, numbers, letter, end, net) {
         return Drawn::Refused(16, place);
     }
-    if MOST_SHAPES <= counts.shapes {
-        return Drawn::Refused(17, place);
+    match counts::count_shape(counts) {
+        counts::Counted::Full(number) => {
+            return Drawn::Refused(number, place);
+        }
+        counts::Counted::More(drawn) => {
+            let at = before.at;
+            let next = pen::put_layer_line(room, at, before.layer, layer);
+            let last = pen::put_line(room, next, letter, &numbers[2..end]);
+            Drawn::Done(drawn, Pen { at: last, layer })
+        }
     }
-    let at = before.at;
-    let next = pen::put_layer_line(room, at, before.layer, layer);
-    let last = pen::put_line(room, next, letter, &numbers[2..end]);
-    let drawn = Counts {
-        calls: counts.calls,
-        shapes: counts.shapes + 1,
-        redefinitions: counts.redefinitions,
-    };
-    Drawn::Done(drawn, Pen { at: last, layer })
 }
 
 // A symbol's number and a scale have no sign.
@@ -179,7 +167,7 @@ fn draw_call<'a>(
     askew: bool,
     place: usize,
     symbol: usize,
-    counts: Counts,
+    counts: counts::Counts,
     before: Pen,
 ) -> Drawn
     requires { ⌜ KindsLent (now kinds) × NextLent (now next) ⌝ }
@@ -214,38 +202,37 @@ fn draw_call<'a>(
             if depth == 0 {
                 return Drawn::Refused(14, place);
             }
-            if MOST_CALLS <= counts.calls {
-                return Drawn::Refused(15, place);
+            match counts::count_call(counts) {
+                counts::Counted::Full(refusal) => {
+                    return Drawn::Refused(refusal, place);
+                }
+                counts::Counted::More(more) => {
+                    drawing[level] = symbol;
+                    draw_body(
+                        text,
+                        kinds,
+                        next,
+                        symbols,
+                        places,
+                        starts,
+                        ends,
+                        factors,
+                        divisors,
+                        count,
+                        words,
+                        numbers,
+                        drawing,
+                        room,
+                        net,
+                        depth - 1,
+                        row.start,
+                        row.a,
+                        row.b,
+                        more,
+                        before,
+                    )
+                }
             }
-            drawing[level] = symbol;
-            let more = Counts {
-                calls: counts.calls + 1,
-                shapes: counts.shapes,
-                redefinitions: counts.redefinitions,
-            };
-            draw_body(
-                text,
-                kinds,
-                next,
-                symbols,
-                places,
-                starts,
-                ends,
-                factors,
-                divisors,
-                count,
-                words,
-                numbers,
-                drawing,
-                room,
-                net,
-                depth - 1,
-                row.start,
-                row.a,
-                row.b,
-                more,
-                before,
-            )
         }
     }
 }
@@ -271,7 +258,7 @@ fn draw_body<'a>(
     from: usize,
     a: usize,
     b: usize,
-    counts: Counts,
+    counts: counts::Counts,
     before: Pen,
 ) -> Drawn
     requires { ⌜ KindsLent (now kinds) × NextLent (now next) ⌝ }
@@ -386,7 +373,7 @@ struct Skipped {
 
 // What came of a definition: it was taken, and so many are live, with the counts and where the next command begins; or it is one too many.
 enum Defined {
-    Taken(usize, Counts, pieces::Spot),
+    Taken(usize, counts::Counts, pieces::Spot),
     Overfull,
 }
 
@@ -446,7 +433,7 @@ fn define<'a>(
     words: &mut [i32],
     place: usize,
     from: pieces::Spot,
-    counts: Counts,
+    counts: counts::Counts,
 ) -> Defined
     requires { ⌜ KindsLent (now kinds) × NextLent (now next) ⌝ }
     requires { ⌜ Sorted (now symbols) count × Sized (columns (now symbols) (now places) (now starts) (now ends) (now factors) (now divisors)) ⌝ }
@@ -469,11 +456,7 @@ fn define<'a>(
     };
     match table::enter(symbols, places, starts, ends, factors, divisors, count, row) {
         table::Entered::Replaced => {
-            let more = Counts {
-                calls: counts.calls,
-                shapes: counts.shapes,
-                redefinitions: counts.redefinitions + 1,
-            };
+            let more = counts::count_redefinition(counts);
             Defined::Taken(count, more, behind)
         }
         table::Entered::Added => Defined::Taken(count + 1, counts, behind),
@@ -501,7 +484,7 @@ fn draw_outer<'a>(
     place: usize,
     end: usize,
     layer: u32,
-    counts: Counts,
+    counts: counts::Counts,
     before: Pen,
 ) -> Drawn
     requires { ⌜ KindsLent (now kinds) × NextLent (now next) ⌝ }
@@ -579,11 +562,7 @@ fn draw_text<'a>(
     let mut spot = pieces::Spot { at: 0, state: 0 };
     let mut layer: u32 = 0;
     let mut count: usize = 0;
-    let mut done = Counts {
-        calls: 0,
-        shapes: 0,
-        redefinitions: 0,
-    };
+    let mut done = counts::no_counts();
     let mut pen = Pen { at: 0, layer: 0 };
     loop {
         match commands::read_command(text, kinds, next, words, spot, 1, 1) {

@@ -28,11 +28,12 @@ use Rattle.pen.specs.Names.{nameOf}
 use Rattle.pen.specs.Writes.{Writes}
 use Rattle.pen.proofs.Names.{no-name}
 use Rattle.pen.proofs.Writing.{both, written, begins}
-use Rattle.drawing.specs.declared.Counts.{Counts}
+use Rattle.counts.specs.declared.Counts.{Counts}
+use Rattle.counts.specs.Counting.{tally}
 use Rattle.drawing.specs.declared.Pen.{Pen}
 use Rattle.drawing.specs.declared.Drawn.{Drawn}
 use Rattle.drawing.specs.declared.Drawn.the-variants as drawing
-use Rattle.drawing.specs.Painting.{tally, bytesOf, Goes, Answered, Painted}
+use Rattle.drawing.specs.Painting.{bytesOf, Goes, Answered, Painted}
 use Rattle.drawing.specs.Passed.{Passed, toDraw, noneYet, atStart}
 use Rattle.drawing.proofs.Painting.{until-all}
 use Rattle.reader.specs.Host.{answerWords, Told}

@@ -9,65 +9,58 @@ use Rattle.drawing.proofs.draw_shape.Statement.{statement}
 use Rattle.drawing.proofs.draw_shape.Tie as tie
 use Rattle.drawing.proofs.draw_shape.Reads as reads
 use Rattle.drawing.proofs.draw_shape.Lts as lts
+use Rattle.counts.proofs.count_shape.Reads as count-shape-reads
 use Rattle.pen.proofs.move_shape.Reads as move-shape-reads
 use Rattle.pen.proofs.put_layer_line.Reads as put-layer-line-reads
 use Rattle.pen.proofs.put_line.Reads as put-line-reads
 
--- src/lib.rt:143:8
 move-shape-requires : tie.Need-move-shape-requires
 move-shape-requires c κs = search needs
 
--- src/lib.rt:144:9
 same-length : tie.Need-same-length
 same-length c = search needs
 
--- src/lib.rt:144:9
 returns : tie.Need-returns
 returns c = λ h chain ts carries. shape-far h chain ts (c .before .before .before .before .before .args .net) carries (c .before .before .before .before .before .args .place) (c .before .before .before .before .before .args .layer) (c .before .before .move-shape .ensures h) (c .before .before .before .before .before .args .counts) (c .before .before .before .before .before .args .before) _ (c .if1 .taken)
 
--- src/lib.rt:147:9
+count-shape-requires : tie.Need-count-shape-requires
+count-shape-requires c κs = search needs
+
+enum-known-number : tie.Need-enum-known-number
+enum-known-number c = search needs
+
 same-length-2 : tie.Need-same-length-2
 same-length-2 c = search needs
 
--- src/lib.rt:147:9
 returns-2 : tie.Need-returns-2
-returns-2 c = λ h chain ts carries. shape-many h chain ts (c .before .before .before .before .before .before .before .args .net) carries (c .before .before .before .before .before .before .before .args .place) (c .before .before .before .before .before .before .before .args .layer) (c .before .before .before .before .move-shape .ensures h) (c .before .before .before .before .before .before .before .args .counts) (c .before .before .before .before .before .before .before .args .before) _ (c .before .before .if1 .left) (c .if2 .taken)
+returns-2 c = λ h chain ts carries. shape-many h chain ts (c .before .before .before .before .before .before .before .before .before .args .net) carries (c .before .before .before .before .before .before .before .before .before .args .place) (c .before .before .before .before .before .before .before .before .before .args .layer) (c .before .before .before .before .before .before .move-shape .ensures h) (c .before .before .before .before .before .before .before .before .before .args .counts) (c .before .before .before .before .before .before .before .before .before .args .before) _ (c .before .before .before .before .if1 .left) (c .before .before .before .count-shape .ensures) _ (c .before .number .given .1)
 
--- src/lib.rt:150:9
+enum-known-drawn : tie.Need-enum-known-drawn
+enum-known-drawn c = search needs
+
 put-layer-line-requires : tie.Need-put-layer-line-requires
 put-layer-line-requires c κs = search needs
 
--- src/lib.rt:151:50
 sub-put-line : tie.Need-sub-put-line
 sub-put-line c = search needs
 
--- src/lib.rt:151:50
 part-put-line-start : tie.Need-part-put-line-start
 part-put-line-start c = search needs
 
--- src/lib.rt:151:50
 part-put-line-end : tie.Need-part-put-line-end
 part-put-line-end c = search needs
 
--- src/lib.rt:151:9
 put-line-requires : tie.Need-put-line-requires
-put-line-requires c κs = (omega (arith, c .before .before .before .before .before .put-layer-line .ensures .ends, layer-line-length (c .before .before .before .before .before .before .before .before .before .before .before .before .before .before .args .before .layer) (c .before .before .before .before .before .before .before .before .before .before .before .before .before .before .args .layer), c .before .before .before .before .before .before .before .before .before .before .before .before .before .before .pre .1 .1 .place-most, c .before .before .before .before .before .before .before .before .before .before .before .before .before .before .pre .1 .1 .shapes-most), omega (arith, part-few (c .before .before .before .before .before .before .before .before .before .before .before .before .before .before .pre .0 .0) (c .before .before .before .before .before .before .before .before .before .before .before .move-shape .last .1 .0)))
+put-line-requires c κs = (omega (arith, c .before .before .before .before .before .put-layer-line .ensures .ends, layer-line-length (c .before .before .before .before .before .before .before .before .before .before .before .before .before .before .before .before .args .before .layer) (c .before .before .before .before .before .before .before .before .before .before .before .before .before .before .before .before .args .layer), c .before .before .before .before .before .before .before .before .before .before .before .before .before .before .before .before .pre .1 .1 .place-most, c .before .before .before .before .before .before .before .before .before .before .before .before .before .before .before .before .pre .1 .1 .shapes-most), omega (arith, part-few (c .before .before .before .before .before .before .before .before .before .before .before .before .before .before .before .before .pre .0 .0) (c .before .before .before .before .before .before .before .before .before .before .before .before .before .move-shape .last .1 .0)))
 
--- src/lib.rt:154:17
-add-t24 : tie.Need-add-t24
-add-t24 c = search needs
-
--- src/lib.rt:127:1
 same-length-3 : tie.Need-same-length-3
 same-length-3 c = search needs
 
--- src/lib.rt:127:1
 same-length-4 : tie.Need-same-length-4
 same-length-4 c = search needs
 
--- src/lib.rt:127:1
 returns-3 : tie.Need-returns-3
-returns-3 c = λ h chain ts carries. shape-near h chain ts (c .before .before .before .before .before .before .before .before .before .before .before .before .before .before .before .before .before .before .args .net) carries (c .before .before .before .before .before .before .before .before .before .before .before .before .before .before .before .before .before .before .args .place) (c .before .before .before .before .before .before .before .before .before .before .before .before .before .before .before .before .before .before .args .layer) (c .before .before .before .before .before .before .before .before .before .before .before .before .before .before .before .move-shape .ensures h) (c .before .before .before .before .before .before .before .before .before .before .before .before .before .before .before .before .before .before .args .counts) (c .before .before .before .before .before .before .before .before .before .before .before .before .before .before .before .before .before .before .args .before) (c .before .before .before .before .before .before .before .before .before .before .before .before .before .if1 .left) (c .before .before .before .before .before .before .before .before .before .before .before .if2 .left) (c .before .before .before .before .before .before .before .before .before .before .before .before .before .before .before .before .before .before .pre .1 .1) (part-is h chain ts (c .before .before .before .before .before .before .before .before .before .before .before .before .before .before .before .before .before .before .args .net) carries (c .before .before .before .before .before .before .before .before .before .before .before .before .before .before .before .before .before .before .args .place) (c .before .before .before .before .before .before .before .before .before .before .before .before .before .before .before .before .before .before .args .layer) (c .before .before .before .before .before .before .before .before .before .before .before .before .before .before .before .move-shape .ensures h) (c .before .before .before .before .before .before .before .before .before .before .before .before .before .before .before .before .before .before .pre .0 .1)) (c .before .before .before .before .before .before .before .before .before .put-layer-line .ensures) (c .before .before .before .put-line .ensures .0) (c .before .before .before .put-line .ensures .1) (part-few h (c .before .before .before .before .before .before .before .before .before .before .before .before .before .before .before .move-shape .last .1 .0))
+returns-3 c = λ h chain ts carries. shape-near h chain ts (c .before .before .before .before .before .before .before .before .before .before .before .before .before .before .before .before .before .before .before .args .net) carries (c .before .before .before .before .before .before .before .before .before .before .before .before .before .before .before .before .before .before .before .args .place) (c .before .before .before .before .before .before .before .before .before .before .before .before .before .before .before .before .before .before .before .args .layer) (c .before .before .before .before .before .before .before .before .before .before .before .before .before .before .before .before .move-shape .ensures h) (c .before .before .before .before .before .before .before .before .before .before .before .before .before .before .before .before .before .before .before .args .counts) (c .before .before .before .before .before .before .before .before .before .before .before .before .before .before .before .before .before .before .before .args .before) (c .before .before .before .before .before .before .before .before .before .before .before .before .before .before .if1 .left) (c .before .before .before .before .before .before .before .before .before .before .before .before .before .count-shape .ensures) _ (c .before .before .before .before .before .before .before .before .before .before .before .drawn .given .1) (c .before .before .before .before .before .before .before .before .before .before .before .before .before .before .before .before .before .before .before .pre .1 .1) (part-is h chain ts (c .before .before .before .before .before .before .before .before .before .before .before .before .before .before .before .before .before .before .before .args .net) carries (c .before .before .before .before .before .before .before .before .before .before .before .before .before .before .before .before .before .before .before .args .place) (c .before .before .before .before .before .before .before .before .before .before .before .before .before .before .before .before .before .before .before .args .layer) (c .before .before .before .before .before .before .before .before .before .before .before .before .before .before .before .before .move-shape .ensures h) (c .before .before .before .before .before .before .before .before .before .before .before .before .before .before .before .before .before .before .before .pre .0 .1)) (c .before .before .before .before .before .before .before .before .put-layer-line .ensures) (c .before .before .put-line .ensures .0) (c .before .before .put-line .ensures .1) (part-few h (c .before .before .before .before .before .before .before .before .before .before .before .before .before .before .before .before .move-shape .last .1 .0))
 
 pub draw-shape-spec : {M : Type 1} → statement M
 draw-shape-spec =
@@ -76,14 +69,16 @@ draw-shape-spec =
     move-shape-requires
     same-length
     returns
+    count-shape-requires
+    enum-known-number
     same-length-2
     returns-2
+    enum-known-drawn
     put-layer-line-requires
     sub-put-line
     part-put-line-start
     part-put-line-end
     put-line-requires
-    add-t24
     same-length-3
     same-length-4
     returns-3)
