@@ -3,7 +3,7 @@
 use mathlib.Core.Path.{_≡_, refl, sym, ap, _∙_, subst}
 use mathlib.Core.Bool.{Bool, true, false}
 use mathlib.Core.List.{List, [], _∷_, _++_}
-use Prim.Native.Nat.{ℕ, _+_}
+use Prim.Native.Nat.{ℕ}
 use native.Mathlib.Omega.{arith}
 use lib.IntN.{ℤ, natAbs}
 use Rattle.definition.specs.Words.{Placed, at}
@@ -22,18 +22,19 @@ use Rattle.pieces.specs.declared.Spot.{Spot}
 use Rattle.commands.specs.Letters.{letterD, letterL}
 use Rattle.commands.specs.Written.{Written, written}
 use Rattle.counts.specs.declared.Counts.{Counts}
-use Rattle.drawing.specs.declared.Pen.{Pen}
-use Rattle.drawing.specs.declared.Drawn.the-variants.{Done, Refused}
-use Rattle.drawing.specs.Painting.{Painted}
-use Rattle.drawing.specs.Voices.{Voice, a-shape, a-call, a-layer, a-start, a-finish, a-delete, a-nothing, Told}
-use Rattle.drawing.specs.Rows.{Stands, none-stand}
-use Rattle.drawing.specs.Outside.{drawnBy, Opens, behindStart, definitionAt, Passes}
+use Rattle.bodies.specs.declared.Pen.{Pen}
+use Rattle.bodies.specs.declared.Drawn.the-variants.{Done, Refused}
+use Rattle.bodies.specs.Painting.{Painted}
+use Rattle.bodies.specs.Voices.{Voice, a-shape, a-call, a-layer, a-start, a-finish, a-delete, a-nothing, Told}
+use Rattle.bodies.specs.Rows.{Stands, none-stand}
+use Rattle.bodies.specs.Outer.{drawnBy}
+use Rattle.drawing.specs.Outside.{Opens, behindStart, definitionAt, Passes}
 use Rattle.drawing.specs.Passed.{Passed, toDraw, noneYet, atStart}
-use Rattle.drawing.proofs.Painting.{Going, begun, so-far, goes-on, skips, stops, over, quiet}
-use Rattle.drawing.proofs.Reading.{Met, none-met}
-use Rattle.drawing.proofs.Letters.{is-start}
-use Rattle.drawing.proofs.Rows.{forget-stands}
-use Rattle.drawing.proofs.Steps.{start-told, delete-told, layer-told, nothing-told, outer-shape, outer-call}
+use Rattle.bodies.proofs.Painting.{Going, begun, so-far, goes-on, skips, stops, over, quiet}
+use Rattle.bodies.proofs.Reading.{Met, none-met}
+use Rattle.bodies.proofs.Letters.{is-start}
+use Rattle.bodies.proofs.Rows.{forget-stands}
+use Rattle.bodies.proofs.Steps.{start-told, delete-told, layer-told, nothing-told, outer-shape, outer-call}
 use Rattle.drawing.proofs.Voices.{told-text}
 
 -- between two commands: the rows, the spot, the packed layer, the counts, the pen and the room as they are

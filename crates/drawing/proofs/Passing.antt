@@ -26,21 +26,22 @@ use Rattle.commands.specs.declared.Read.{Read}
 use Rattle.commands.specs.declared.Read.the-variants.{Nothing}
 use Rattle.commands.specs.Words.{DecodedOne, ReadsCommand}
 use Rattle.counts.specs.declared.Counts.{Counts}
-use Rattle.drawing.specs.declared.Pen.{Pen}
-use Rattle.drawing.specs.declared.Drawn.{Drawn}
-use Rattle.drawing.specs.declared.Drawn.the-variants.{Done, Refused}
+use Rattle.bodies.specs.declared.Pen.{Pen}
+use Rattle.bodies.specs.declared.Drawn.{Drawn}
+use Rattle.bodies.specs.declared.Drawn.the-variants.{Done, Refused}
 use Rattle.drawing.specs.declared.Defined.{Defined}
 use Rattle.drawing.specs.declared.Defined.the-variants.{Taken, Overfull}
-use Rattle.drawing.specs.Painting.{Reached, Answered, Painted}
+use Rattle.bodies.specs.Painting.{Reached, Answered, Painted}
 use Rattle.pen.specs.Moves.{mostValues}
-use Rattle.drawing.specs.Rows.{Stands}
-use Rattle.drawing.specs.Outside.{drawnBy, Speaks, Opens, Takes, Defines}
+use Rattle.bodies.specs.Rows.{Stands}
+use Rattle.bodies.specs.Outer.{drawnBy, Speaks}
+use Rattle.drawing.specs.Outside.{Opens, Takes, Defines}
 use Rattle.drawing.specs.Passed.{Passed, toDraw, noneYet, atStart}
-use Rattle.drawing.proofs.Painting.{so-far, room-kept}
-use Rattle.drawing.proofs.Reading.{Met, meets, run-kept, read-none, speaks, spoken-layer, third-word}
-use Rattle.drawing.proofs.Letters.{is-delete}
+use Rattle.bodies.proofs.Painting.{so-far, room-kept}
+use Rattle.bodies.proofs.Reading.{Met, meets, run-kept, read-none, speaks, spoken-layer, third-word}
+use Rattle.bodies.proofs.Letters.{is-delete}
 use Rattle.drawing.proofs.Redefinitions.{drawn-same}
-use Rattle.drawing.proofs.Underway.{natural-fits}
+use Rattle.bodies.proofs.Underway.{natural-fits}
 use Rattle.drawing.proofs.Onward.{Onward, start-text, text-out, text-layer, text-delete, text-opens, text-defined, text-overfull, text-drawn, text-stopped}
 
 pub record Passing (t : List ℕ) (words₀ numbers₀ : List ℤ) (drawing₀ room₀ : List ℕ) (cols : Columns) (words numbers : List ℤ) (drawing room : List ℕ) (spot : Spot) (layer count : ℕ)

@@ -4,7 +4,7 @@ use mathlib.Core.Path.{_≡_, refl, ap}
 use mathlib.Core.Bool.{Bool, true, false}
 use mathlib.Core.List.{List, [], _∷_, _++_}
 use mathlib.Core.Option.{Option, none, some}
-use Prim.Native.Nat.{ℕ, zero, suc, _+_}
+use Prim.Native.Nat.{ℕ, zero, suc}
 use native.Mathlib.Omega.{arith}
 use lib.IntN.{ℤ, natAbs}
 use lib.ListN.{length}
@@ -17,10 +17,10 @@ use Rattle.definition.specs.Table.{Step, shape, instance, Definition, Table, fi
 use Rattle.definition.specs.Drawing.{Chain, Event, called, drew, entered, removed, refused, drawShape, drawStep, drawBody, callFault, unless, drawCall}
 use Rattle.definition.proofs.Counting.{redefinitionsOf, counted-all}
 use Rattle.counts.specs.declared.Counts.{Counts}
-use Rattle.drawing.specs.declared.Pen.{Pen}
+use Rattle.bodies.specs.declared.Pen.{Pen}
 use Rattle.counts.specs.Counting.{tally}
-use Rattle.drawing.specs.Painting.{Goes}
-use Rattle.drawing.specs.Outside.{drawnBy}
+use Rattle.bodies.specs.Painting.{Goes}
+use Rattle.bodies.specs.Outer.{drawnBy}
 
 abbrev Bare : List Event → Type 0
 Bare es = redefinitionsOf es ≡ []

@@ -19,12 +19,12 @@ use Rattle.commands.specs.Written.{Written, written}
 use Rattle.commands.specs.declared.Read.{Read}
 use Rattle.commands.specs.declared.Read.the-variants.{Nothing}
 use Rattle.commands.specs.Words.{DecodedOne, ReadsCommand}
-use Rattle.drawing.specs.Voices.{Voice, a-shape, a-call, a-layer, a-start, a-finish, a-delete, a-nothing, Told, none-told}
+use Rattle.bodies.specs.Voices.{Voice, a-shape, a-call, a-layer, a-start, a-finish, a-delete, a-nothing, Told, none-told}
 use Rattle.pen.specs.Moves.{mostValues}
 use Rattle.drawing.specs.Outside.{Passes}
-use Rattle.drawing.proofs.Letters.{is-finish}
-use Rattle.drawing.proofs.Reading.{Met, meets, run-kept, read-none, none-met}
-use Rattle.drawing.proofs.Steps.{layer-told, finish-told, nothing-told, inner-shape, inner-call}
+use Rattle.bodies.proofs.Letters.{is-finish}
+use Rattle.bodies.proofs.Reading.{Met, meets, run-kept, read-none, none-met}
+use Rattle.bodies.proofs.Steps.{layer-told, finish-told, nothing-told, inner-shape, inner-call}
 
 -- the definition stays open, with its scale and the layer that was set outside of it
 record Stays (σ σ′ : Standing) : Type 0 where

@@ -1,10 +1,10 @@
 -- The words of every command of a sound text speak of the definition's command: from crates/reading's law that they are exact.
 -- Assumes nothing.
 use mathlib.Core.Path.{_≡_, refl, sym, ap, ap₂, _∙_, subst}
-use mathlib.Core.Bool.{Bool, true, false}
-use mathlib.Core.List.{List, [], _∷_, _++_, map, flatMap}
+use mathlib.Core.Bool.{Bool}
+use mathlib.Core.List.{List, [], _∷_, map, flatMap}
 use mathlib.Core.Option.{none}
-use Prim.Native.Nat.{ℕ, _+_, _*_, _≤_, _<_}
+use Prim.Native.Nat.{ℕ, _+_, _*_, _≤_}
 use native.Mathlib.Omega.{arith}
 use borrow.Author.Tests.{eqb-false, ltb-false}
 use lib.IntN.{ℤ, pos, natAbs}
@@ -13,7 +13,7 @@ use Rattle.grammar.specs.Notation.{Letter}
 use Rattle.grammar.specs.Viable.{Marked}
 use Rattle.definition.specs.Words.{Placed, any}
 use Rattle.definition.specs.Commands.{Turn, translate, mirrorX, mirrorY, rotate, Kind, box, flash, wire, polygon, Command, commands}
-use Rattle.definition.specs.Standing.{Standing, outside, after, scaledShape, scaledTurn}
+use Rattle.definition.specs.Standing.{Standing, outside, scaledShape, scaledTurn}
 use Rattle.definition.specs.Faults.{firstFault, numbersOf, partsOf, zeroScale, tooMany, zero?}
 use Rattle.definition.specs.Flat.{letterOf}
 use Rattle.definition.proofs.Range.{All}
@@ -23,10 +23,9 @@ use Rattle.definition.proofs.Ordered.{Ordered, Allowed, after-inside, ordered}
 use Rattle.turns.specs.Words.{turnWords, turnsWords}
 use Rattle.pen.specs.Names.{nameOf, packed}
 use Rattle.pen.proofs.Names.{a-name, name-back}
-use Rattle.pieces.specs.Pieces.{pieces, letterS, letterF, stream, start}
+use Rattle.pieces.specs.Pieces.{letterS, letterF, stream, start}
 use Rattle.pieces.specs.declared.Piece.{Piece}
 use Rattle.pieces.proofs.Spots.{start-pieces}
-use Rattle.commands.specs.Account.{atStart}
 use Rattle.commands.specs.Letters.{letterC, letterD, letterL, byteUnit, firstUnit}
 use Rattle.commands.specs.Written.{Written, written, letters, lastOf, lastLetter, insideBehind, packedBy}
 use Rattle.commands.specs.Words.{signed, wordsOf, kindBy}
@@ -36,9 +35,9 @@ use Rattle.reading.proofs.Says.{a-polygon, a-box, a-turned-box, a-flash, a-wire
 use Rattle.reading.proofs.Says.{a-layer as says-layer, a-call as says-call, a-start as says-start, a-finish as says-finish, a-nothing as says-nothing}
 use Rattle.reading.proofs.Facing.{faces}
 use Rattle.reading.proofs.Agree.{Fits, Faultless, near-most, not-zero}
-use Rattle.reading.proofs.Exact.{turnValues, valuesOf, kindOf, exactWords, kind-exact, few-values, AllExact, none-left, one-exact, all-exact}
-use Rattle.drawing.specs.Voices.{Silent, Voice, a-shape, a-call, a-layer, a-start, a-finish, a-delete, a-nothing, Voiced, Told, none-told, one-told}
-use Rattle.pen.specs.Moves.{Shaped, sizeCount, directionCount, mostValues}
+use Rattle.reading.proofs.Exact.{turnValues, valuesOf, kindOf, exactWords, few-values, AllExact, none-left, one-exact, all-exact}
+use Rattle.bodies.specs.Voices.{Silent, Voice, a-shape, a-call, a-layer, a-start, a-finish, a-delete, a-nothing, Voiced, Told, none-told, one-told}
+use Rattle.pen.specs.Moves.{sizeCount, directionCount}
 
 -- the transformations of a call are kept in the words that crates/turns reads
 turns-kept : (ts : List (Turn ℤ)) → flatMap turnValues ts ≡ turnsWords ts

@@ -1,7 +1,2 @@
-pub mod Painting
-pub mod Voices
-pub mod Rows
-pub mod Scenes
-pub mod Calls
 pub mod Passed
 pub mod Outside

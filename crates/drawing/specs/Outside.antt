@@ -1,56 +1,29 @@
--- The pass over a text, outside its definitions: a command that draws, and a definition that is entered and passed over. A running account, not to be
--- believed: what is drawn is said in crates/definition's events, and proofs/Onward.antt joins it to the story of the whole text.
+-- The pass over a text, outside its definitions: a definition that is entered and passed over. A running account, not to be believed: what happens is
+-- said in crates/definition's events, and proofs/Onward.antt joins it to the story of the whole text.
 -- Assumes nothing.
 use mathlib.Core.Path.{_≡_}
 use mathlib.Core.Bool.{true}
-use mathlib.Core.List.{List, [], _∷_, _++_, map}
+use mathlib.Core.List.{List, _∷_}
 use Prim.Native.Nat.{ℕ, _+_, _≤_}
 use lib.IntN.{ℤ, natAbs}
-use lib.ListN.{length, drop}
+use lib.ListN.{drop}
 use Rattle.definition.specs.Words.{Placed}
-use Rattle.definition.specs.Commands.{Number, Command, draw, layer, call, start, finish, delete, nothing}
-use Rattle.definition.specs.Standing.{Standing, outside, after, scaledShape, scaledTurn}
+use Rattle.definition.specs.Commands.{Number, Command, start}
+use Rattle.definition.specs.Standing.{Standing, outside, after}
 use Rattle.definition.specs.Table.{Definition, Table, enter}
-use Rattle.definition.specs.Drawing.{retained, define, deeds, Event, drawShape, drawCall, happens, story}
+use Rattle.definition.specs.Drawing.{retained, define, deeds, happens, story}
 use Rattle.table.specs.Rows.{Columns, rowsOf, Sorted, Sized}
 use Rattle.pieces.specs.Pieces.{stream, behind, tooLarge, Fit}
 use Rattle.pieces.specs.declared.Spot.{Spot}
-use Rattle.commands.specs.Written.{Written, written}
+use Rattle.commands.specs.Written.{written}
 use Rattle.counts.specs.declared.Counts.{Counts}
-use Rattle.drawing.specs.declared.Pen.{Pen}
-use Rattle.drawing.specs.declared.Drawn.the-variants.{Done, Refused}
+use Rattle.bodies.specs.declared.Pen.{Pen}
+use Rattle.bodies.specs.declared.Drawn.the-variants.{Done, Refused}
 use Rattle.drawing.specs.declared.Defined.{Defined}
 use Rattle.drawing.specs.declared.Defined.the-variants.{Taken, Overfull}
-use Rattle.drawing.specs.Painting.{Reached, Painted}
-use Rattle.drawing.specs.Voices.{Voice, Told}
-use Rattle.pen.specs.Moves.{mostValues}
-use Rattle.drawing.specs.Rows.{Stands}
-
--- ---- a command that draws
-
--- what a command outside of definitions draws: shapes and calls do, the others not
-unfoldable pub drawnBy : Table → Standing → ℕ → Command → List Event
-drawnBy t σ p (draw k) = drawShape [] [] p (σ .layer-set) (scaledShape σ k) ∷ []
-drawnBy t σ p (call n ts) = drawCall 32 t [] [] p (natAbs (n .what)) (map (scaledTurn σ) ts)
-drawnBy t σ p (layer l) = []
-drawnBy t σ p (start n a b) = []
-drawnBy t σ p finish = []
-drawnBy t σ p (delete n) = []
-drawnBy t σ p nothing = []
-
--- the words behind the first two, up to this place, speak of a command of this kind
-pub record Speaks (words : List ℤ) (kind end : ℕ) : Type 0 where
-  pub standing : Standing
-  pub account : Written
-  pub command : Command
-  pub values : List ℤ
-  pub voice : Voice standing account kind values command
-  pub rest : List ℤ
-  pub are : drop 2 words ≡ values ++ rest
-  pub ends : end ≡ 2 + length values
-  pub few : length values ≤ mostValues
-
--- ---- a definition
+use Rattle.bodies.specs.Painting.{Reached, Painted}
+use Rattle.bodies.specs.Voices.{Told}
+use Rattle.bodies.specs.Rows.{Stands}
 
 -- the words behind the first two are a DS's; behind it, its body and what follows are told
 pub record Opens (t : List ℕ) (words : List ℤ) (to : Spot) : Type 0 where

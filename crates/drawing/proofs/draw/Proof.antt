@@ -10,28 +10,22 @@ use Rattle.drawing.proofs.draw.Reads as reads
 use Rattle.drawing.proofs.draw.Lts as lts
 use Rattle.drawing.proofs.draw_text.Reads as draw-text-reads
 
--- src/lib.rt:765:9
 slice-aggregate-draw-text : tie.Need-slice-aggregate-draw-text
 slice-aggregate-draw-text c = search needs
 
--- src/lib.rt:766:9
 slice-aggregate-draw-text-2 : tie.Need-slice-aggregate-draw-text-2
 slice-aggregate-draw-text-2 c = search needs
 
--- src/lib.rt:767:9
 slice-aggregate-draw-text-3 : tie.Need-slice-aggregate-draw-text-3
 slice-aggregate-draw-text-3 c = search needs
 
--- src/lib.rt:755:5
 draw-text-requires : tie.Need-draw-text-requires
 unfolding kinds table
 draw-text-requires c κs = ((record { is = refl }, record { is = refl }), ((c .before .before .before .before .before .before .before .before .before .before .before .before .before .before .pre, record { symbols = refl; places = refl; starts = refl; ends = refl; factors = refl; divisors = refl }), (omega arith, omega arith, refl)))
 
--- src/lib.rt:740:1
 same-length : tie.Need-same-length
 same-length c = search needs
 
--- src/lib.rt:740:1
 returns : tie.Need-returns
 returns c = search needs
 

@@ -6,7 +6,7 @@ use native.Mathlib.Omega.{arith}
 use borrow.Author.Needs.{needs}
 use lib.ListN.{length}
 use Rattle.table.specs.Rows.{columns}
-use Rattle.drawing.proofs.Reading.{read-one}
+use Rattle.bodies.proofs.Reading.{read-one}
 use Rattle.drawing.proofs.Passing.{Passing, passing-begin, reached-there, room-there, table-there, few-redefined, passing-out, words-then, layer-fits, passing-layer, passing-delete, passing-opens, defined-on, passing-defined, passing-overfull, passing-speaks, passing-drawn, passing-stopped}
 use Rattle.drawing.proofs.draw_text.Statement.{statement}
 use Rattle.drawing.proofs.draw_text.Tie as tie
@@ -14,8 +14,8 @@ use Rattle.drawing.proofs.draw_text.Reads as reads
 use Rattle.drawing.proofs.draw_text.Lts as lts
 use Rattle.counts.proofs.no_counts.Reads as no-counts-reads
 use Rattle.drawing.proofs.define.Reads as define-reads
-use Rattle.drawing.proofs.draw_outer.Reads as draw-outer-reads
-use Rattle.drawing.proofs.size_at.Reads as size-at-reads
+use Rattle.bodies.proofs.draw_outer.Reads as draw-outer-reads
+use Rattle.bodies.proofs.size_at.Reads as size-at-reads
 use Rattle.commands.proofs.read_command.Reads as read-command-reads
 use Rattle.table.proofs.delete.Reads as delete-reads
 

@@ -4,7 +4,7 @@ use mathlib.Core.Path.{_∙_}
 use Prim.Native.Nat.{_-_}
 use native.Mathlib.Omega.{arith}
 use lib.ListN.{length}
-use Rattle.drawing.proofs.Reading.{read-one}
+use Rattle.bodies.proofs.Reading.{read-one}
 use Rattle.drawing.proofs.Skipping.{Skims, skims-begin, skims-out, skims-ended, skims-on}
 use Rattle.drawing.proofs.skip_body.Statement.{statement}
 use Rattle.drawing.proofs.skip_body.Tie as tie
@@ -18,43 +18,33 @@ Inv-loop text kinds next words₀ a b spot₀ words spot = Skims text a b spot�
 abbrev μ-loop : tie.MeasureT-loop
 μ-loop text kinds next words₀ a b spot₀ words spot = length text - spot .at
 
--- src/lib.rt:488:5
 loop-holds : tie.Need-loop-holds Inv-loop μ-loop
 loop-holds c = skims-begin (c .before .pre .1 .0)
 
--- src/lib.rt:489:15
 read-command-requires : tie.Need-read-command-requires Inv-loop μ-loop
 read-command-requires c κs = (c .before .before .before .pre .0, (c .before .loop .inv .fit, c .before .before .before .pre .1 .1, c .before .before .before .pre .1 .2))
 
--- src/lib.rt:491:17
 enum-told : tie.Need-enum-told Inv-loop μ-loop
 enum-told c = c .match .keys1
 
--- src/lib.rt:491:17
 same-length : tie.Need-same-length Inv-loop μ-loop
 same-length c = c .before .before .before .read-command .kept .1 .1 .1 .0 ∙ c .before .before .before .before .before .loop .inv .long
 
--- src/lib.rt:491:17
 returns : tie.Need-returns Inv-loop μ-loop
 returns c = (λ σ cs told o ea eb. skims-out (c .before .before .before .before .before .loop .inv) σ cs told o ea eb (c .before .before .before .read-command .result) _ (c .before .before .before .read-command .ensures) (c .enum-told .given .1), (c .before .before .before .before .before .loop .inv .fit, c .before .before .before .before .before .loop .inv .ahead))
 
--- src/lib.rt:496:36
 enum-known-kind : tie.Need-enum-known-kind Inv-loop μ-loop
 enum-known-kind c = c .match .keys2
 
--- src/lib.rt:498:21
 same-length-2 : tie.Need-same-length-2 Inv-loop μ-loop
 same-length-2 c = c .before .before .before .before .before .read-command .kept .1 .1 .1 .0 ∙ c .before .before .before .before .before .before .before .loop .inv .long
 
--- src/lib.rt:498:21
 returns-2 : tie.Need-returns-2 Inv-loop μ-loop
 returns-2 c = (λ σ cs told o ea eb. skims-ended (c .before .before .before .before .before .before .before .loop .inv) σ cs told o ea eb (c .before .before .before .before .before .before .before .before .before .pre .1 .3) (read-one (c .before .before .before .before .before .read-command .ensures) (c .before .before .kind .given .1) .1) (c .if1 .taken), ((read-one (c .before .before .before .before .before .read-command .ensures) (c .before .before .kind .given .1) .1) .fit, omega (arith, c .before .before .before .before .before .before .before .loop .inv .ahead, (read-one (c .before .before .before .before .before .read-command .ensures) (c .before .before .kind .given .1) .1) .ahead)))
 
--- src/lib.rt:488:5
 loop-less : tie.Need-loop-less Inv-loop μ-loop
 loop-less c = omega (arith, (read-one (c .before .before .before .before .before .read-command .ensures) (c .before .before .kind .given .1) .1) .ahead, (read-one (c .before .before .before .before .before .read-command .ensures) (c .before .before .kind .given .1) .1) .fit .within)
 
--- src/lib.rt:488:5
 loop-again : tie.Need-loop-again Inv-loop μ-loop
 loop-again c = skims-on (c .before .before .before .before .before .before .before .loop .inv) (c .before .before .before .before .before .before .before .before .before .pre .1 .3) (read-one (c .before .before .before .before .before .read-command .ensures) (c .before .before .kind .given .1) .1) (c .if1 .left)
 

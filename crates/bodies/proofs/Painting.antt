@@ -1,0 +1,186 @@
+-- What is drawn one after another is drawn as one: the laws by which every function that draws composes its callees, and a loop keeps what is left.
+-- Assumes nothing.
+use mathlib.Core.Path.{_≡_, refl, sym, ap, _∙_, subst}
+use mathlib.Core.List.{List, [], _∷_, _++_, append-assoc, append-nil}
+use Prim.Native.Nat.{ℕ}
+use native.Mathlib.Nat.{add-zero}
+use native.Mathlib.Omega.{arith}
+use lib.ListN.{length, length-append}
+use lib.Seq.{sets, length-sets}
+use Rattle.definition.specs.Drawing.{Chain, Event}
+use Rattle.definition.specs.Drawing.{Drawn as Shown}
+use Rattle.definition.specs.Counts.{End, finished, stopped, counted, goOn, ending, shapesOf}
+use Rattle.definition.specs.Counts.{Counts as Tally}
+use Rattle.definition.specs.Flat.{lines}
+use Rattle.definition.proofs.Joined.{ending-++, shapesOf-++}
+use Rattle.pen.specs.Names.{nameOf}
+use Rattle.pen.specs.Writes.{Writes}
+use Rattle.pen.proofs.Writing.{both, written}
+use Rattle.counts.specs.declared.Counts.{Counts}
+use Rattle.bodies.specs.declared.Pen.{Pen}
+use Rattle.bodies.specs.declared.Drawn.{Drawn}
+use Rattle.bodies.specs.declared.Drawn.the-variants.{Done, Refused}
+use Rattle.counts.specs.Counting.{tally}
+use Rattle.bodies.specs.Painting.{goingBy, until, bytesOf, Reached, Goes, Answered, Painted}
+
+pub never : (n p : ℕ) (chain : Chain) (c : Tally) → stopped n p chain ≡ finished c → ⊥
+never n p chain c e = let z : _≡_ {A = ℕ} 0 1 = cc in omega arith
+
+-- ---- the events before the first refusal, of joined events
+
+unfoldable pub further : End → List Event → List Event
+further (finished c) b = until c b
+further (stopped n p chain) b = []
+
+pub until-++ : (c : Tally) (a b : List Event) → until c (a ++ b) ≡ until c a ++ further (ending c a) b
+unfolding until ending further
+until-++ c [] b = refl
+until-++ c (e ∷ a) b = go (counted c e) (λ c′. until-++ c′ a b)
+  where
+    go : (x : End) → ((c′ : Tally) → until c′ (a ++ b) ≡ until c′ a ++ further (ending c′ a) b) → goingBy x e (λ c′. until c′ (a ++ b)) ≡ goingBy x e (λ c′. until c′ a) ++ further (goOn x (λ c′. ending c′ a)) b
+    go (finished c′) f = unfold goingBy goOn in ap (λ (l : List Event). e ∷ l) (f c′)
+    go (stopped n p chain) f = unfold goingBy goOn further in refl
+
+-- where all happens, all is before the end
+pub until-all : (c : Tally) (es : List Event) (c′ : Tally) → ending c es ≡ finished c′ → until c es ≡ es
+unfolding until ending
+until-all c [] c′ e = refl
+until-all c (x ∷ es) c′ e = go (counted c x) (λ d. until-all d es c′) e
+  where
+    go : (y : End) → ((d : Tally) → ending d es ≡ finished c′ → until d es ≡ es) → goOn y (λ d. ending d es) ≡ finished c′ → goingBy y x (λ d. until d es) ≡ x ∷ es
+    go (finished d) f h = unfold goingBy goOn in ap (λ (l : List Event). x ∷ l) (f d (unfold goOn in h))
+    go (stopped n p chain) f h = absurd (never n p chain c′ (unfold goOn in h))
+
+-- ---- one after another
+
+-- nothing happens
+pub still : (c : Counts) (pen : Pen) (room : List ℕ) → Reached c pen → Painted c pen [] room (Done c pen) room
+unfolding Answered until ending shapesOf lines
+still c pen room h = record {
+  answer = record { ends = refl; next = sym (add-zero (pen .at)); on = λ ds. refl; reached = h };
+  laid = refl;
+}
+
+-- an event that is counted and no shape
+pub quiet : (c c′ : Counts) (pen : Pen) (e : Event) (room : List ℕ) → counted (tally c) e ≡ finished (tally c′) → shapesOf (e ∷ []) ≡ [] → Reached c′ pen
+    → Painted c pen (e ∷ []) room (Done c′ pen) room
+unfolding Answered until ending lines goingBy goOn
+quiet c c′ pen e room h n k = record {
+  answer = record {
+    ends = rw h;
+    next = rw n (sym (add-zero (pen .at)));
+    on = λ ds. rw n;
+    reached = k;
+  };
+  laid = rw (h, n);
+}
+
+-- a refusal, before anything is drawn
+pub refusal : (c : Counts) (pen : Pen) (e : Event) (es : List Event) (room : List ℕ) (n p : ℕ) (chain : Chain) → counted (tally c) e ≡ stopped n p chain
+    → Painted c pen (e ∷ es) room (Refused n p) room
+unfolding Answered until ending goingBy goOn shapesOf lines
+refusal c pen e es room n p chain h = record { answer = (chain, rw h); laid = rw h }
+
+module _ {c : Counts} {pen : Pen} {a : List Event} {room : List ℕ} where
+  -- what is refused stays so, whatever would come
+  pub cut : (b : List Event) {n p : ℕ} {room′ : List ℕ} → Painted c pen a room (Refused n p) room′ → Painted c pen (a ++ b) room (Refused n p) room′
+  unfolding Answered
+  cut b {n} {p} {room′} x =
+      let e = x .answer .1 in
+      record {
+        answer = (x .answer .0, ending-++ (tally c) a b ∙ (ap (λ (y : End). goOn y (λ d. ending d b)) e ∙ (unfold goOn in refl)));
+        laid =
+            x .laid
+            ∙ ap (λ (es : List Event). sets room (pen .at) (lines (nameOf (pen .layer)) (shapesOf es)))
+            (sym (append-nil (until (tally c) a)) ∙ sym (until-++ (tally c) a b ∙ (ap (λ (y : End). until (tally c) a ++ further y b) e ∙ (unfold further in refl))));
+      }
+
+  module _ {c′ : Counts} {pen′ : Pen} {room′ : List ℕ} (x : Painted c pen a room (Done c′ pen′) room′) where
+    -- what is done, and what is done then
+    went : Goes c pen a c′ pen′
+    unfolding Answered
+    went = x .answer
+
+    all-before : until (tally c) a ≡ a
+    all-before = until-all (tally c) a (tally c′) (went .ends)
+
+    joined : (b : List Event) → bytesOf c pen (a ++ b) ≡ lines (nameOf (pen .layer)) (shapesOf a) ++ bytesOf c′ pen′ b
+    unfolding further
+    joined b =
+        ap (λ (es : List Event). lines (nameOf (pen .layer)) (shapesOf es))
+        (until-++ (tally c) a b ∙ (ap (λ (es : List Event). es ++ further (ending (tally c) a) b) all-before ∙ ap (λ (y : End). a ++ further y b) (went .ends)))
+        ∙ (ap (lines (nameOf (pen .layer))) (shapesOf-++ a (until (tally c′) b)) ∙ went .on (shapesOf (until (tally c′) b)))
+
+    own : Writes room room′ (pen .at) (pen′ .at) (lines (nameOf (pen .layer)) (shapesOf a))
+    own = written (x .laid ∙ ap (λ (es : List Event). sets room (pen .at) (lines (nameOf (pen .layer)) (shapesOf es))) all-before) (went .next)
+
+    laid-both : (b : List Event) {room″ : List ℕ} → room″ ≡ sets room′ (pen′ .at) (bytesOf c′ pen′ b) → room″ ≡ sets room (pen .at) (bytesOf c pen (a ++ b))
+    laid-both b l = both own (written l refl) .laid ∙ ap (sets room (pen .at)) (sym (joined b))
+
+    ends-then : (b : List Event) → ending (tally c) (a ++ b) ≡ ending (tally c′) b
+    ends-then b = ending-++ (tally c) a b ∙ (ap (λ (y : End). goOn y (λ d. ending d b)) (went .ends) ∙ (unfold goOn in refl))
+
+    goes-then : (b : List Event) {c″ : Counts} {pen″ : Pen} → Goes c′ pen′ b c″ pen″ → Goes c pen (a ++ b) c″ pen″
+    goes-then b {pen″ = pen″} g =
+        let l = nameOf (pen .layer) in
+        let split : lines l (shapesOf (a ++ b)) ≡ lines l (shapesOf a) ++ lines (nameOf (pen′ .layer)) (shapesOf b) = ap (lines l) (shapesOf-++ a b) ∙ went .on (shapesOf b) in
+        record {
+          ends = ends-then b ∙ g .ends;
+          next = omega (arith, g .next, went .next, ap length split, length-append (lines l (shapesOf a)) (lines (nameOf (pen′ .layer)) (shapesOf b)));
+          on =
+              λ ds.
+              ap (λ (s : List Shown). lines l (s ++ ds)) (shapesOf-++ a b)
+              ∙ (ap (lines l) (append-assoc (shapesOf a) (shapesOf b) ds)
+              ∙ (went .on (shapesOf b ++ ds)
+              ∙ (ap (λ (s : List ℕ). lines l (shapesOf a) ++ s) (g .on ds)
+              ∙ (sym (append-assoc (lines l (shapesOf a)) (lines (nameOf (pen′ .layer)) (shapesOf b)) (lines (nameOf (pen″ .layer)) ds))
+              ∙ ap (λ (s : List ℕ). s ++ lines (nameOf (pen″ .layer)) ds) (sym split)))));
+          reached = g .reached;
+        }
+
+    answer-then : (b : List Event) (r : Drawn) → Answered c′ pen′ b r → Answered c pen (a ++ b) r
+    unfolding Answered
+    answer-then b (Done c″ pen″) g = goes-then b g
+    answer-then b (Refused n p) g = (g .0, ends-then b ∙ g .1)
+
+    pub next-drawn : (b : List Event) {r : Drawn} {room″ : List ℕ} → Painted c′ pen′ b room′ r room″ → Painted c pen (a ++ b) room r room″
+    next-drawn b {r} y = record { answer = answer-then b r (y .answer); laid = laid-both b (y .laid) }
+
+-- ---- a loop that draws: what is to be drawn in all, and what of it is left
+
+pub record Going (all : List Event) (c₀ : Counts) (pen₀ : Pen) (room₀ : List ℕ) (left : List Event) (c : Counts) (pen : Pen) (room : List ℕ) : Type 0 where
+  pub done : List Event
+  pub parts : done ++ left ≡ all
+  pub drawn : Painted c₀ pen₀ done room₀ (Done c pen) room
+
+pub begun : (all : List Event) (c : Counts) (pen : Pen) (room : List ℕ) → Reached c pen → Going all c pen room all c pen room
+begun all c pen room h = record { done = []; parts = refl; drawn = still c pen room h }
+
+module _ {all : List Event} {c₀ : Counts} {pen₀ : Pen} {room₀ : List ℕ} {left : List Event} {c : Counts} {pen : Pen} {room : List ℕ}
+    (g : Going all c₀ pen₀ room₀ left c pen room) where
+  pub room-kept : length room ≡ length room₀
+  room-kept = ap length (g .drawn .laid) ∙ length-sets room₀ (pen₀ .at) (bytesOf c₀ pen₀ (g .done))
+
+  pub so-far : Reached c pen
+  so-far = went (g .drawn) .reached
+
+  parts-then : (now rest : List Event) → left ≡ now ++ rest → (g .done ++ now) ++ rest ≡ all
+  parts-then now rest e = append-assoc (g .done) now rest ∙ (ap (λ (l : List Event). g .done ++ l) (sym e) ∙ g .parts)
+
+  pub goes-on : (now rest : List Event) → left ≡ now ++ rest → {c′ : Counts} {pen′ : Pen} {room′ : List ℕ} → Painted c pen now room (Done c′ pen′) room′
+      → Going all c₀ pen₀ room₀ rest c′ pen′ room′
+  goes-on now rest e x = record { done = g .done ++ now; parts = parts-then now rest e; drawn = next-drawn (g .drawn) now x }
+
+  -- what is left draws nothing
+  pub skips : (rest : List Event) → left ≡ rest → Going all c₀ pen₀ room₀ rest c pen room
+  skips rest e = subst (λ (l : List Event). Going all c₀ pen₀ room₀ l c pen room) e g
+
+  pub stops : (now rest : List Event) → left ≡ now ++ rest → {n p : ℕ} {room′ : List ℕ} → Painted c pen now room (Refused n p) room′
+      → Painted c₀ pen₀ all room₀ (Refused n p) room′
+  stops now rest e {n} {p} {room′} x =
+      subst (λ (l : List Event). Painted c₀ pen₀ l room₀ (Refused n p) room′) (parts-then now rest e) (cut rest (next-drawn (g .drawn) now x))
+
+  pub over : left ≡ [] → Painted c₀ pen₀ all room₀ (Done c pen) room
+  over e =
+      subst (λ (l : List Event). Painted c₀ pen₀ l room₀ (Done c pen) room)
+      (sym (append-nil (g .done)) ∙ (ap (λ (l : List Event). g .done ++ l) (sym e) ∙ g .parts)) (g .drawn)

@@ -1,0 +1,114 @@
+-- One shape drawn: the refusals 16 and 17, or its lines.
+-- Assumes nothing.
+use mathlib.Core.Path.{_≡_, refl, sym, ap, _∙_, subst}
+use mathlib.Core.Bool.{Bool, true, false}
+use mathlib.Core.List.{List, [], _∷_, _++_, append-nil}
+use Prim.Native.Nat.{ℕ, _+_, _-_, _*_, _≤_}
+use native.Mathlib.Omega.{arith}
+use lib.IntN.{ℤ}
+use lib.ListN.{length, take, drop}
+use lib.Seq.{sets}
+use Rattle.definition.specs.Words.{any}
+use Rattle.definition.specs.Commands.{Shape, Turn}
+use Rattle.definition.specs.Faults.{beyond, both}
+use Rattle.definition.specs.Turns.{moved}
+use Rattle.definition.specs.Drawing.{Chain, Event, drew, refused, drawShape}
+use Rattle.definition.specs.Drawing.{Drawn as Shown}
+use Rattle.definition.specs.Counts.{counted, goOn, ending, shapesOf}
+use Rattle.definition.specs.Flat.{numbersOfShape, line, spaced, said, lines}
+use Rattle.turns.specs.Nets.{Carries}
+use Rattle.turns.specs.declared.Net.{Net}
+use Rattle.pen.specs.Names.{nameOf}
+use Rattle.pen.specs.Writes.{Writes, layerLine}
+use Rattle.pen.proofs.Lines.{Handed, shape-said, layer-line-length}
+use Rattle.pen.proofs.Shapes.{placed-moved, part-placed}
+use Rattle.counts.specs.declared.Counts.{Counts}
+use Rattle.counts.specs.declared.Counted.{Counted}
+use Rattle.counts.specs.declared.Counted.the-variants.{More, Full}
+use Rattle.counts.specs.Counting.{CountsShape}
+use Rattle.counts.proofs.Told.{shape-goes, shape-stops, shape-more}
+use Rattle.bodies.specs.declared.Pen.{Pen}
+use Rattle.bodies.specs.declared.Drawn.the-variants.{Done, Refused}
+use Rattle.pen.specs.Moves.{mostValues, ShapedAt, MovesShape}
+use Rattle.bodies.specs.Painting.{goingBy, until, Reached, Answered, Painted}
+use Rattle.bodies.proofs.Painting.{refusal}
+
+module _ {words : List ℤ} {letter end : ℕ} (h : ShapedAt words letter end) (chain : Chain) (ts : List (Turn ℤ)) (net : Net) (carries : Carries ts net) (p : ℕ) (layer : ℕ) where
+  abbrev k : Shape ℤ
+  k = h .shape
+
+  abbrev event : Event
+  event = drawShape chain ts p (nameOf layer) k
+
+  abbrev shown : Shown
+  shown = record { place = p; chain = chain; net = ts; layer-of = nameOf layer; itself = moved ts k }
+
+  module _ {numbers : List ℤ} {far : Bool} {numbers′ : List ℤ} (m : MovesShape net k numbers far numbers′) where
+    tested : any beyond (both (moved ts k .points)) ≡ far
+    tested = ap (λ (x : Shape ℤ). any beyond (both (x .points))) (sym (placed-moved ts net carries k)) ∙ sym (m .test)
+
+    is-far : far ≡ true → event ≡ refused 16 p chain
+    unfolding drawShape
+    is-far e = rw (tested ∙ e)
+
+    is-near : far ≡ false → event ≡ drew shown
+    unfolding drawShape
+    is-near e = rw (tested ∙ e)
+
+    module _ (c : Counts) (pen : Pen) (room : List ℕ) where
+      pub shape-far : far ≡ true → Painted c pen (event ∷ []) room (Refused 16 p) room
+      shape-far e =
+          subst (λ (x : Event). Painted c pen (x ∷ []) room (Refused 16 p) room) (sym (is-far e))
+          (refusal c pen (refused 16 p chain) [] room 16 p chain (unfold counted in refl))
+
+      pub shape-many : far ≡ false → {a : Counted} → CountsShape c a → (n : ℕ) → a ≡ Full n → Painted c pen (event ∷ []) room (Refused n p) room
+      shape-many e count n q =
+          subst (λ (x : Event). Painted c pen (x ∷ []) room (Refused n p) room) (sym (is-near e)) (refusal c pen (drew shown) [] room n p chain (shape-stops c count n q shown))
+
+    -- the numbers that are written
+    pub part-is : end ≤ length numbers → take (end - 2) (drop 2 numbers′) ≡ numbersOfShape (moved ts k)
+    part-is l = part-placed h net m l ∙ ap (λ (x : Shape ℤ). numbersOfShape x) (placed-moved ts net carries k)
+
+    module _ (c : Counts) (pen : Pen) (near : far ≡ false) {a : Counted} (count : CountsShape c a) (more : Counts) (q : a ≡ More more) (reach : Reached c pen)
+        {room₀ room₁ room₂ : List ℕ} {next last : ℕ} {ns : List ℤ}
+        (are : ns ≡ numbersOfShape (moved ts k)) (w₁ : Writes room₀ room₁ (pen .at) next (layerLine (nameOf (pen .layer)) (nameOf layer)))
+        (w₂ : Writes room₁ room₂ next last (line letter (spaced ns))) (short : last ≤ next + 21 * length ns + 3) (size : length ns ≤ mostValues) where
+      abbrev pen′ : Pen
+      pen′ = record { at = last; layer = layer }
+
+      handed : Handed shown layer letter ns
+      unfolding moved
+      handed = record { layer-is = refl; letter-is = h .shaped .letter-is; numbers-are = are }
+
+      both-written : Writes room₀ room₂ (pen .at) last (said (nameOf (pen .layer)) shown)
+      both-written = shape-said (pen .layer) handed w₁ w₂
+
+      reached : Reached more pen′
+      reached =
+          let n = layer-line-length (pen .layer) layer in
+          let (few, is) = shape-more c count more q in
+          subst (λ (x : Counts). Reached x pen′) (sym is)
+          record {
+            calls-most = reach .calls-most;
+            shapes-most = omega (arith, few);
+            place-most = omega (arith, w₁ .ends, n, short, size, reach .place-most);
+          }
+
+      said-so : lines (nameOf (pen .layer)) (shown ∷ []) ≡ said (nameOf (pen .layer)) shown
+      unfolding lines
+      said-so = append-nil (said (nameOf (pen .layer)) shown)
+
+      drew-painted : Painted c pen (drew shown ∷ []) room₀ (Done more pen′) room₂
+      unfolding Answered ending goOn shapesOf until goingBy lines
+      drew-painted = record {
+        answer = record {
+          ends = rw (shape-goes c count more q shown);
+          next = both-written .ends ∙ ap (λ (l : List ℕ). pen .at + length l) (sym said-so);
+          on = λ ds. ap (λ (l : List ℕ). l ++ lines (nameOf layer) ds) (sym said-so);
+          reached = reached;
+        };
+        laid = both-written .laid ∙ (ap (sets room₀ (pen .at)) (sym said-so) ∙ rw (shape-goes c count more q shown));
+      }
+
+      pub shape-near : Painted c pen (event ∷ []) room₀ (Done more pen′) room₂
+      shape-near = subst (λ (x : Event). Painted c pen (x ∷ []) room₀ (Done more pen′) room₂) (sym (is-near near)) drew-painted

@@ -1,0 +1,276 @@
+-- What the loop of `draw_body` keeps: for every scene, body and list that fit, what is left from here is what was to be drawn (proofs/Bodies.antt). The
+-- runs are lent to callees, so their lengths are kept beside it, and the symbols of the open calls.
+-- Assumes nothing.
+use mathlib.Core.Path.{_≡_, refl, sym, ap, _∙_, subst}
+use mathlib.Core.Bool.{Bool, true, false}
+use mathlib.Core.List.{List, [], _∷_, _++_, map}
+use Prim.Native.Nat.{ℕ, _+_, _-_, _*_, _^_, _≤_}
+use native.Mathlib.Omega.{arith}
+use lib.Dec.{T, eqb}
+use lib.IntN.{ℤ, pos, natAbs}
+use lib.Signed.{nonNeg}
+use mir.Syntax.{w32}
+use mir.Val.{Fits, SFits, toZ, ofZ}
+use mir.Facts.{toZ-ofZ}
+use lib.ListN.{length, length-map, take, getD}
+use Rattle.definition.specs.Words.{any}
+use Rattle.definition.specs.Commands.{Number, Shape, Turn, draw, call, layer}
+use Rattle.definition.specs.Standing.{scaledShape, scaledTurn}
+use Rattle.definition.specs.Turns.{offAxes}
+use Rattle.definition.specs.Drawing.{retained, Chain, Event, drawShape, drawBody, drawCall}
+use Rattle.turns.specs.declared.Net.{Net}
+use Rattle.turns.specs.Nets.{Carries, Near}
+use Rattle.turns.specs.Words.{turnsWords}
+use Rattle.turns.proofs.Nets.{near-more}
+use Rattle.pen.specs.Names.{nameOf}
+use Rattle.pieces.specs.Pieces.{behind, Fit, letterF}
+use Rattle.pieces.specs.declared.Spot.{Spot}
+use Rattle.commands.specs.Letters.{letterC, letterL}
+use Rattle.commands.specs.Written.{Written}
+use Rattle.commands.specs.declared.Read.{Read}
+use Rattle.commands.specs.declared.Read.the-variants.{Decoded, Nothing}
+use Rattle.commands.specs.Words.{DecodedOne, ReadsCommand}
+use Rattle.table.specs.declared.Row.{Row}
+use Rattle.counts.specs.declared.Counts.{Counts}
+use Rattle.bodies.specs.declared.Pen.{Pen}
+use Rattle.bodies.specs.declared.Drawn.{Drawn}
+use Rattle.bodies.specs.declared.Drawn.the-variants.{Done, Refused}
+use Rattle.bodies.specs.declared.Call.{Call}
+use Rattle.bodies.specs.Painting.{Reached, Painted}
+use Rattle.pen.specs.Moves.{mostValues, Shaped}
+use Rattle.bodies.specs.Rows.{Body}
+use Rattle.bodies.specs.Scenes.{Scene}
+use Rattle.pen.specs.Moves.{ShapedAt}
+use Rattle.bodies.specs.Calls.{CalledAt, ReadsCall}
+use Rattle.bodies.proofs.Painting.{so-far, room-kept}
+use Rattle.bodies.proofs.Reading.{Met, meets, run-kept, speaks, spoken-layer, shaped-at, called-at}
+use Rattle.bodies.proofs.Letters.{is-shape, is-call, is-finish, is-idle, some-kind, no-kind}
+use Rattle.bodies.proofs.Bodies.{Along, start-body, body-out, body-ended, body-did, body-stopped, shape-now, call-now, body-layer, body-idle}
+use Rattle.bodies.proofs.Carried.{some-list}
+
+-- what a body is to draw where this scene stands
+abbrev pub bodyEvents : {t : List ℕ} {rows : List Row} {drawing : List ℕ} (depth : ℕ) {from a b : ℕ} → Scene t rows drawing (32 - depth) → Body t from a b → List (Turn ℤ) → List Event
+bodyEvents depth s k outer = drawBody (drawCall depth (s .table) (s .chain) outer) (s .chain) outer (retained (k .standing) (k .commands))
+
+-- what `draw_body` promises of its answer
+abbrev pub Draws : (t : List ℕ) (rows : List Row) (drawing : List ℕ) (net : Net) (depth from a b : ℕ) → Counts → Pen → List ℕ → Drawn → List ℕ → Type 0
+Draws t rows drawing net depth from a b c pen room r room′ =
+    (s : Scene t rows drawing (32 - depth)) (k : Body t from a b) (outer : List (Turn ℤ)) → Carries outer net → Painted c pen (bodyEvents depth s k outer) room r room′
+
+pub record Underway (t : List ℕ) (rows : List Row) (net : Net) (depth from a b : ℕ) (c₀ : Counts) (pen₀ : Pen) (words₀ numbers₀ : List ℤ) (drawing₀ room₀ : List ℕ)
+    (words numbers : List ℤ) (drawing room : List ℕ) (spot : Spot) (layer : ℕ) (c : Counts) (pen : Pen) : Type 0 where
+  pub scene : Scene t rows drawing₀ (32 - depth)
+  pub body : Body t from a b
+  pub along : (s : Scene t rows drawing₀ (32 - depth)) (k : Body t from a b) (outer : List (Turn ℤ)) → Carries outer net
+      → Along t a b (drawCall depth (s .table) (s .chain) outer) (s .chain) outer (bodyEvents depth s k outer) c₀ pen₀ room₀ spot layer c pen room
+  pub fit : Fit t spot
+  pub words-kept : length words ≡ length words₀
+  pub numbers-kept : length numbers ≡ length numbers₀
+  pub drawing-kept : length drawing ≡ length drawing₀
+  pub open-kept : take (32 - depth) drawing ≡ take (32 - depth) drawing₀
+
+-- what `draw_call` promises of its answer
+abbrev pub CallDraws : (t : List ℕ) (rows : List Row) (drawing : List ℕ) (net : Net) (depth : ℕ) (askew : Bool) (place symbol : ℕ) → Counts → Pen → List ℕ → Drawn → List ℕ → Type 0
+CallDraws t rows drawing net depth askew place symbol c pen room r room′ =
+    (s : Scene t rows drawing (32 - depth)) (outer ts : List (Turn ℤ)) → askew ≡ offAxes ts → Carries (ts ++ outer) net
+    → Painted c pen (drawCall depth (s .table) (s .chain) outer place symbol ts) room r room′
+
+-- and `draw_shape`
+abbrev pub ShapeDraws : (words : List ℤ) (letter end : ℕ) (net : Net) (l place : ℕ) → Counts → Pen → List ℕ → Drawn → List ℕ → Type 0
+ShapeDraws words letter end net l place c pen room r room′ =
+    (h : ShapedAt words letter end) (chain : Chain) (ts : List (Turn ℤ)) → Carries ts net → Painted c pen (drawShape chain ts place (nameOf l) (h .shape) ∷ []) room r room′
+
+-- the same calls are open where the run begins the same
+abbrev pub same-scene : {t : List ℕ} {rows : List Row} {drawing drawing′ : List ℕ} {level : ℕ} → take level drawing′ ≡ take level drawing → Scene t rows drawing level → Scene t rows drawing′ level
+same-scene e s = record { table = s .table; stands = s .stands; chain = s .chain; open-are = s .open-are ∙ sym e }
+
+behind-fits : {t : List ℕ} {from a b : ℕ} → Body t from a b → Fit t (behind true from)
+behind-fits k = record { within = k .within; state = omega arith }
+
+pub started : {t : List ℕ} {rows : List Row} {net : Net} {depth from a b : ℕ} (c : Counts) (pen : Pen) (words numbers : List ℤ) (drawing room : List ℕ)
+    → Scene t rows drawing (32 - depth) → Body t from a b → Reached c pen → {spot : Spot} → spot ≡ behind true from
+    → Underway t rows net depth from a b c pen words numbers drawing room words numbers drawing room spot 0 c pen
+started {t} {depth = depth} {a = a} {b = b} c pen words numbers drawing room s k r e = record {
+  scene = s;
+  body = k;
+  along =
+      λ s k outer h.
+      let f = drawCall depth (s .table) (s .chain) outer in
+      subst (λ (x : Spot). Along t a b f (s .chain) outer (bodyEvents depth s k outer) c pen room x 0 c pen room) (sym e) (start-body k f (s .chain) outer c pen room r);
+  fit = subst (Fit t) (sym e) (behind-fits k);
+  words-kept = refl;
+  numbers-kept = refl;
+  drawing-kept = refl;
+  open-kept = refl;
+}
+
+-- a word that is not negative is a number of 32 bits without sign
+pub natural-fits : (z : ℤ) (v : ℕ) → z ≡ pos v → SFits w32 z → T (nonNeg (toZ w32 (ofZ w32 z))) × Fits w32 (natAbs (toZ w32 (ofZ w32 z)))
+natural-fits z v e h =
+    subst (λ (y : ℤ). T (nonNeg y) × Fits w32 (natAbs y)) (sym (toZ-ofZ h ∙ e)) (tt, record { fits = let q = subst (λ (y : ℤ). SFits w32 y) e h in omega (arith, q .sfits) })
+
+module _ {t : List ℕ} {rows : List Row} {net : Net} {depth from a b : ℕ} {c₀ : Counts} {pen₀ : Pen} {words₀ numbers₀ : List ℤ} {drawing₀ room₀ : List ℕ}
+    {words numbers : List ℤ} {drawing room : List ℕ} {spot : Spot} {l : ℕ} {c : Counts} {pen : Pen}
+    (w : Underway t rows net depth from a b c₀ pen₀ words₀ numbers₀ drawing₀ room₀ words numbers drawing room spot l c pen) where
+  abbrev Answers : Drawn → List ℕ → Type 0
+  Answers r room′ = Draws t rows drawing₀ net depth from a b c₀ pen₀ room₀ r room′
+
+  -- for the scene and the body that were asked for, and some list
+  here : Along t a b (drawCall depth (w .scene .table) (w .scene .chain) (some-list net .0)) (w .scene .chain) (some-list net .0) (bodyEvents depth (w .scene) (w .body) (some-list net .0))
+      c₀ pen₀ room₀ spot l c pen room
+  here = w .along (w .scene) (w .body) (some-list net .0) (some-list net .1)
+
+  pub reached-here : Reached c pen
+  reached-here = so-far (here .going)
+
+  pub room-here : length room ≡ length room₀
+  room-here = room-kept (here .going)
+
+  -- nothing is left
+  pub was-all : (r : Read) (words′ : List ℤ) → ReadsCommand t spot a b words r words′ → r ≡ Nothing → Answers (Done c pen) room
+  was-all r words′ x e s k outer h = body-out (w .along s k outer h) (subst (λ (y : Read). ReadsCommand t spot a b words y words′) e x .0)
+
+  pub decoded : (r : Read) {words′ : List ℤ} → ReadsCommand t spot a b words r words′ → {kind p n : ℕ} {to : Spot} → r ≡ Decoded kind p n to
+      → (account : Written) × DecodedOne t spot a b account words kind p n to words′
+  decoded r {words′} x e = subst (λ (y : Read). ReadsCommand t spot a b words y words′) e x
+
+  module _ {account : Written} {kind p n : ℕ} {to : Spot} {words′ : List ℤ} (big : mostValues + 2 ≤ length words₀) (r : DecodedOne t spot a b account words kind p n to words′) where
+    abbrev Next : List ℤ → List ℤ → List ℕ → List ℕ → ℕ → Counts → Pen → Type 0
+    Next ws ns drawing′ room′ l′ c′ pen′ = Underway t rows net depth from a b c₀ pen₀ words₀ numbers₀ drawing₀ room₀ ws ns drawing′ room′ to l′ c′ pen′
+
+    pub size-then : mostValues + 2 ≤ length words′
+    size-then = let e = run-kept r in omega (arith, big, w .words-kept)
+
+    -- what was read is the next of what is left
+    met : {f : ℕ → ℕ → List (Turn ℤ) → List Event} {chain : Chain} {outer : List (Turn ℤ)} {all : List Event} (g : Along t a b f chain outer all c₀ pen₀ room₀ spot l c pen room)
+        → Met t (g .standing) (g .commands) kind p n to words′
+    met g = meets (g .told) (g .same-a) (g .same-b) (omega (arith, big, w .words-kept)) r
+
+    onward : {ws ns : List ℤ} {drawing′ room′ : List ℕ} {l′ : ℕ} {c′ : Counts} {pen′ : Pen}
+        → ((s : Scene t rows drawing₀ (32 - depth)) (k : Body t from a b) (outer : List (Turn ℤ)) → Carries outer net
+        → Along t a b (drawCall depth (s .table) (s .chain) outer) (s .chain) outer (bodyEvents depth s k outer) c₀ pen₀ room₀ to l′ c′ pen′ room′)
+        → length ws ≡ length words′ → length ns ≡ length numbers → length drawing′ ≡ length drawing → take (32 - depth) drawing′ ≡ take (32 - depth) drawing
+        → Next ws ns drawing′ room′ l′ c′ pen′
+    onward g q₁ q₂ q₃ q₄ = record {
+      scene = w .scene;
+      body = w .body;
+      along = g;
+      fit = r .fit;
+      words-kept = q₁ ∙ run-kept r ∙ w .words-kept;
+      numbers-kept = q₂ ∙ w .numbers-kept;
+      drawing-kept = q₃ ∙ w .drawing-kept;
+      open-kept = q₄ ∙ w .open-kept;
+    }
+
+    -- its DF
+    pub was-finish : kind ≡ letterF → Answers (Done c pen) room
+    was-finish e s k outer h = let g = w .along s k outer h in body-ended g (met g) (is-finish (met g .voice) e)
+
+    -- a layer: its packed name is the first word behind the two in front
+    layer-word : {f : ℕ → ℕ → List (Turn ℤ) → List Event} {chain : Chain} {outer : List (Turn ℤ)} {all : List Event} (g : Along t a b f chain outer all c₀ pen₀ room₀ spot l c pen room)
+        → kind ≡ letterL → (v : ℕ) × (met g .command ≡ layer (nameOf v)) × (getD words′ 2 (pos 0) ≡ pos v)
+    layer-word g e = spoken-layer (speaks (met g)) e
+
+    pub layer-fits : kind ≡ letterL → SFits w32 (getD words′ 2 (pos 0)) → let z = toZ w32 (ofZ w32 (getD words′ 2 (pos 0))) in T (nonNeg z) × Fits w32 (natAbs z)
+    layer-fits e h = let i = layer-word here e in natural-fits (getD words′ 2 (pos 0)) (i .0) (i .2) h
+
+    pub was-layer : kind ≡ letterL → SFits w32 (getD words′ 2 (pos 0)) → Next words′ numbers drawing room (natAbs (toZ w32 (ofZ w32 (getD words′ 2 (pos 0))))) c pen
+    was-layer e q =
+        onward
+        (λ s k outer h.
+        let g = w .along s k outer h in
+        let i = layer-word g e in
+        body-layer g (met g) _ (i .1 ∙ ap (λ (x : ℕ). layer (nameOf x)) (sym (ap natAbs (toZ-ofZ q ∙ i .2)))))
+        refl refl refl refl
+
+    -- any other command
+    pub was-idle : (kind ≡ letterF → ⊥) → (kind ≡ letterL → ⊥) → (kind ≡ letterC → ⊥) → any (λ x. eqb kind x) (66 ∷ 82 ∷ 87 ∷ 80 ∷ []) ≡ false → Next words′ numbers drawing room l c pen
+    was-idle f i j e =
+        onward (λ s k outer h. let g = w .along s k outer h in body-idle g (met g) (is-idle (met g .voice) (g .opened) (no-kind kind e) j i f)) refl refl refl refl
+
+    -- ---- a shape
+
+    module _ (a-shape : any (λ x. eqb kind x) (66 ∷ 82 ∷ 87 ∷ 80 ∷ []) ≡ true) where
+      one-shape : {f : ℕ → ℕ → List (Turn ℤ) → List Event} {chain : Chain} {outer : List (Turn ℤ)} {all : List Event} (g : Along t a b f chain outer all c₀ pen₀ room₀ spot l c pen room)
+          → (k : Shape Number) × (met g .command ≡ draw k) × Shaped kind (met g .values) (scaledShape (g .standing) k)
+      one-shape g = let i = some-kind kind a-shape in is-shape (met g .voice) (i .0) (i .1)
+
+      pub shape-asked : ShapedAt words′ kind n
+      shape-asked = let i = one-shape here in shaped-at (met here) (scaledShape (here .standing) (i .0)) (i .2) size-then
+
+      pub shape-within : {m : ℕ} → mostValues + 2 ≤ m → n ≤ m
+      shape-within le = let h = shape-asked in omega (arith, h .ends, h .few)
+
+      module _ {room′ : List ℕ} {d : Drawn} (drawn : ShapeDraws words′ kind n net l p c pen room d room′) where
+        shape-painted : {f : ℕ → ℕ → List (Turn ℤ) → List Event} {chain : Chain} {outer : List (Turn ℤ)} {all : List Event} (g : Along t a b f chain outer all c₀ pen₀ room₀ spot l c pen room)
+            → Carries outer net → {y : Drawn} → d ≡ y → Painted c pen (drawShape chain outer p (nameOf l) (scaledShape (g .standing) (one-shape g .0)) ∷ []) room y room′
+        shape-painted {chain = chain} {outer = outer} g h e =
+            let i = one-shape g in
+            let k = scaledShape (g .standing) (i .0) in
+            subst (λ (y : Drawn). Painted c pen (drawShape chain outer p (nameOf l) k ∷ []) room y room′) e (drawn (shaped-at (met g) k (i .2) size-then) chain outer h)
+
+        pub was-shape : {numbers′ : List ℤ} {c′ : Counts} {pen′ : Pen} → d ≡ Done c′ pen′ → length numbers′ ≡ length numbers → Next words′ numbers′ drawing room′ l c′ pen′
+        was-shape e q =
+            onward
+            (λ s k outer h.
+            let g = w .along s k outer h in
+            let i = one-shape g in
+            let x = shape-now g (met g) (i .0) (i .1) in
+            body-did g (met g) _ (x .0) (x .1) (shape-painted g h e))
+            refl q refl refl
+
+        pub shape-refused : {i q : ℕ} → d ≡ Refused i q → Answers (Refused i q) room′
+        shape-refused e s k outer h =
+            let g = w .along s k outer h in
+            let i = one-shape g in
+            let x = shape-now g (met g) (i .0) (i .1) in
+            body-stopped g (met g) _ (x .0) (x .1) (shape-painted g h e)
+
+    -- ---- a call
+
+    module _ (a-call : kind ≡ letterC) where
+      one-call : {f : ℕ → ℕ → List (Turn ℤ) → List Event} {chain : Chain} {outer : List (Turn ℤ)} {all : List Event} (g : Along t a b f chain outer all c₀ pen₀ room₀ spot l c pen room)
+          → (i : Number) × (ts : List (Turn Number)) × (met g .command ≡ call i ts) × (met g .values ≡ i .what ∷ turnsWords (map (scaledTurn (g .standing)) ts)) × (length ts ≤ 32)
+      one-call g = is-call (met g .voice) a-call
+
+      abbrev call-words : {f : ℕ → ℕ → List (Turn ℤ) → List Event} {chain : Chain} {outer : List (Turn ℤ)} {all : List Event} (g : Along t a b f chain outer all c₀ pen₀ room₀ spot l c pen room)
+          → CalledAt words′ n
+      call-words g =
+          let i = one-call g in
+          called-at (met g) (i .0 .what) (map (scaledTurn (g .standing)) (i .1)) (i .3) (omega (arith, i .4, length-map (i .1) (scaledTurn (g .standing))))
+
+      pub call-asked : CalledAt words′ n
+      call-asked = call-words here
+
+      module _ {read : Call} (reads : (h : CalledAt words′ n) → ReadsCall (h .symbol) (h .turns) net read) where
+        pub call-near : depth ≤ 32 → Near ((32 - depth) * 2 ^ 36) net → Near ((33 - depth) * 2 ^ 36) (read .net)
+        call-near le h = near-more (omega arith) (reads call-asked .near ((32 - depth) * 2 ^ 36) h)
+
+        module _ {room′ : List ℕ} {d : Drawn} (drawn : CallDraws t rows drawing (read .net) depth (read .askew) p (read .symbol) c pen room d room′) where
+          call-painted : (s : Scene t rows drawing₀ (32 - depth)) {f : ℕ → ℕ → List (Turn ℤ) → List Event} {chain : Chain} (outer : List (Turn ℤ)) {all : List Event}
+              (g : Along t a b f chain outer all c₀ pen₀ room₀ spot l c pen room) → Carries outer net → {y : Drawn} → d ≡ y
+              → Painted c pen (drawCall depth (s .table) (s .chain) outer p (natAbs (one-call g .0 .what)) (map (scaledTurn (g .standing)) (one-call g .1))) room y room′
+          call-painted s outer g h {y} e =
+              let ts = map (scaledTurn (g .standing)) (one-call g .1) in
+              let x = reads (call-words g) in
+              subst (λ (i : ℕ). Painted c pen (drawCall depth (s .table) (s .chain) outer p i ts) room y room′) (x .symbol)
+              (subst (λ (y : Drawn). Painted c pen (drawCall depth (s .table) (s .chain) outer p (read .symbol) ts) room y room′) e
+              (drawn (same-scene (w .open-kept) s) outer ts (x .askew) (x .carries outer h)))
+
+          pub was-call : {words″ numbers′ : List ℤ} {drawing′ : List ℕ} {c′ : Counts} {pen′ : Pen} → d ≡ Done c′ pen′ → length words″ ≡ length words′ → length numbers′ ≡ length numbers
+              → length drawing′ ≡ length drawing → take (32 - depth) drawing′ ≡ take (32 - depth) drawing → Next words″ numbers′ drawing′ room′ l c′ pen′
+          was-call e q₁ q₂ q₃ q₄ =
+              onward
+              (λ s k outer h.
+              let g = w .along s k outer h in
+              let i = one-call g in
+              let x = call-now g (met g) (i .0) (i .1) (i .2) in
+              body-did g (met g) _ (x .0) (x .1) (call-painted s outer g h e))
+              q₁ q₂ q₃ q₄
+
+          pub call-refused : {i q : ℕ} → d ≡ Refused i q → Answers (Refused i q) room′
+          call-refused e s k outer h =
+              let g = w .along s k outer h in
+              let i = one-call g in
+              let x = call-now g (met g) (i .0) (i .1) (i .2) in
+              body-stopped g (met g) _ (x .0) (x .1) (call-painted s outer g h e)

@@ -1,0 +1,6 @@
+pub mod Painting
+pub mod Voices
+pub mod Rows
+pub mod Scenes
+pub mod Calls
+pub mod Outer

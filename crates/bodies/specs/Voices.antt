@@ -1,0 +1,57 @@
+-- What the words of a command say of it, as far as drawing asks: one case for each kind of command. A running account, not to be believed:
+-- crates/drawing proves (proofs/Voices.antt) that the words of every command of a sound text speak so of the definition's command.
+-- Assumes nothing.
+use mathlib.Core.Path.{_≡_}
+use mathlib.Core.Bool.{Bool, true, false}
+use mathlib.Core.List.{List, [], _∷_, map}
+use Prim.Native.Nat.{ℕ, _≤_}
+use lib.IntN.{ℤ, pos, natAbs}
+use lib.ListN.{length}
+use Rattle.definition.specs.Words.{Placed}
+use Rattle.definition.specs.Commands.{Number, Shape, Turn, Kind, Command, draw, layer, call, start, finish, delete, nothing}
+use Rattle.definition.specs.Standing.{Standing, after, scaledShape, scaledTurn}
+use Rattle.definition.specs.Flat.{letterOf}
+use Rattle.turns.specs.Words.{turnsWords}
+use Rattle.pen.specs.Names.{nameOf}
+use Rattle.pen.specs.Moves.{mostValues, Shaped}
+use Rattle.pieces.specs.Pieces.{letterS, letterF, tooLarge}
+use Rattle.commands.specs.Letters.{letterC, letterD, letterL}
+use Rattle.commands.specs.Written.{Written, lastLetter, insideBehind}
+use Rattle.commands.specs.Words.{wordsOf, kindBy}
+
+-- no letter that drawing knows
+pub record Silent (letter : ℕ) : Type 0 where
+  pub no-shape : (k : Kind) → letter ≡ letterOf k → ⊥
+  pub no-call : letter ≡ letterC → ⊥
+  pub no-layer : letter ≡ letterL → ⊥
+  pub no-start : letter ≡ letterS → ⊥
+  pub no-finish : letter ≡ letterF → ⊥
+  pub no-delete : letter ≡ letterD → ⊥
+
+-- the command c of the account, whose kind is the letter and whose numbers are the values, says a command of the definition where σ stands
+pub data Voice (σ : Standing) (c : Written) (letter : ℕ) (values : List ℤ) : Command → Type 0 where
+  a-shape : {k : Shape Number} → Shaped letter values (scaledShape σ k) → Voice σ c letter values (draw k)
+  a-call : {n : Number} {ts : List (Turn Number)} → letter ≡ letterC → values ≡ n .what ∷ turnsWords (map (scaledTurn σ) ts) → length ts ≤ 32
+      → Voice σ c letter values (call n ts)
+  a-layer : {l : List ℕ} (v : ℕ) → letter ≡ letterL → values ≡ pos v ∷ [] → nameOf v ≡ l → Voice σ c letter values (layer l)
+  a-start : {n a b : Number} → letter ≡ letterS → values ≡ n .what ∷ a .what ∷ b .what ∷ [] → σ .inside ≡ false → natAbs (a .what) ≤ tooLarge → 1 ≤ natAbs (b .what)
+      → c .stopped ≡ true → ((i : Bool) → insideBehind i (c .items) ≡ true) → Voice σ c letter values (start n a b)
+  a-finish : letter ≡ letterF → σ .inside ≡ true → Voice σ c letter values finish
+  a-delete : {n : Number} → letter ≡ letterD → values ≡ n .what ∷ [] → σ .inside ≡ false → Voice σ c letter values (delete n)
+  a-nothing : Silent letter → Voice σ c letter values nothing
+
+-- a command with its place, and its two words in front
+pub record Voiced (σ : Standing) (c : Written) (d : Placed Command) : Type 0 where
+  pub values : List ℤ
+  pub x : ℤ
+  pub y : ℤ
+  pub words : wordsOf (σ .a) (σ .b) c ≡ x ∷ y ∷ values
+  pub few : length values ≤ mostValues
+  pub place : c .place ≡ d .place
+  pub voice : Voice σ c (kindBy (c .letter) (lastLetter c)) values (d .what)
+
+-- commands of the account, one by one, from where σ stands
+pub data Told : Standing → List Written → List (Placed Command) → Type 0 where
+  none-told : {σ : Standing} → Told σ [] []
+  one-told : {σ : Standing} {c : Written} {d : Placed Command} {cs : List Written} {ds : List (Placed Command)} → Voiced σ c d → Told (after (d .what) σ) cs ds
+      → Told σ (c ∷ cs) (d ∷ ds)
