@@ -15,12 +15,12 @@ use Rattle.pieces.specs.Pieces.{stream, behind}
 use Rattle.pieces.specs.declared.Spot.{Spot}
 use Rattle.commands.specs.Written.{written}
 use Rattle.counts.specs.declared.Counts.{Counts}
-use Rattle.bodies.specs.declared.Pen.{Pen}
-use Rattle.bodies.specs.declared.Drawn.the-variants.{Done, Refused}
-use Rattle.bodies.specs.Painting.{Reached, Painted}
+use Rattle.shapes.specs.declared.Pen.{Pen}
+use Rattle.shapes.specs.declared.Drawn.the-variants.{Done, Refused}
+use Rattle.shapes.specs.Painting.{Reached, Painted}
 use Rattle.bodies.specs.Voices.{Told}
 use Rattle.bodies.specs.Rows.{Body}
-use Rattle.bodies.proofs.Painting.{Going, begun, goes-on, skips, stops, over}
+use Rattle.shapes.proofs.Painting.{Going, begun, goes-on, skips, stops, over}
 use Rattle.bodies.proofs.Reading.{Met, none-met}
 use Rattle.bodies.proofs.Steps.{shape-left, call-left, layer-left, nothing-left, finish-left}
 

@@ -7,14 +7,10 @@ use native.Mathlib.Omega.{arith}
 use lib.IntN.{ℤ, pos, natAbs}
 use lib.ListN.{length, drop, getD, length-drop}
 use lib.Seq.{getD-drop, drop-drop}
-use lib.Signed.{mag}
-use mir.Syntax.{w32}
-use mir.Val.{toZ, ofZ}
 use Rattle.turns.specs.Nets.{Composed, Written, IsListed}
 use Rattle.turns.specs.declared.Net.{Net}
 use Rattle.turns.specs.declared.Listed.{Listed}
 use Rattle.turns.proofs.Nets.{carries-both}
-use Rattle.turns.proofs.Signed.{told}
 use Rattle.bodies.specs.Calls.{CalledAt, ReadsCall}
 
 module _ {words : List ℤ} {end : ℕ} (h : CalledAt words end) where
@@ -33,10 +29,10 @@ module _ {words : List ℤ} {end : ℕ} (h : CalledAt words end) where
     few = h .few;
   }
 
-  pub call-read : {list : Listed} {outer both : Net} {n : ℕ} → IsListed (h .turns) list → Composed (list .net) outer both → mag (getD words 2 (pos 0)) < 2 ^ 31
-      → n ≡ natAbs (toZ w32 (ofZ w32 (getD words 2 (pos 0)))) → ReadsCall (h .symbol) (h .turns) outer (record { symbol = n; askew = list .askew; net = both })
-  call-read {list} {outer} {both} is c fit e = record {
-    symbol = e ∙ ap natAbs (told w32 (getD words 2 (pos 0)) fit ∙ symbol-word);
+  pub call-read : {list : Listed} {outer both : Net} {n : ℕ} → IsListed (h .turns) list → Composed (list .net) outer both → n ≡ natAbs (getD words 2 (pos 0))
+      → ReadsCall (h .symbol) (h .turns) outer (record { symbol = n; askew = list .askew; net = both })
+  call-read {list} {outer} {both} is c e = record {
+    symbol = e ∙ ap natAbs symbol-word;
     askew = is .askew;
     carries = λ before b. carries-both (h .turns) before (list .net) outer both (is .carries) b c;
     near = λ most b. c .near (2 ^ 36) most (is .near) b;

@@ -1,13 +1,10 @@
-pub mod Painting
 pub mod Rows
 pub mod Letters
 pub mod Reading
 pub mod Steps
 pub mod Opened
-pub mod Shapes
 pub mod Calls
 pub mod CallWords
-pub mod Magnitudes
 pub mod Bodies
 pub mod Carried
 pub mod Scenes

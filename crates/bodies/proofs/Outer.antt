@@ -22,11 +22,11 @@ use Rattle.pen.specs.Names.{nameOf}
 use Rattle.commands.specs.Letters.{letterC}
 use Rattle.commands.specs.Written.{Written}
 use Rattle.counts.specs.declared.Counts.{Counts}
-use Rattle.bodies.specs.declared.Pen.{Pen}
-use Rattle.bodies.specs.declared.Drawn.{Drawn}
-use Rattle.bodies.specs.declared.Drawn.the-variants.{Done}
+use Rattle.shapes.specs.declared.Pen.{Pen}
+use Rattle.shapes.specs.declared.Drawn.{Drawn}
+use Rattle.shapes.specs.declared.Drawn.the-variants.{Done}
 use Rattle.bodies.specs.declared.Call.{Call}
-use Rattle.bodies.specs.Painting.{Reached, Painted}
+use Rattle.shapes.specs.Painting.{Reached, Painted}
 use Rattle.bodies.specs.Voices.{Voice, a-shape, a-call, a-layer, a-start, a-finish, a-delete, a-nothing}
 use Rattle.pen.specs.Moves.{mostValues, Shaped}
 use Rattle.bodies.specs.Rows.{Stands}
@@ -35,7 +35,7 @@ use Rattle.pen.specs.Moves.{ShapedAt}
 use Rattle.bodies.specs.Calls.{CalledAt, ReadsCall}
 use Rattle.bodies.specs.Outer.{drawnBy, Speaks}
 use Rattle.bodies.proofs.Letters.{is-shape, is-call, some-kind, no-kind}
-use Rattle.bodies.proofs.Painting.{still}
+use Rattle.shapes.proofs.Painting.{still}
 use Rattle.bodies.proofs.Reading.{spoken-shape, spoken-call}
 use Rattle.bodies.proofs.Underway.{CallDraws, ShapeDraws}
 

@@ -24,9 +24,9 @@ use Rattle.counts.specs.declared.Counts.{Counts}
 use Rattle.counts.specs.declared.Counted.{Counted}
 use Rattle.counts.specs.declared.Counted.the-variants.{More}
 use Rattle.counts.specs.Counting.{CountsCall}
-use Rattle.bodies.specs.declared.Pen.{Pen}
-use Rattle.bodies.specs.declared.Drawn.{Drawn}
-use Rattle.bodies.specs.Painting.{Reached, Painted}
+use Rattle.shapes.specs.declared.Pen.{Pen}
+use Rattle.shapes.specs.declared.Drawn.{Drawn}
+use Rattle.shapes.specs.Painting.{Reached, Painted}
 use Rattle.bodies.specs.Rows.{Means, Stands}
 use Rattle.bodies.specs.Scenes.{Scene}
 use Rattle.bodies.proofs.Rows.{Both, neither, these, find-stands}

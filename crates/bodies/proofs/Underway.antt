@@ -32,17 +32,17 @@ use Rattle.commands.specs.declared.Read.the-variants.{Decoded, Nothing}
 use Rattle.commands.specs.Words.{DecodedOne, ReadsCommand}
 use Rattle.table.specs.declared.Row.{Row}
 use Rattle.counts.specs.declared.Counts.{Counts}
-use Rattle.bodies.specs.declared.Pen.{Pen}
-use Rattle.bodies.specs.declared.Drawn.{Drawn}
-use Rattle.bodies.specs.declared.Drawn.the-variants.{Done, Refused}
+use Rattle.shapes.specs.declared.Pen.{Pen}
+use Rattle.shapes.specs.declared.Drawn.{Drawn}
+use Rattle.shapes.specs.declared.Drawn.the-variants.{Done, Refused}
 use Rattle.bodies.specs.declared.Call.{Call}
-use Rattle.bodies.specs.Painting.{Reached, Painted}
+use Rattle.shapes.specs.Painting.{Reached, Painted}
 use Rattle.pen.specs.Moves.{mostValues, Shaped}
 use Rattle.bodies.specs.Rows.{Body}
 use Rattle.bodies.specs.Scenes.{Scene}
 use Rattle.pen.specs.Moves.{ShapedAt}
 use Rattle.bodies.specs.Calls.{CalledAt, ReadsCall}
-use Rattle.bodies.proofs.Painting.{so-far, room-kept}
+use Rattle.shapes.proofs.Painting.{so-far, room-kept}
 use Rattle.bodies.proofs.Reading.{Met, meets, run-kept, speaks, spoken-layer, shaped-at, called-at}
 use Rattle.bodies.proofs.Letters.{is-shape, is-call, is-finish, is-idle, some-kind, no-kind}
 use Rattle.bodies.proofs.Bodies.{Along, start-body, body-out, body-ended, body-did, body-stopped, shape-now, call-now, body-layer, body-idle}

@@ -1,4 +1,3 @@
-pub mod Painting
 pub mod Voices
 pub mod Rows
 pub mod Scenes

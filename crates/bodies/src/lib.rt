@@ -1,24 +1,26 @@
-// One shape, and the cycle: a body draws its calls and a call draws its body, with refusals 11 to 17 (01, "Drawing"). The same code measures, on an empty
-// part, and writes: what is stored past the room's end is dropped.
+// A body draws its calls and a call draws its body, with refusals 11 to 15 (01, "Drawing"). The same code measures, on an empty part, and writes: what is
+// stored past the room's end is dropped.
+use shapes::Drawn;
+use shapes::Pen;
 ghost use mathlib.Core.Path.{_≡_};
 ghost use mathlib.Core.Bool.{true};
 ghost use mathlib.Core.List.{List, [], _∷_, _++_};
 ghost use Prim.Native.Nat.{_+_, _-_, _*_, _^_, _<_, _≤_};
 ghost use lib.Dec.{eqb};
-ghost use lib.IntN.{ℤ, pos, natAbs};
-ghost use lib.ListN.{length, take, getD};
+ghost use lib.IntN.{ℤ};
+ghost use lib.ListN.{length, take};
 ghost use Rattle.grammar.specs.Steps.{KindsLent, NextLent};
 ghost use Rattle.definition.specs.Words.{any};
 ghost use Rattle.definition.specs.Commands.{Turn};
 ghost use Rattle.definition.specs.Turns.{offAxes};
 ghost use Rattle.definition.specs.Table.{Table};
-ghost use Rattle.definition.specs.Drawing.{Chain, retained, drawShape, drawBody, drawCall};
+ghost use Rattle.definition.specs.Drawing.{retained, drawBody, drawCall};
 ghost use Rattle.turns.specs.Nets.{Near, Carries};
 ghost use Rattle.table.specs.Rows.{columns, rowsOf, Sorted};
 ghost use Rattle.pen.specs.Names.{nameOf};
-ghost use Rattle.pen.specs.Moves.{mostValues, ShapedAt};
+ghost use Rattle.pen.specs.Moves.{mostValues};
 ghost use Rattle.pieces.specs.Pieces.{behind};
-ghost use Rattle.bodies.specs.Painting.{Reached, Painted};
+ghost use Rattle.shapes.specs.Painting.{Reached, Painted};
 ghost use Rattle.bodies.specs.Rows.{Body, Stands};
 ghost use Rattle.bodies.specs.Scenes.{Scene};
 ghost use Rattle.bodies.specs.Calls.{CalledAt, ReadsCall};
@@ -26,18 +28,6 @@ ghost use Rattle.bodies.specs.Outer.{drawnBy, Speaks};
 
 // 01, refusal 14: the deepest call.
 pub const DEEPEST: usize = 32;
-
-// Where the next byte of the flat file goes, and the layer of the last shape written, packed, 0 for none.
-pub struct Pen {
-    pub at: usize,
-    pub layer: u32,
-}
-
-// What a function that draws answers: the running counts and how far the pen came, or a refusal's number and place.
-pub enum Drawn {
-    Done(counts::Counts, Pen),
-    Refused(usize, usize),
-}
 
 // Whether a symbol is being drawn: the first `level` of these are (refusal 13).
 fn is_open(symbols: &[usize], level: usize, symbol: usize) -> bool
@@ -52,50 +42,6 @@ fn is_open(symbols: &[usize], level: usize, symbol: usize) -> bool
         i += 1;
     }
     false
-}
-
-// One shape (refusals 16 and 17): an L line, if its layer is not the last one's, and its own line.
-fn draw_shape(
-    words: &[i32],
-    numbers: &mut [i64],
-    room: &mut [u8],
-    letter: u8,
-    end: usize,
-    net: turns::Net,
-    layer: u32,
-    place: usize,
-    counts: counts::Counts,
-    before: Pen,
-) -> Drawn
-    requires { ⌜ ShapedAt (now words) letter end × (end ≤ length (now numbers)) ⌝ }
-    requires { ⌜ Near (2 ^ 61) net × Reached counts before ⌝ }
-    ensures { λ r. ⌜ ((h : ShapedAt (now (words .entry)) letter end) (chain : Chain) (ts : List (Turn ℤ)) → Carries ts net → Painted counts before (drawShape chain ts place (nameOf layer) (h .shape) ∷ []) (now (room .entry)) r (now (room .exit))) ⌝ }
-{
-    if pen::move_shape(words, numbers, letter, end, net) {
-        return Drawn::Refused(16, place);
-    }
-    match counts::count_shape(counts) {
-        counts::Counted::Full(number) => {
-            return Drawn::Refused(number, place);
-        }
-        counts::Counted::More(drawn) => {
-            let at = before.at;
-            let next = pen::put_layer_line(room, at, before.layer, layer);
-            let last = pen::put_line(room, next, letter, &numbers[2..end]);
-            Drawn::Done(drawn, Pen { at: last, layer })
-        }
-    }
-}
-
-// A symbol's number and a scale have no sign.
-fn magnitude(word: i32) -> usize
-    ensures { λ r. ⌜ r ≡ natAbs word ⌝ }
-{
-    let z = word as i64;
-    if z < 0 {
-        return (-z) as usize;
-    }
-    z as usize
 }
 
 // What a call's words say where this net transformation is in force: its symbol, whether an R of its list is off the axes, and what its list and
@@ -114,7 +60,7 @@ fn read_call(words: &[i32], end: usize, outer: turns::Net) -> Call
     let own = list.net;
     let net = turns::compose(own, outer);
     Call {
-        symbol: magnitude(words[2]),
+        symbol: shapes::size_at(words, 2),
         askew: list.askew,
         net,
     }
@@ -304,7 +250,7 @@ fn draw_body<'a>(
                         }
                     }
                 } else if is_drawable(kind) {
-                    match draw_shape(
+                    match shapes::draw_shape(
                         words,
                         numbers,
                         room,
@@ -347,14 +293,6 @@ fn is_drawable(letter: u8) -> bool
         return true;
     }
     false
-}
-
-// A number of a command's words, without its sign.
-pub fn size_at(words: &[i32], i: usize) -> usize
-    requires { ⌜ i < length (now words) ⌝ }
-    ensures { λ r. ⌜ r ≡ natAbs (getD (now (words .entry)) i (pos 0)) ⌝ }
-{
-    magnitude(words[i])
 }
 
 // A command outside of definitions that draws: a call (01: an executable call has depth 1) or a shape. Any other draws nothing.
@@ -415,7 +353,7 @@ pub fn draw_outer<'a>(
         );
     }
     if is_drawable(kind) {
-        return draw_shape(
+        return shapes::draw_shape(
             words,
             numbers,
             room,

@@ -29,14 +29,14 @@ use Rattle.pieces.specs.declared.Spot.{Spot}
 use Rattle.commands.specs.Written.{written}
 use Rattle.counts.specs.declared.Counts.{Counts}
 use Rattle.counts.specs.Counting.{tally, CountsRedefinition}
-use Rattle.bodies.specs.declared.Pen.{Pen}
-use Rattle.bodies.specs.declared.Drawn.the-variants.{Done, Refused}
-use Rattle.bodies.specs.Painting.{Reached, Painted}
+use Rattle.shapes.specs.declared.Pen.{Pen}
+use Rattle.shapes.specs.declared.Drawn.the-variants.{Done, Refused}
+use Rattle.shapes.specs.Painting.{Reached, Painted}
 use Rattle.bodies.specs.Voices.{Told}
 use Rattle.bodies.specs.Rows.{Means, Stands}
 use Rattle.drawing.specs.Outside.{Opens, behindStart, definitionAt, Passes, Takes}
 use Rattle.bodies.proofs.Rows.{Both, neither, these, stands-length, find-stands, enter-stands}
-use Rattle.bodies.proofs.Painting.{quiet, refusal}
+use Rattle.shapes.proofs.Painting.{quiet, refusal}
 
 -- ---- rows
 

@@ -22,15 +22,15 @@ use Rattle.pieces.specs.declared.Spot.{Spot}
 use Rattle.commands.specs.Letters.{letterD, letterL}
 use Rattle.commands.specs.Written.{Written, written}
 use Rattle.counts.specs.declared.Counts.{Counts}
-use Rattle.bodies.specs.declared.Pen.{Pen}
-use Rattle.bodies.specs.declared.Drawn.the-variants.{Done, Refused}
-use Rattle.bodies.specs.Painting.{Painted}
+use Rattle.shapes.specs.declared.Pen.{Pen}
+use Rattle.shapes.specs.declared.Drawn.the-variants.{Done, Refused}
+use Rattle.shapes.specs.Painting.{Painted}
 use Rattle.bodies.specs.Voices.{Voice, a-shape, a-call, a-layer, a-start, a-finish, a-delete, a-nothing, Told}
 use Rattle.bodies.specs.Rows.{Stands, none-stand}
 use Rattle.bodies.specs.Outer.{drawnBy}
 use Rattle.drawing.specs.Outside.{Opens, behindStart, definitionAt, Passes}
 use Rattle.drawing.specs.Passed.{Passed, toDraw, noneYet, atStart}
-use Rattle.bodies.proofs.Painting.{Going, begun, so-far, goes-on, skips, stops, over, quiet}
+use Rattle.shapes.proofs.Painting.{Going, begun, so-far, goes-on, skips, stops, over, quiet}
 use Rattle.bodies.proofs.Reading.{Met, none-met}
 use Rattle.bodies.proofs.Letters.{is-start}
 use Rattle.bodies.proofs.Rows.{forget-stands}

@@ -26,18 +26,18 @@ use Rattle.commands.specs.declared.Read.{Read}
 use Rattle.commands.specs.declared.Read.the-variants.{Nothing}
 use Rattle.commands.specs.Words.{DecodedOne, ReadsCommand}
 use Rattle.counts.specs.declared.Counts.{Counts}
-use Rattle.bodies.specs.declared.Pen.{Pen}
-use Rattle.bodies.specs.declared.Drawn.{Drawn}
-use Rattle.bodies.specs.declared.Drawn.the-variants.{Done, Refused}
+use Rattle.shapes.specs.declared.Pen.{Pen}
+use Rattle.shapes.specs.declared.Drawn.{Drawn}
+use Rattle.shapes.specs.declared.Drawn.the-variants.{Done, Refused}
 use Rattle.drawing.specs.declared.Defined.{Defined}
 use Rattle.drawing.specs.declared.Defined.the-variants.{Taken, Overfull}
-use Rattle.bodies.specs.Painting.{Reached, Answered, Painted}
+use Rattle.shapes.specs.Painting.{Reached, Answered, Painted}
 use Rattle.pen.specs.Moves.{mostValues}
 use Rattle.bodies.specs.Rows.{Stands}
 use Rattle.bodies.specs.Outer.{drawnBy, Speaks}
 use Rattle.drawing.specs.Outside.{Opens, Takes, Defines}
 use Rattle.drawing.specs.Passed.{Passed, toDraw, noneYet, atStart}
-use Rattle.bodies.proofs.Painting.{so-far, room-kept}
+use Rattle.shapes.proofs.Painting.{so-far, room-kept}
 use Rattle.bodies.proofs.Reading.{Met, meets, run-kept, read-none, speaks, spoken-layer, third-word}
 use Rattle.bodies.proofs.Letters.{is-delete}
 use Rattle.drawing.proofs.Redefinitions.{drawn-same}

@@ -17,9 +17,9 @@ use Rattle.definition.specs.Table.{Step, shape, instance, Definition, Table, fi
 use Rattle.definition.specs.Drawing.{Chain, Event, called, drew, entered, removed, refused, drawShape, drawStep, drawBody, callFault, unless, drawCall}
 use Rattle.definition.proofs.Counting.{redefinitionsOf, counted-all}
 use Rattle.counts.specs.declared.Counts.{Counts}
-use Rattle.bodies.specs.declared.Pen.{Pen}
+use Rattle.shapes.specs.declared.Pen.{Pen}
 use Rattle.counts.specs.Counting.{tally}
-use Rattle.bodies.specs.Painting.{Goes}
+use Rattle.shapes.specs.Painting.{Goes}
 use Rattle.bodies.specs.Outer.{drawnBy}
 
 abbrev Bare : List Event → Type 0

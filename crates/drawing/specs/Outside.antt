@@ -17,11 +17,11 @@ use Rattle.pieces.specs.Pieces.{stream, behind, tooLarge, Fit}
 use Rattle.pieces.specs.declared.Spot.{Spot}
 use Rattle.commands.specs.Written.{written}
 use Rattle.counts.specs.declared.Counts.{Counts}
-use Rattle.bodies.specs.declared.Pen.{Pen}
-use Rattle.bodies.specs.declared.Drawn.the-variants.{Done, Refused}
+use Rattle.shapes.specs.declared.Pen.{Pen}
+use Rattle.shapes.specs.declared.Drawn.the-variants.{Done, Refused}
 use Rattle.drawing.specs.declared.Defined.{Defined}
 use Rattle.drawing.specs.declared.Defined.the-variants.{Taken, Overfull}
-use Rattle.bodies.specs.Painting.{Reached, Painted}
+use Rattle.shapes.specs.Painting.{Reached, Painted}
 use Rattle.bodies.specs.Voices.{Told}
 use Rattle.bodies.specs.Rows.{Stands}
 

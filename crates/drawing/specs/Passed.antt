@@ -13,7 +13,7 @@ use Rattle.definition.specs.Faults.{firstFault}
 use Rattle.definition.specs.Drawing.{Event}
 use Rattle.definition.specs.Answer.{drawingOf}
 use Rattle.counts.specs.declared.Counts.{Counts}
-use Rattle.bodies.specs.declared.Pen.{Pen}
+use Rattle.shapes.specs.declared.Pen.{Pen}
 
 -- a text that refusals 1 to 9 let pass
 pub record Passed (t : List ℕ) : Type 0 where

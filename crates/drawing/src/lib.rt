@@ -1,6 +1,6 @@
 // The pass over a text: definitions are entered in the table and their bodies passed over, with refusal 10, and all else outside them is drawn (01,
 // "Drawing"), by crate bodies.
-use bodies::Drawn;
+use shapes::Drawn;
 ghost use mathlib.Core.Path.{_≡_};
 ghost use mathlib.Core.Bool.{true};
 ghost use mathlib.Core.List.{List};
@@ -15,7 +15,7 @@ ghost use Rattle.table.specs.Rows.{columns, rowsOf, Sorted, Sized};
 ghost use Rattle.pen.specs.Moves.{mostValues};
 ghost use Rattle.pieces.specs.Pieces.{tooLarge, stream, Fit};
 ghost use Rattle.commands.specs.Written.{written};
-ghost use Rattle.bodies.specs.Painting.{Painted};
+ghost use Rattle.shapes.specs.Painting.{Painted};
 ghost use Rattle.bodies.specs.Voices.{Told};
 ghost use Rattle.bodies.specs.Rows.{Stands};
 ghost use Rattle.drawing.specs.Outside.{Opens, Passes, Defines};
@@ -93,9 +93,9 @@ fn define<'a>(
     requires { ⌜ (length (now text) ≤ 16777216) × (counts .redefinitions ≤ length (now text)) ⌝ }
     ensures { λ r. ⌜ ((h : Opens (now (text .entry)) (now (words .entry)) from) (table : Table) → Stands (now (text .entry)) (rowsOf (columns (now (symbols .entry)) (now (places .entry)) (now (starts .entry)) (now (ends .entry)) (now (factors .entry)) (now (divisors .entry))) count) table → Defines (now (text .entry)) (columns (now (symbols .exit)) (now (places .exit)) (now (starts .exit)) (now (ends .exit)) (now (factors .exit)) (now (divisors .exit))) (now (words .entry)) from place counts h table r) ⌝ }
 {
-    let symbol = bodies::size_at(words, 2);
-    let a = bodies::size_at(words, 3);
-    let b = bodies::size_at(words, 4);
+    let symbol = shapes::size_at(words, 2);
+    let a = shapes::size_at(words, 3);
+    let b = shapes::size_at(words, 4);
     let body = skip_body(text, kinds, next, words, from, a, b);
     let behind = body.to;
     let row = table::Row {
@@ -141,7 +141,7 @@ fn draw_text<'a>(
     let mut layer: u32 = 0;
     let mut count: usize = 0;
     let mut done = counts::no_counts();
-    let mut pen = bodies::Pen { at: 0, layer: 0 };
+    let mut pen = shapes::Pen { at: 0, layer: 0 };
     loop {
         match commands::read_command(text, kinds, next, words, spot, 1, 1) {
             commands::Read::Nothing => {
@@ -152,7 +152,7 @@ fn draw_text<'a>(
                 if kind == b'L' {
                     layer = words[2] as u32;
                 } else if kind == b'D' {
-                    let symbol = bodies::size_at(words, 2);
+                    let symbol = shapes::size_at(words, 2);
                     count = table::delete(symbols, count, symbol);
                 } else if kind == b'S' {
                     match define(

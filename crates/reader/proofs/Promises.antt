@@ -30,12 +30,12 @@ use Rattle.pen.proofs.Names.{no-name}
 use Rattle.pen.proofs.Writing.{both, written, begins}
 use Rattle.counts.specs.declared.Counts.{Counts}
 use Rattle.counts.specs.Counting.{tally}
-use Rattle.bodies.specs.declared.Pen.{Pen}
-use Rattle.bodies.specs.declared.Drawn.{Drawn}
-use Rattle.bodies.specs.declared.Drawn.the-variants as drawing
-use Rattle.bodies.specs.Painting.{bytesOf, Goes, Answered, Painted}
+use Rattle.shapes.specs.declared.Pen.{Pen}
+use Rattle.shapes.specs.declared.Drawn.{Drawn}
+use Rattle.shapes.specs.declared.Drawn.the-variants as drawing
+use Rattle.shapes.specs.Painting.{bytesOf, Goes, Answered, Painted}
 use Rattle.drawing.specs.Passed.{Passed, toDraw, noneYet, atStart}
-use Rattle.bodies.proofs.Painting.{until-all}
+use Rattle.shapes.proofs.Painting.{until-all}
 use Rattle.reader.specs.Host.{answerWords, Told}
 use Rattle.reader.specs.Screened.{Screened, over, within}
 

@@ -1,15 +1,15 @@
 // The reader (01, "What the reader takes and gives"): `flatten` answers of any text and any room, and `cif_flatten` the same for hosts. Refusals 1 and 18
-// stand here, 2 to 9 in reading, 10 to 17 in drawing and bodies.
-use bodies::Drawn;
+// stand here, 2 to 9 in reading, 10 to 17 in drawing, bodies and shapes.
 use commands::Fault;
 use definition::Answer;
+use shapes::Drawn;
 ghost use mathlib.Core.Path.{_≡_};
 ghost use mathlib.Core.List.{_∷_, []};
 ghost use Prim.Native.Nat.{_^_, _≤_};
 ghost use lib.Seq.{sets};
 ghost use Rattle.definition.specs.Counts.{counts};
 ghost use Rattle.definition.specs.Answer.{answer, Promised};
-ghost use Rattle.bodies.specs.Painting.{bytesOf};
+ghost use Rattle.shapes.specs.Painting.{bytesOf};
 ghost use Rattle.drawing.specs.Passed.{Passed, toDraw, noneYet, atStart};
 ghost use Rattle.reader.specs.Host.{Told};
 ghost use Rattle.reader.specs.Screened.{Screened};

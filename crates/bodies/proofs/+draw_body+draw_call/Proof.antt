@@ -22,7 +22,7 @@ use Rattle.bodies.proofs.draw_call.Kinds as draw-call-kinds
 use Rattle.bodies.proofs.+draw_body+draw_call.Lts-draw_call as draw-call-lts
 use Rattle.counts.proofs.count_call.Reads as count-call-reads
 use Rattle.bodies.proofs.body_at.Reads as body-at-reads
-use Rattle.bodies.proofs.draw_shape.Reads as draw-shape-reads
+use Rattle.shapes.proofs.draw_shape.Reads as draw-shape-reads
 use Rattle.bodies.proofs.is_drawable.Reads as is-drawable-reads
 use Rattle.bodies.proofs.is_open.Reads as is-open-reads
 use Rattle.bodies.proofs.read_call.Reads as read-call-reads

@@ -8,7 +8,7 @@ use Rattle.bodies.proofs.read_call.Statement.{statement}
 use Rattle.bodies.proofs.read_call.Tie as tie
 use Rattle.bodies.proofs.read_call.Reads as reads
 use Rattle.bodies.proofs.read_call.Lts as lts
-use Rattle.bodies.proofs.magnitude.Reads as magnitude-reads
+use Rattle.shapes.proofs.size_at.Reads as size-at-reads
 use Rattle.turns.proofs.compose.Reads as compose-reads
 use Rattle.turns.proofs.list_net.Reads as list-net-reads
 
@@ -18,14 +18,11 @@ list-net-requires c κs = call-list (c .pre .0)
 compose-requires : tie.Need-compose-requires
 compose-requires c κs = (near-more (omega arith) (c .before .list-net .ensures (call-list (c .before .before .pre .0)) .near), near-more (omega arith) (c .before .before .pre .1))
 
-shared-slice-copy-out-magnitude : tie.Need-shared-slice-copy-out-magnitude
-shared-slice-copy-out-magnitude c = symbol-there (c .before .before .before .pre .0)
-
-magnitude-requires : tie.Need-magnitude-requires
-magnitude-requires c κs = search needs
+size-at-requires : tie.Need-size-at-requires
+size-at-requires c κs = symbol-there (c .before .before .before .pre .0)
 
 returns : tie.Need-returns
-returns c = λ h. call-read h (c .before .before .before .before .list-net .ensures (call-list h)) (c .before .before .compose .ensures) (c .before .magnitude-arg .given) (c .magnitude .ensures)
+returns c = λ h. call-read h (c .before .before .before .list-net .ensures (call-list h)) (c .before .compose .ensures) (c .size-at .ensures)
 
 pub read-call-spec : {M : Type 1} → statement M
 read-call-spec =
@@ -33,6 +30,5 @@ read-call-spec =
     (tie.spec
     list-net-requires
     compose-requires
-    shared-slice-copy-out-magnitude
-    magnitude-requires
+    size-at-requires
     returns)

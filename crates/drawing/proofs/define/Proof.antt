@@ -9,7 +9,7 @@ use Rattle.drawing.proofs.define.Tie as tie
 use Rattle.drawing.proofs.define.Reads as reads
 use Rattle.drawing.proofs.define.Lts as lts
 use Rattle.counts.proofs.count_redefinition.Reads as count-redefinition-reads
-use Rattle.bodies.proofs.size_at.Reads as size-at-reads
+use Rattle.shapes.proofs.size_at.Reads as size-at-reads
 use Rattle.drawing.proofs.skip_body.Reads as skip-body-reads
 use Rattle.table.proofs.enter.Reads as enter-reads
 

@@ -15,7 +15,7 @@ use Rattle.drawing.proofs.draw_text.Lts as lts
 use Rattle.counts.proofs.no_counts.Reads as no-counts-reads
 use Rattle.drawing.proofs.define.Reads as define-reads
 use Rattle.bodies.proofs.draw_outer.Reads as draw-outer-reads
-use Rattle.bodies.proofs.size_at.Reads as size-at-reads
+use Rattle.shapes.proofs.size_at.Reads as size-at-reads
 use Rattle.commands.proofs.read_command.Reads as read-command-reads
 use Rattle.table.proofs.delete.Reads as delete-reads
 

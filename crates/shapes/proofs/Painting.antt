@@ -17,11 +17,11 @@ use Rattle.pen.specs.Names.{nameOf}
 use Rattle.pen.specs.Writes.{Writes}
 use Rattle.pen.proofs.Writing.{both, written}
 use Rattle.counts.specs.declared.Counts.{Counts}
-use Rattle.bodies.specs.declared.Pen.{Pen}
-use Rattle.bodies.specs.declared.Drawn.{Drawn}
-use Rattle.bodies.specs.declared.Drawn.the-variants.{Done, Refused}
+use Rattle.shapes.specs.declared.Pen.{Pen}
+use Rattle.shapes.specs.declared.Drawn.{Drawn}
+use Rattle.shapes.specs.declared.Drawn.the-variants.{Done, Refused}
 use Rattle.counts.specs.Counting.{tally}
-use Rattle.bodies.specs.Painting.{goingBy, until, bytesOf, Reached, Goes, Answered, Painted}
+use Rattle.shapes.specs.Painting.{goingBy, until, bytesOf, Reached, Goes, Answered, Painted}
 
 pub never : (n p : ℕ) (chain : Chain) (c : Tally) → stopped n p chain ≡ finished c → ⊥
 never n p chain c e = let z : _≡_ {A = ℕ} 0 1 = cc in omega arith

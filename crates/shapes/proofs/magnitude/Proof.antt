@@ -1,11 +1,11 @@
 -- `magnitude` meets its contract, for every number of 32 bits.
 -- Assumes nothing.
 use Rattle.turns.proofs.Signed.{wide}
-use Rattle.bodies.proofs.Magnitudes.{turn-fits, below-zero, from-zero}
-use Rattle.bodies.proofs.magnitude.Statement.{statement}
-use Rattle.bodies.proofs.magnitude.Tie as tie
-use Rattle.bodies.proofs.magnitude.Reads as reads
-use Rattle.bodies.proofs.magnitude.Lts as lts
+use Rattle.shapes.proofs.Magnitudes.{turn-fits, below-zero, from-zero}
+use Rattle.shapes.proofs.magnitude.Statement.{statement}
+use Rattle.shapes.proofs.magnitude.Tie as tie
+use Rattle.shapes.proofs.magnitude.Reads as reads
+use Rattle.shapes.proofs.magnitude.Lts as lts
 
 cast-z : tie.Need-cast-z
 cast-z c = wide (c .args .word) (c .fits .word)

@@ -14,9 +14,9 @@ use Rattle.definition.specs.Flat.{lines}
 use Rattle.pen.specs.Names.{nameOf}
 use Rattle.counts.specs.declared.Counts.{Counts}
 use Rattle.counts.specs.Counting.{tally}
-use Rattle.bodies.specs.declared.Pen.{Pen}
-use Rattle.bodies.specs.declared.Drawn.{Drawn}
-use Rattle.bodies.specs.declared.Drawn.the-variants.{Done, Refused}
+use Rattle.shapes.specs.declared.Pen.{Pen}
+use Rattle.shapes.specs.declared.Drawn.{Drawn}
+use Rattle.shapes.specs.declared.Drawn.the-variants.{Done, Refused}
 
 -- the events before the first that is refused
 unfoldable pub goingBy : End → Event → (Tally → List Event) → List Event

@@ -27,11 +27,11 @@ use Rattle.counts.specs.declared.Counted.{Counted}
 use Rattle.counts.specs.declared.Counted.the-variants.{More, Full}
 use Rattle.counts.specs.Counting.{CountsShape}
 use Rattle.counts.proofs.Told.{shape-goes, shape-stops, shape-more}
-use Rattle.bodies.specs.declared.Pen.{Pen}
-use Rattle.bodies.specs.declared.Drawn.the-variants.{Done, Refused}
+use Rattle.shapes.specs.declared.Pen.{Pen}
+use Rattle.shapes.specs.declared.Drawn.the-variants.{Done, Refused}
 use Rattle.pen.specs.Moves.{mostValues, ShapedAt, MovesShape}
-use Rattle.bodies.specs.Painting.{goingBy, until, Reached, Answered, Painted}
-use Rattle.bodies.proofs.Painting.{refusal}
+use Rattle.shapes.specs.Painting.{goingBy, until, Reached, Answered, Painted}
+use Rattle.shapes.proofs.Painting.{refusal}
 
 module _ {words : List ℤ} {letter end : ℕ} (h : ShapedAt words letter end) (chain : Chain) (ts : List (Turn ℤ)) (net : Net) (carries : Carries ts net) (p : ℕ) (layer : ℕ) where
   abbrev k : Shape ℤ

@@ -6,11 +6,11 @@ use lib.ListN.{getD}
 use mir.Syntax.{w32}
 use Rattle.turns.proofs.Signed.{told}
 use borrow.Author.Needs.{needs}
-use Rattle.bodies.proofs.size_at.Statement.{statement}
-use Rattle.bodies.proofs.size_at.Tie as tie
-use Rattle.bodies.proofs.size_at.Reads as reads
-use Rattle.bodies.proofs.size_at.Lts as lts
-use Rattle.bodies.proofs.magnitude.Reads as magnitude-reads
+use Rattle.shapes.proofs.size_at.Statement.{statement}
+use Rattle.shapes.proofs.size_at.Tie as tie
+use Rattle.shapes.proofs.size_at.Reads as reads
+use Rattle.shapes.proofs.size_at.Lts as lts
+use Rattle.shapes.proofs.magnitude.Reads as magnitude-reads
 
 mul-magnitude : tie.Need-mul-magnitude
 mul-magnitude c = search needs
