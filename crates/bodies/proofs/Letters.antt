@@ -20,7 +20,7 @@ use Rattle.pieces.specs.Pieces.{letterS, letterF, tooLarge}
 use Rattle.commands.specs.Letters.{letterC, letterD, letterL}
 use Rattle.commands.specs.Written.{Written, insideBehind}
 use Rattle.bodies.specs.Voices.{Voice, a-shape, a-call, a-layer, a-start, a-finish, a-delete, a-nothing}
-use Rattle.pen.specs.Moves.{Shaped}
+use Rattle.moves.specs.Moves.{Shaped}
 
 -- no shape has the letter of another command
 record Drawable (n : ℕ) : Type 0 where

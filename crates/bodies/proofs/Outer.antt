@@ -28,10 +28,10 @@ use Rattle.shapes.specs.declared.Drawn.the-variants.{Done}
 use Rattle.bodies.specs.declared.Call.{Call}
 use Rattle.shapes.specs.Painting.{Reached, Painted}
 use Rattle.bodies.specs.Voices.{Voice, a-shape, a-call, a-layer, a-start, a-finish, a-delete, a-nothing}
-use Rattle.pen.specs.Moves.{mostValues, Shaped}
+use Rattle.moves.specs.Moves.{mostValues, Shaped}
 use Rattle.bodies.specs.Rows.{Stands}
 use Rattle.bodies.specs.Scenes.{Scene}
-use Rattle.pen.specs.Moves.{ShapedAt}
+use Rattle.moves.specs.Moves.{ShapedAt}
 use Rattle.bodies.specs.Calls.{CalledAt, ReadsCall}
 use Rattle.bodies.specs.Outer.{drawnBy, Speaks}
 use Rattle.bodies.proofs.Letters.{is-shape, is-call, some-kind, no-kind}

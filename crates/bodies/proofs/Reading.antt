@@ -22,8 +22,8 @@ use Rattle.commands.specs.declared.Read.{Read}
 use Rattle.commands.specs.declared.Read.the-variants.{Decoded, Nothing}
 use Rattle.commands.specs.Words.{wordsOf, insideFirst, DecodedOne, ReadsCommand}
 use Rattle.bodies.specs.Voices.{Voice, Voiced, Told, none-told, one-told}
-use Rattle.pen.specs.Moves.{mostValues, Shaped}
-use Rattle.pen.specs.Moves.{ShapedAt}
+use Rattle.moves.specs.Moves.{mostValues, Shaped}
+use Rattle.moves.specs.Moves.{ShapedAt}
 use Rattle.bodies.specs.Calls.{CalledAt}
 use Rattle.bodies.specs.Outer.{Speaks}
 use Rattle.bodies.proofs.Letters.{is-layer}

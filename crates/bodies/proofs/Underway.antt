@@ -37,10 +37,10 @@ use Rattle.shapes.specs.declared.Drawn.{Drawn}
 use Rattle.shapes.specs.declared.Drawn.the-variants.{Done, Refused}
 use Rattle.bodies.specs.declared.Call.{Call}
 use Rattle.shapes.specs.Painting.{Reached, Painted}
-use Rattle.pen.specs.Moves.{mostValues, Shaped}
+use Rattle.moves.specs.Moves.{mostValues, Shaped}
 use Rattle.bodies.specs.Rows.{Body}
 use Rattle.bodies.specs.Scenes.{Scene}
-use Rattle.pen.specs.Moves.{ShapedAt}
+use Rattle.moves.specs.Moves.{ShapedAt}
 use Rattle.bodies.specs.Calls.{CalledAt, ReadsCall}
 use Rattle.shapes.proofs.Painting.{so-far, room-kept}
 use Rattle.bodies.proofs.Reading.{Met, meets, run-kept, speaks, spoken-layer, shaped-at, called-at}

@@ -10,7 +10,7 @@ use Rattle.definition.specs.Commands.{Command, draw, layer, call, start, finish
 use Rattle.definition.specs.Standing.{Standing, scaledShape, scaledTurn}
 use Rattle.definition.specs.Table.{Table}
 use Rattle.definition.specs.Drawing.{Event, drawShape, drawCall}
-use Rattle.pen.specs.Moves.{mostValues}
+use Rattle.moves.specs.Moves.{mostValues}
 use Rattle.commands.specs.Written.{Written}
 use Rattle.bodies.specs.Voices.{Voice}
 

@@ -13,7 +13,7 @@ use Rattle.definition.specs.Standing.{Standing, after, scaledShape, scaledTurn}
 use Rattle.definition.specs.Flat.{letterOf}
 use Rattle.turns.specs.Words.{turnsWords}
 use Rattle.pen.specs.Names.{nameOf}
-use Rattle.pen.specs.Moves.{mostValues, Shaped}
+use Rattle.moves.specs.Moves.{mostValues, Shaped}
 use Rattle.pieces.specs.Pieces.{letterS, letterF, tooLarge}
 use Rattle.commands.specs.Letters.{letterC, letterD, letterL}
 use Rattle.commands.specs.Written.{Written, lastLetter, insideBehind}

@@ -18,7 +18,7 @@ ghost use Rattle.definition.specs.Drawing.{retained, drawBody, drawCall};
 ghost use Rattle.turns.specs.Nets.{Near, Carries};
 ghost use Rattle.table.specs.Rows.{columns, rowsOf, Sorted};
 ghost use Rattle.pen.specs.Names.{nameOf};
-ghost use Rattle.pen.specs.Moves.{mostValues};
+ghost use Rattle.moves.specs.Moves.{mostValues};
 ghost use Rattle.pieces.specs.Pieces.{behind};
 ghost use Rattle.shapes.specs.Painting.{Reached, Painted};
 ghost use Rattle.bodies.specs.Rows.{Body, Stands};

@@ -32,7 +32,7 @@ use Rattle.shapes.specs.declared.Drawn.the-variants.{Done, Refused}
 use Rattle.drawing.specs.declared.Defined.{Defined}
 use Rattle.drawing.specs.declared.Defined.the-variants.{Taken, Overfull}
 use Rattle.shapes.specs.Painting.{Reached, Answered, Painted}
-use Rattle.pen.specs.Moves.{mostValues}
+use Rattle.moves.specs.Moves.{mostValues}
 use Rattle.bodies.specs.Rows.{Stands}
 use Rattle.bodies.specs.Outer.{drawnBy, Speaks}
 use Rattle.drawing.specs.Outside.{Opens, Takes, Defines}

@@ -37,7 +37,7 @@ use Rattle.reading.proofs.Facing.{faces}
 use Rattle.reading.proofs.Agree.{Fits, Faultless, near-most, not-zero}
 use Rattle.reading.proofs.Exact.{turnValues, valuesOf, kindOf, exactWords, few-values, AllExact, none-left, one-exact, all-exact}
 use Rattle.bodies.specs.Voices.{Silent, Voice, a-shape, a-call, a-layer, a-start, a-finish, a-delete, a-nothing, Voiced, Told, none-told, one-told}
-use Rattle.pen.specs.Moves.{sizeCount, directionCount}
+use Rattle.moves.specs.Moves.{sizeCount, directionCount}
 
 -- the transformations of a call are kept in the words that crates/turns reads
 turns-kept : (ts : List (Turn ℤ)) → flatMap turnValues ts ≡ turnsWords ts

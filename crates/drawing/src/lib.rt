@@ -12,7 +12,7 @@ ghost use Rattle.definition.specs.Commands.{Command};
 ghost use Rattle.definition.specs.Standing.{Standing};
 ghost use Rattle.definition.specs.Table.{Table};
 ghost use Rattle.table.specs.Rows.{columns, rowsOf, Sorted, Sized};
-ghost use Rattle.pen.specs.Moves.{mostValues};
+ghost use Rattle.moves.specs.Moves.{mostValues};
 ghost use Rattle.pieces.specs.Pieces.{tooLarge, stream, Fit};
 ghost use Rattle.commands.specs.Written.{written};
 ghost use Rattle.shapes.specs.Painting.{Painted};

@@ -4,5 +4,3 @@ pub mod Signs
 pub mod Numbers
 pub mod Names
 pub mod Lines
-pub mod Moves
-pub mod Shapes

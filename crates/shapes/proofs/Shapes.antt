@@ -21,7 +21,7 @@ use Rattle.turns.specs.declared.Net.{Net}
 use Rattle.pen.specs.Names.{nameOf}
 use Rattle.pen.specs.Writes.{Writes, layerLine}
 use Rattle.pen.proofs.Lines.{Handed, shape-said, layer-line-length}
-use Rattle.pen.proofs.Shapes.{placed-moved, part-placed}
+use Rattle.moves.proofs.Shapes.{placed-moved, part-placed}
 use Rattle.counts.specs.declared.Counts.{Counts}
 use Rattle.counts.specs.declared.Counted.{Counted}
 use Rattle.counts.specs.declared.Counted.the-variants.{More, Full}
@@ -29,7 +29,7 @@ use Rattle.counts.specs.Counting.{CountsShape}
 use Rattle.counts.proofs.Told.{shape-goes, shape-stops, shape-more}
 use Rattle.shapes.specs.declared.Pen.{Pen}
 use Rattle.shapes.specs.declared.Drawn.the-variants.{Done, Refused}
-use Rattle.pen.specs.Moves.{mostValues, ShapedAt, MovesShape}
+use Rattle.moves.specs.Moves.{mostValues, ShapedAt, MovesShape}
 use Rattle.shapes.specs.Painting.{goingBy, until, Reached, Answered, Painted}
 use Rattle.shapes.proofs.Painting.{refusal}
 

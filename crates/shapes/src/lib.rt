@@ -8,7 +8,7 @@ ghost use Rattle.definition.specs.Commands.{Turn};
 ghost use Rattle.definition.specs.Drawing.{Chain, drawShape};
 ghost use Rattle.turns.specs.Nets.{Near, Carries};
 ghost use Rattle.pen.specs.Names.{nameOf};
-ghost use Rattle.pen.specs.Moves.{ShapedAt};
+ghost use Rattle.moves.specs.Moves.{ShapedAt};
 ghost use Rattle.shapes.specs.Painting.{Reached, Painted};
 
 // Where the next byte of the flat file goes, and the layer of the last shape written, packed, 0 for none.
@@ -40,7 +40,7 @@ pub fn draw_shape(
     requires { ⌜ Near (2 ^ 61) net × Reached counts before ⌝ }
     ensures { λ r. ⌜ ((h : ShapedAt (now (words .entry)) letter end) (chain : Chain) (ts : List (Turn ℤ)) → Carries ts net → Painted counts before (drawShape chain ts place (nameOf layer) (h .shape) ∷ []) (now (room .entry)) r (now (room .exit))) ⌝ }
 {
-    if pen::move_shape(words, numbers, letter, end, net) {
+    if moves::move_shape(words, numbers, letter, end, net) {
         return Drawn::Refused(16, place);
     }
     match counts::count_shape(counts) {

@@ -3,14 +3,14 @@
 use native.Mathlib.Omega.{arith}
 use borrow.Author.Needs.{needs}
 use Rattle.pen.proofs.Lines.{layer-line-length}
-use Rattle.pen.proofs.Shapes.{part-few}
+use Rattle.moves.proofs.Shapes.{part-few}
 use Rattle.shapes.proofs.Shapes.{shape-far, shape-many, shape-near, part-is}
 use Rattle.shapes.proofs.draw_shape.Statement.{statement}
 use Rattle.shapes.proofs.draw_shape.Tie as tie
 use Rattle.shapes.proofs.draw_shape.Reads as reads
 use Rattle.shapes.proofs.draw_shape.Lts as lts
 use Rattle.counts.proofs.count_shape.Reads as count-shape-reads
-use Rattle.pen.proofs.move_shape.Reads as move-shape-reads
+use Rattle.moves.proofs.move_shape.Reads as move-shape-reads
 use Rattle.pen.proofs.put_layer_line.Reads as put-layer-line-reads
 use Rattle.pen.proofs.put_line.Reads as put-line-reads
 

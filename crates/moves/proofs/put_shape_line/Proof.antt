@@ -1,10 +1,10 @@
--- `pen::put_shape_line` meets its contract: nothing is written of a shape that is beyond the range, and else its line (proofs/Shapes.antt).
+-- `put_shape_line` meets its contract: nothing is written of a shape that is beyond the range, and else its line (proofs/Shapes.antt).
 -- Assumes nothing.
 use native.Mathlib.Omega.{arith}
 use borrow.Author.Needs.{needs}
-use Rattle.pen.proofs.Shapes.{far-unlined, near-lined, part-few}
-use Rattle.pen.proofs.put_shape_line.Statement.{statement}
-use Rattle.pen.proofs.put_shape_line.Tie as tie
+use Rattle.moves.proofs.Shapes.{far-unlined, near-lined, part-few}
+use Rattle.moves.proofs.put_shape_line.Statement.{statement}
+use Rattle.moves.proofs.put_shape_line.Tie as tie
 
 move-shape-requires : tie.Need-move-shape-requires
 move-shape-requires c κs = search needs

@@ -5,8 +5,8 @@ use lib.IntN.{pos}
 use lib.ListN.{set, getD}
 use borrow.Author.Needs.{needs}
 use Rattle.turns.proofs.Signed.{wide, worth}
-use Rattle.pen.proofs.copy_number.Statement.{statement}
-use Rattle.pen.proofs.copy_number.Tie as tie
+use Rattle.moves.proofs.copy_number.Statement.{statement}
+use Rattle.moves.proofs.copy_number.Tie as tie
 
 mul-numbers : tie.Need-mul-numbers
 mul-numbers c = search needs

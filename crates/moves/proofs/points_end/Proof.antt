@@ -3,9 +3,9 @@
 use mathlib.Core.Path.{sym, _∙_}
 use native.Mathlib.Omega.{arith}
 use borrow.Author.Needs.{needs}
-use Rattle.pen.proofs.Moves.{directions-B, directions-other}
-use Rattle.pen.proofs.points_end.Statement.{statement}
-use Rattle.pen.proofs.points_end.Tie as tie
+use Rattle.moves.proofs.Moves.{directions-B, directions-other}
+use Rattle.moves.proofs.points_end.Statement.{statement}
+use Rattle.moves.proofs.points_end.Tie as tie
 
 sub-result : tie.Need-sub-result
 sub-result c = search needs

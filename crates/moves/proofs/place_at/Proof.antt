@@ -9,10 +9,10 @@ use lib.ListN.{getD}
 use lib.Seq.{sets}
 use Rattle.definition.specs.Words.{Point}
 use Rattle.definition.specs.Faults.{beyond}
-use Rattle.pen.proofs.Moves.{point-told}
+use Rattle.moves.proofs.Moves.{point-told}
 use borrow.Author.Needs.{needs}
-use Rattle.pen.proofs.place_at.Statement.{statement}
-use Rattle.pen.proofs.place_at.Tie as tie
+use Rattle.moves.proofs.place_at.Statement.{statement}
+use Rattle.moves.proofs.place_at.Tie as tie
 
 add-j : tie.Need-add-j
 add-j c = search needs

@@ -2,9 +2,9 @@
 -- Assumes nothing.
 use mathlib.Core.Path.{sym, _∙_}
 use native.Mathlib.Omega.{arith}
-use Rattle.pen.proofs.Moves.{sizes-P, sizes-B, sizes-other}
-use Rattle.pen.proofs.first_point.Statement.{statement}
-use Rattle.pen.proofs.first_point.Tie as tie
+use Rattle.moves.proofs.Moves.{sizes-P, sizes-B, sizes-other}
+use Rattle.moves.proofs.first_point.Statement.{statement}
+use Rattle.moves.proofs.first_point.Tie as tie
 
 returns : tie.Need-returns
 returns c = record { behind-sizes = λ k e. omega (arith, sizes-P k (sym e ∙ c .if1 .taken)) }

@@ -21,8 +21,8 @@ use Rattle.turns.specs.Nets.{asPoint, apply, turned}
 use Rattle.turns.specs.declared.Net.{Net}
 use Rattle.turns.specs.declared.Pair.{Pair}
 use Rattle.turns.proofs.Signed.{told}
-use Rattle.pen.specs.Moves.{sizeCount, directionCount, BeginAt, EndAt, Copied, Pointed, Moves, ShapedAt, MovesShape}
+use Rattle.moves.specs.Moves.{sizeCount, directionCount, BeginAt, EndAt, Copied, Pointed, Moves, ShapedAt, MovesShape}
 use Rattle.pen.proofs.Writing.{sets-append}
 
 both-++ : (a b : List (Point ℤ)) → both (a ++ b) ≡ both a ++ both b
 both-++ [] b = refl

@@ -3,9 +3,9 @@
 use mathlib.Core.Path.{refl}
 use native.Mathlib.Omega.{arith}
 use borrow.Author.Needs.{needs}
-use Rattle.pen.proofs.Moves.{none-copied, one-copied}
-use Rattle.pen.proofs.copy_sizes.Statement.{statement}
-use Rattle.pen.proofs.copy_sizes.Tie as tie
+use Rattle.moves.proofs.Moves.{none-copied, one-copied}
+use Rattle.moves.proofs.copy_sizes.Statement.{statement}
+use Rattle.moves.proofs.copy_sizes.Tie as tie
 
 returns : tie.Need-returns
 returns c = none-copied (omega arith)

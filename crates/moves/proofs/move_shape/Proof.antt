@@ -3,9 +3,9 @@
 use mathlib.Core.Path.{refl}
 use native.Mathlib.Omega.{arith}
 use borrow.Author.Needs.{needs}
-use Rattle.pen.proofs.Moves.{in-order, pointed, box-ends, unaimed-moved, aimed-moved}
-use Rattle.pen.proofs.move_shape.Statement.{statement}
-use Rattle.pen.proofs.move_shape.Tie as tie
+use Rattle.moves.proofs.Moves.{in-order, pointed, box-ends, unaimed-moved, aimed-moved}
+use Rattle.moves.proofs.move_shape.Statement.{statement}
+use Rattle.moves.proofs.move_shape.Tie as tie
 
 first-point-requires : tie.Need-first-point-requires
 first-point-requires c κs = search needs

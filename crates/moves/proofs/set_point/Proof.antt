@@ -5,8 +5,8 @@ use native.Mathlib.Numerals.{add-one}
 use mir.Syntax.{w64}
 use Rattle.turns.proofs.Signed.{told}
 use borrow.Author.Needs.{needs}
-use Rattle.pen.proofs.set_point.Statement.{statement}
-use Rattle.pen.proofs.set_point.Tie as tie
+use Rattle.moves.proofs.set_point.Statement.{statement}
+use Rattle.moves.proofs.set_point.Tie as tie
 
 add-j : tie.Need-add-j
 add-j c = search needs

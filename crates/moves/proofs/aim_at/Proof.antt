@@ -8,9 +8,9 @@ use lib.ListN.{getD}
 use lib.Seq.{sets}
 use borrow.Author.Needs.{needs}
 use Rattle.definition.specs.Words.{Point}
-use Rattle.pen.proofs.Moves.{aim-told}
-use Rattle.pen.proofs.aim_at.Statement.{statement}
-use Rattle.pen.proofs.aim_at.Tie as tie
+use Rattle.moves.proofs.Moves.{aim-told}
+use Rattle.moves.proofs.aim_at.Statement.{statement}
+use Rattle.moves.proofs.aim_at.Tie as tie
 
 add-j : tie.Need-add-j
 add-j c = search needs

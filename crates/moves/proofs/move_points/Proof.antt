@@ -3,10 +3,10 @@
 use mathlib.Core.Bool.{true}
 use Prim.Native.Nat.{_-_}
 use native.Mathlib.Omega.{arith}
-use Rattle.pen.specs.Moves.{Pointed}
-use Rattle.pen.proofs.Moves.{Moving, begin, numbers-length, pair-fits, one-point, one-far, none-far, all-moved}
-use Rattle.pen.proofs.move_points.Statement.{statement}
-use Rattle.pen.proofs.move_points.Tie as tie
+use Rattle.moves.specs.Moves.{Pointed}
+use Rattle.moves.proofs.Moves.{Moving, begin, numbers-length, pair-fits, one-point, one-far, none-far, all-moved}
+use Rattle.moves.proofs.move_points.Statement.{statement}
+use Rattle.moves.proofs.move_points.Tie as tie
 
 abbrev Inv-loop : tie.InvT-loop
 Inv-loop words numbers₀ from end net far₀ next₀ numbers far next = (h : Pointed words from end) → Moving words end net (h .points) numbers₀ from next far numbers

@@ -16,12 +16,12 @@ use Rattle.definition.specs.Turns.{moved}
 use Rattle.turns.specs.Nets.{apply, turned, Carries}
 use Rattle.turns.specs.declared.Net.{Net}
 use Rattle.turns.proofs.Nets.{moved-by}
-use Rattle.pen.specs.declared.Lined.{Lined}
-use Rattle.pen.specs.declared.Lined.the-variants.{Beyond, Written}
+use Rattle.moves.specs.declared.Lined.{Lined}
+use Rattle.moves.specs.declared.Lined.the-variants.{Beyond, Written}
 use Rattle.pen.specs.Writes.{Writes}
-use Rattle.pen.specs.Moves.{mostValues, ShapedAt, placed, placedNumbers, MovesShape, LineOf, PutsShape}
+use Rattle.moves.specs.Moves.{mostValues, ShapedAt, placed, placedNumbers, MovesShape, LineOf, PutsShape}
 use Rattle.pen.proofs.Writing.{same-bytes, one-outcome}
-use Rattle.pen.proofs.Moves.{map-both}
+use Rattle.moves.proofs.Moves.{map-both}
 
 pub placed-moved : (ts : List (Turn ℤ)) (net : Net) → Carries ts net → (k : Shape ℤ) → placed net k ≡ moved ts k
 placed-moved ts net c k = sym (moved-by ts net k c)
