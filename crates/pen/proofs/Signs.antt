@@ -2,17 +2,19 @@
 -- Assumes nothing.
 use mathlib.Core.Path.{_≡_, refl, sym, ap, _∙_, subst}
 use mathlib.Core.Bool.{Bool, true, false, cond}
-use mathlib.Core.List.{_∷_}
+use mathlib.Core.List.{[], _∷_, _++_}
 use Prim.Native.Nat.{ℕ, zero, suc, _+_, _≤_, _<_}
 use native.Mathlib.Numerals.{add-one}
 use native.Mathlib.Omega.{arith}
-use borrow.Author.Tests.{ltb-true}
+use borrow.Author.Tests.{ltb-true, leb-false, le-ltb}
 use lib.IntN.{ℤ, pos, negsuc, natAbs, _+ℤ_, _-ℤ_, +ℤ-idl, +ℤ-one}
-use lib.Signed.{ltZ, mag, natAbs-le}
+use lib.ListN.{length}
+use lib.Signed.{ltZ, leZ, mag, natAbs-le}
 use mir.Facts.{toZ-ofZ}
 use mir.Syntax.{w64}
 use mir.Val.{SFits, toZ, ofZ}
 use Rattle.definition.specs.Flat.{shortest, decimal}
+use Rattle.pen.specs.Writes.{sign, space, number}
 
 abbrev pub wrap : ℤ → ℤ
 wrap z = toZ w64 (ofZ w64 z)
@@ -63,14 +65,44 @@ pub positive : (z : ℤ) → SFits w64 z → ltZ (wrap z) (pos 0) ≡ false → 
 positive (pos n) f e = record { size = n; is = refl; small = f .sfits }
 positive (negsuc n) f e = absurd (let t : true ≡ false = rw (toZ-ofZ f) at e in subst (λ (b : Bool). cond b (Unit {0}) ⊥) t tt)
 
--- the bytes that are written
-pub with-sign : (z : ℤ) (h : Negative z) → 45 ∷ shortest (natAbs (wrap (turn z)) + 1) ≡ decimal z
-unfolding decimal
-with-sign z h = rw (h .turned, h .is, add-one)
+-- the same test turned round
+pub at-least : (z : ℤ) → SFits w64 z → leZ (pos 0) (wrap z) ≡ true → ltZ (wrap z) (pos 0) ≡ false
+at-least (pos n) f e = rw (toZ-ofZ f) (le-ltb n 0 (omega arith))
+at-least (negsuc n) f e = absurd (let t : false ≡ true = rw (toZ-ofZ f) at e in subst (λ (b : Bool). cond b ⊥ (Unit {0})) t tt)
 
-pub without-sign : (z : ℤ) → SFits w64 z → (h : Positive z) → shortest (natAbs (wrap z)) ≡ decimal z
+pub at-most : (z : ℤ) → SFits w64 z → leZ (pos 0) (wrap z) ≡ false → ltZ (wrap z) (pos 0) ≡ true
+at-most (pos n) f e = absurd (let t = rw (toZ-ofZ f) at e in omega (arith, leb-false 0 n t))
+at-most (negsuc n) f e = rw (toZ-ofZ f)
+
+-- the size, and the sign before it
+pub size-turned : (z : ℤ) (h : Negative z) → natAbs (wrap (turn z)) + 1 ≡ natAbs z
+size-turned z h = rw (h .turned, h .is, add-one)
+
+pub size-kept : (z : ℤ) → SFits w64 z → natAbs (wrap z) ≡ natAbs z
+size-kept z f = rw (toZ-ofZ f)
+
+pub minus : (z : ℤ) → Negative z → 45 ∷ [] ≡ sign z
+minus z h = rw (h .is)
+
+pub no-minus : (z : ℤ) → Positive z → [] ≡ sign z
+no-minus z h = rw (h .is)
+
+pub sign-short : (z : ℤ) → length (sign z) ≤ 1
+sign-short (pos n) = omega arith
+sign-short (negsuc n) = omega arith
+
+pub space-short : (first : Bool) → length (space first) ≤ 1
+space-short true = omega arith
+space-short false = omega arith
+
+pub sign-size : (z : ℤ) → sign z ++ shortest (natAbs z) ≡ decimal z
 unfolding decimal
-without-sign z f h = rw (toZ-ofZ f, h .is)
+sign-size (pos n) = refl
+sign-size (negsuc n) = refl
+
+pub space-number : (first : Bool) (z : ℤ) → space first ++ decimal z ≡ number first z
+space-number true z = refl
+space-number false z = refl
 
 -- an element of a lent run
 pub lent : (z : ℤ) → mag z < 9223372036854775808 → (wrap z ≡ z) × (natAbs z ≤ 9223372036854775808)

@@ -4,7 +4,7 @@ use mathlib.Core.Path.{_≡_}
 use mathlib.Core.Bool.{Bool}
 use mathlib.Core.List.{List, [], _∷_}
 use Prim.Native.Nat.{ℕ, _+_}
-use lib.IntN.{ℤ}
+use lib.IntN.{ℤ, pos, negsuc}
 use lib.ListN.{length}
 use lib.Seq.{sets}
 use Rattle.definition.specs.Words.{if_then_else_, same}
@@ -15,6 +15,14 @@ pub record Writes (old new : List ℕ) (at next : ℕ) (bytes : List ℕ) : Type
   pub kept : length new ≡ length old
   pub laid : new ≡ sets old at bytes
   pub ends : next ≡ at + length bytes
+
+-- what stands before a number's digits, and before a number of a line
+abbrev pub sign : ℤ → List ℕ
+sign (pos n) = []
+sign (negsuc n) = 45 ∷ []
+
+abbrev pub space : Bool → List ℕ
+space first = if first then [] else 32 ∷ []
 
 -- a number of a line: the first of them, or one behind a space
 abbrev pub number : Bool → ℤ → List ℕ

@@ -3,10 +3,11 @@
 ghost use mathlib.Core.Path.{_≡_};
 ghost use mathlib.Core.List.{_∷_, []};
 ghost use Prim.Native.Nat.{_+_, _*_, _^_, _≤_};
+ghost use lib.IntN.{natAbs};
 ghost use lib.ListN.{length};
 ghost use lib.Seq.{sets};
 ghost use Rattle.definition.specs.Flat.{shortest, decimal, spaced, line};
-ghost use Rattle.pen.specs.Writes.{Writes, number, layerLine};
+ghost use Rattle.pen.specs.Writes.{Writes, sign, space, number, layerLine};
 ghost use Rattle.pen.specs.Names.{nameOf};
 
 pub fn put(room: &mut [u8], at: usize, byte: u8) -> usize
@@ -61,27 +62,51 @@ pub fn put_digits(room: &mut [u8], at: usize, n: u64) -> usize
     end
 }
 
-// The lowest number of 64 bits has no positive of its own, so one is added before the sign is turned, and again behind.
+// How far a number is from zero. The lowest number of 64 bits has no positive of its own, so one is added before the sign is turned, and again behind.
+fn size_of(z: i64) -> u64
+    ensures { λ r. ⌜ r ≡ natAbs z ⌝ }
+{
+    if 0 <= z {
+        return z as u64;
+    }
+    (-(z + 1)) as u64 + 1
+}
+
+fn put_sign(room: &mut [u8], at: usize, z: i64) -> usize
+    requires { ⌜ at ≤ 2 ^ 61 ⌝ }
+    ensures { λ r. ⌜ Writes (now (room .entry)) (now (room .exit)) at r (sign z) ⌝ }
+{
+    if z < 0 {
+        return put(room, at, b'-');
+    }
+    at
+}
+
+// The sign apart, so that the digits are written at one place in the code.
 pub fn put_decimal(room: &mut [u8], at: usize, z: i64) -> usize
     requires { ⌜ at ≤ 2 ^ 61 ⌝ }
     ensures { λ r. ⌜ Writes (now (room .entry)) (now (room .exit)) at r (decimal z) ⌝ }
 {
-    if z < 0 {
-        let next = put(room, at, b'-');
-        return put_digits(room, next, (-(z + 1)) as u64 + 1);
-    }
-    put_digits(room, at, z as u64)
+    let next = put_sign(room, at, z);
+    put_digits(room, next, size_of(z))
 }
 
 // A space stands before every number but a line's first.
+fn put_space(room: &mut [u8], at: usize, first: bool) -> usize
+    requires { ⌜ at ≤ 2 ^ 60 ⌝ }
+    ensures { λ r. ⌜ Writes (now (room .entry)) (now (room .exit)) at r (space first) ⌝ }
+{
+    if first {
+        return at;
+    }
+    put(room, at, b' ')
+}
+
 pub fn put_number(room: &mut [u8], at: usize, first: bool, z: i64) -> usize
     requires { ⌜ at ≤ 2 ^ 60 ⌝ }
     ensures { λ r. ⌜ Writes (now (room .entry)) (now (room .exit)) at r (number first z) ⌝ }
 {
-    if first {
-        return put_decimal(room, at, z);
-    }
-    let next = put(room, at, b' ');
+    let next = put_space(room, at, first);
     put_decimal(room, next, z)
 }
 
