@@ -21,7 +21,8 @@ use Rattle.definition.proofs.Demand1.{located}
 use Rattle.pen.specs.Writes.{Writes}
 use Rattle.pen.specs.Names.{packed}
 use Rattle.pen.proofs.Writing.{nothing, both, same-bytes, one-outcome}
-use Rattle.listing.specs.Account.{fresh, nowhere, printed, spanOf, totalLine, windowOf, refusedLine, account}
+use Rattle.lines.specs.Followed.{fresh, nowhere}
+use Rattle.listing.specs.Account.{printed, spanOf, totalLine, windowOf, refusedLine, account}
 use Rattle.listing.specs.Listed.{Walks, Listed}
 use Rattle.listing.specs.declared.Walked.{Walked}
 use Rattle.listing.proofs.Lines.{lines-printed}

@@ -25,8 +25,9 @@ use Rattle.definition.proofs.Spelling.{NameChar}
 use Rattle.definition.proofs.Sound.{Sound}
 use Rattle.pen.specs.Names.{packed, nameOf}
 use Rattle.pen.proofs.Names.{name-back, sound-name}
-use Rattle.listing.specs.Account.{line, fresh, opened, named, lineAfter, heading, wrote, printed, pushed, ends}
-use Rattle.listing.specs.declared.Line.{Line}
+use Rattle.lines.specs.Followed.{line, fresh, opened, named, lineAfter, pushed, ends}
+use Rattle.lines.specs.declared.Line.{Line}
+use Rattle.listing.specs.Account.{heading, wrote, printed}
 
 -- ---- bytes by the tests that are made of them
 

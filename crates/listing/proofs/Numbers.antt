@@ -18,10 +18,11 @@ use Rattle.definition.proofs.Rows.{same-eq}
 use Rattle.definition.proofs.Decimals.{DigitByte, val, val-grows, digit-low, digit-high, shortest-is}
 use Rattle.definition.proofs.Sound.{Near}
 use Rattle.pen.specs.Names.{packed}
-use Rattle.listing.specs.Account.{line, fresh, named, lineAfter, numeral, ends, numeralAfter, valueOf, includes, axisOf, spanAfter, spanned}
-use Rattle.listing.specs.declared.Line.{Line}
-use Rattle.listing.specs.declared.Numeral.{Numeral}
-use Rattle.listing.specs.declared.Span.{Span}
+use Rattle.lines.specs.Followed.{line, fresh, named, lineAfter, numeral, ends, numeralAfter, valueOf, includes, axisOf, spanAfter}
+use Rattle.lines.specs.declared.Line.{Line}
+use Rattle.lines.specs.declared.Numeral.{Numeral}
+use Rattle.lines.specs.declared.Span.{Span}
+use Rattle.listing.specs.Account.{spanned}
 use Rattle.listing.proofs.Lines.{Inner, Drawing, gathered, layer-read, named-by, opens-layer, opens-shape, stays, line-ends}
 
 -- a number that is taken or not, and all numbers from index i on

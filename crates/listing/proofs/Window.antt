@@ -22,8 +22,9 @@ use Rattle.definition.proofs.Spelling.{NameChar}
 use Rattle.definition.proofs.Sound.{Sound}
 use Rattle.definition.proofs.Lengths.{numbers-near}
 use Rattle.pen.specs.Names.{packed}
-use Rattle.listing.specs.Account.{fresh, numeral, span, nowhere, lower, higher, includes, alternate, axisOf, spanAfter, spanned, windowOf}
-use Rattle.listing.specs.declared.Span.{Span}
+use Rattle.lines.specs.Followed.{fresh, numeral, span, nowhere, lower, higher, includes, alternate, axisOf, spanAfter}
+use Rattle.lines.specs.declared.Span.{Span}
+use Rattle.listing.specs.Account.{spanned, windowOf}
 use Rattle.listing.proofs.Short.{numbers-least}
 use Rattle.listing.proofs.Lines.{Inner, draws, name-inner, said-is}
 use Rattle.listing.proofs.Numbers.{takes, taken, shape-taken, layer-taken}

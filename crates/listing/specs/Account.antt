@@ -3,46 +3,24 @@
 -- Assumes nothing.
 use mathlib.Core.Bool.{Bool, true, false}
 use mathlib.Core.List.{List, [], _∷_, _++_}
-use Prim.Native.Nat.{ℕ, _+_, _-_, _*_, _/_, _%_}
+use Prim.Native.Nat.{ℕ}
 use lib.Dec.{eqb, ltb}
-use lib.IntN.{ℤ, pos, negℤ}
+use lib.IntN.{pos}
 use lib.ListN.{length}
-use lib.Signed.{leZ}
 use Rattle.definition.specs.Words.{if_then_else_, bytesOf}
 use Rattle.definition.specs.Flat.{decimal}
 use Rattle.definition.specs.Listing.{fields}
 use Rattle.definition.specs.declared.Answer.{Answer}
 use Rattle.pen.specs.Names.{nameOf}
-use Rattle.listing.specs.declared.Line.{Line}
-use Rattle.listing.specs.declared.Numeral.{Numeral}
-use Rattle.listing.specs.declared.Span.{Span}
+use Rattle.lines.specs.Followed.{fresh, lineAfter, numeral, numeralAfter, nowhere, spanAfter}
+use Rattle.lines.specs.declared.Line.{Line}
+use Rattle.lines.specs.declared.Numeral.{Numeral}
+use Rattle.lines.specs.declared.Span.{Span}
 
--- ---- the line that is being read
-
-abbrev pub line : (count layer unit letter : ℕ) → Line
-line n l u c = record { count = n; layer = l; unit = u; letter = c }
-
-abbrev pub fresh : (count layer : ℕ) → Line  -- at a line's start
-fresh n l = line n l 0 0
+-- ---- the lines of all shapes
 
 abbrev pub quiet : ℕ → Bool  -- lines that are not listed: L and E
 quiet c = if eqb c 76 then true else eqb c 69
-
-unfoldable pub opened : Line → ℕ → Line  -- with its letter
-opened s b =
-    if eqb b 76 then line (s .count) 0 16777216 b
-    else if eqb b 69 then line (s .count) (s .layer) (s .unit) b
-    else line (s .count + 1) (s .layer) (s .unit) b
-
-unfoldable pub named : Line → ℕ → Line  -- with a letter of a layer's name, which is packed as the pen has it
-named s b = if eqb b 59 then s else line (s .count) (s .layer + b * s .unit) (s .unit / 256) (s .letter)
-
-unfoldable pub lineAfter : Line → ℕ → Line
-lineAfter s b =
-    if eqb b 10 then fresh (s .count) (s .layer)
-    else if eqb (s .letter) 0 then opened s b
-    else if eqb (s .letter) 76 then named s b
-    else s
 
 -- what is written of a shape before its numbers: `shape`, its count, layer, kind letter
 unfoldable pub heading : (count layer letter : ℕ) → List ℕ
@@ -60,70 +38,16 @@ unfoldable pub printed : Line → List ℕ → List ℕ
 printed s [] = []
 printed s (b ∷ l) = wrote s b ++ printed (lineAfter s b) l
 
--- ---- the number that is being read
-
-abbrev pub numeral : (index : ℕ) (negative : Bool) (value : ℕ) → Numeral
-numeral i n v = record { index = i; negative = n; value = v }
-
-abbrev pub pushed : ℕ → ℕ → ℕ  -- with one digit more; values are held where they pass 16,777,215
-pushed v b = if ltb b 48 then v else if ltb 57 b then v else if ltb 16777215 v then v else 10 * v + (b - 48)
-
-abbrev pub ends : ℕ → Bool  -- a number ends at a space and at a semicolon
-ends b = if eqb b 32 then true else eqb b 59
-
-unfoldable pub numeralAfter : Numeral → ℕ → Numeral
-numeralAfter n b =
-    if eqb b 10 then numeral 0 false 0
-    else if eqb b 45 then numeral (n .index) true (n .value)
-    else if ends b then numeral (n .index + 1) false 0
-    else numeral (n .index) (n .negative) (pushed (n .value) b)
-
-abbrev pub valueOf : Numeral → ℤ
-valueOf n = if n .negative then negℤ (pos (n .value)) else pos (n .value)
-
--- ---- the window: the lowest and the highest of numbers, of which there is one or not
-
-abbrev pub span : Bool → ℤ → ℤ → Span
-span s l h = record { some = s; low = l; high = h }
-
-abbrev pub nowhere : Span
-nowhere = span false (pos 0) (pos 0)
-
-abbrev pub lower : ℤ → ℤ → ℤ
-lower a b = if leZ a b then a else b
-
-abbrev pub higher : ℤ → ℤ → ℤ
-higher a b = if leZ b a then a else b
-
-unfoldable pub includes : Span → ℤ → Span
-includes s z = if s .some then span true (lower (s .low) z) (higher (s .high) z) else span true z z
-
--- which number of a line of this letter is an x of a point, 1, or a y, 2, or neither: sizes stand before the points, a box's direction behind its centre
-abbrev pub alternate : ℕ → ℕ
-alternate i = if eqb (i % 2) 0 then 1 else 2
-
-abbrev pub behindSize : ℕ → ℕ
-behindSize i = if eqb i 0 then 0 else alternate (i + 1)
-
-unfoldable pub axisOf : (letter index : ℕ) → ℕ
-axisOf c i =
-    if eqb c 80 then alternate i
-    else if eqb c 66 then (if eqb i 2 then 1 else if eqb i 3 then 2 else 0)
-    else if eqb c 82 then behindSize i
-    else if eqb c 87 then behindSize i
-    else 0
-
-unfoldable pub spanAfter : (axis : ℕ) → Span → (letter : ℕ) → Numeral → ℕ → Span
-spanAfter axis s c n b = if ends b then (if eqb (axisOf c (n .index)) axis then includes s (valueOf n) else s) else s
+-- ---- the window: what the spans along the rest of the flat file come to
 
 unfoldable pub spanned : (axis : ℕ) → Line → Numeral → Span → List ℕ → Span
 spanned axis s n w [] = w
 spanned axis s n w (b ∷ l) = spanned axis (lineAfter s b) (numeralAfter n b) (spanAfter axis w (s .letter) n b) l
 
--- ---- the listing
-
 abbrev pub spanOf : (axis : ℕ) → List ℕ → Span
 spanOf axis f = spanned axis (fresh 1 0) (numeral 0 false 0) nowhere f
+
+-- ---- the listing
 
 unfoldable pub totalLine : (shapes calls redefinitions : ℕ) → List ℕ
 totalLine s c r = bytesOf "total" ++ fields (decimal (pos s) ∷ decimal (pos c) ∷ decimal (pos r) ∷ [])

@@ -9,16 +9,11 @@ use Rattle.definition.specs.declared.Answer.{Answer}
 use Rattle.definition.specs.Answer.{Outcome, flatFile, given-back, Answers}
 use Rattle.definition.specs.Listing.{listing}
 use Rattle.pen.specs.Writes.{Writes}
-use Rattle.listing.specs.Account.{fresh, printed, spanOf, account}
-use Rattle.listing.specs.declared.Line.{Line}
+use Rattle.lines.specs.Followed.{fresh}
+use Rattle.listing.specs.Account.{printed, spanOf, account}
 use Rattle.listing.specs.declared.Walked.{Walked}
 
 -- ---- within the code
-
--- what the code keeps so that nothing wraps: a count within the bytes read, and a name within 32 bits
-pub record Fits (s : Line) : Type 0 where
-  pub few : s .count ≤ 4294967296
-  pub name : s .layer + 256 * s .unit ≤ 4294967296
 
 -- the lines of all shapes are printed, and their points are in the window
 pub record Walks (f old new : List ℕ) (r : Walked) : Type 0 where

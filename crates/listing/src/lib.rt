@@ -1,325 +1,29 @@
 // What the list program prints (01, "The list program"), from the answer and the flat file alone. The flat file is read once, byte by byte: a shape's
-// line is copied behind its count and its layer, and its points are taken into the window.
+// line is copied behind its count and its layer, and its points are taken into the window, which lines, below, keeps.
 ghost use mathlib.Core.Path.{_≡_};
 ghost use mathlib.Core.List.{_∷_, []};
-ghost use Prim.Native.Nat.{_+_, _*_, _^_, _≤_};
+ghost use Prim.Native.Nat.{_+_, _^_, _≤_};
 ghost use lib.IntN.{pos};
 ghost use lib.ListN.{length};
 ghost use Rattle.definition.specs.Flat.{decimal};
 ghost use Rattle.pen.specs.Writes.{Writes};
 ghost use Rattle.pen.specs.Names.{nameOf};
-ghost use Rattle.listing.specs.Account.{quiet, opened, named, lineAfter, heading, wrote, pushed, ends, numeralAfter, valueOf};
-ghost use Rattle.listing.specs.Account.{nowhere, lower, higher, includes, alternate, behindSize, axisOf, spanAfter, totalLine, windowOf, refusedLine};
-ghost use Rattle.listing.specs.Listed.{Fits, Walks, Listed, answerBy};
+ghost use Rattle.listing.specs.Account.{quiet, heading, wrote, totalLine, windowOf, refusedLine};
+ghost use Rattle.listing.specs.Listed.{Walks, Listed, answerBy};
 
 // 01, refusal 18: no flat file is longer.
 const LONGEST: usize = 16_777_216;
-// No number of a flat file is larger.
-const LARGEST: u32 = 16_777_215;
-// A packed layer's name: its first letter counts so much, and each behind it 256 times less.
-const FIRST_UNIT: u32 = 16_777_216;
 
 const TAB: u8 = 9;
 
 const LINE_FEED: u8 = 10;
-// Where the numbers of a point go.
-const X: u8 = 1;
-
-const Y: u8 = 2;
-
-const NEITHER: u8 = 0;
-
-// A line of the flat file that is being read: the count of the next shape, the packed layer, what the next letter of a layer's name counts in it, and
-// the line's first letter, 0 before it.
-struct Line {
-    count: u64,
-    layer: u32,
-    unit: u32,
-    letter: u8,
-}
-
-// A number that is being read: how many stand before it in its line, whether a minus sign did, and what its digits so far are worth.
-struct Numeral {
-    index: usize,
-    negative: bool,
-    value: u32,
-}
-
-// The lowest and the highest of numbers, if there are some.
-struct Span {
-    some: bool,
-    low: i64,
-    high: i64,
-}
 
 // Behind the lines of all shapes: the next place in the listing, and the window.
 struct Walked {
     at: usize,
-    xs: Span,
-    ys: Span,
+    xs: lines::Span,
+    ys: lines::Span,
 }
-
-// ---- reading the flat file
-
-// The lines that are not listed: L and E.
-fn is_quiet(letter: u8) -> bool
-    ensures { λ r. ⌜ r ≡ quiet letter ⌝ }
-{
-    if letter == b'L' {
-        return true;
-    }
-    letter == b'E'
-}
-
-// The first letter of a line: an L sets no layer yet, and a shape is counted.
-fn open_line(line: Line, b: u8) -> Line
-    requires { ⌜ line .count ≤ 2 ^ 32 ⌝ }
-    ensures { λ r. ⌜ r ≡ opened line b ⌝ }
-{
-    if b == b'L' {
-        return Line {
-            count: line.count,
-            layer: 0,
-            unit: FIRST_UNIT,
-            letter: b,
-        };
-    }
-    if b == b'E' {
-        return Line {
-            count: line.count,
-            layer: line.layer,
-            unit: line.unit,
-            letter: b,
-        };
-    }
-    Line {
-        count: line.count + 1,
-        layer: line.layer,
-        unit: line.unit,
-        letter: b,
-    }
-}
-
-// One letter more of a layer's name. A name beyond four letters is no flat file's; those behind the fourth count nothing.
-fn add_letter(line: Line, b: u8) -> Line
-    requires { ⌜ line .layer + 256 * line .unit ≤ 2 ^ 32 ⌝ }
-    ensures { λ r. ⌜ r ≡ named line b ⌝ }
-{
-    if b == b';' {
-        return line;
-    }
-    Line {
-        count: line.count,
-        layer: line.layer + b as u32 * line.unit,
-        unit: line.unit / 256,
-        letter: line.letter,
-    }
-}
-
-// The line with one byte more. A line feed ends it, and its layer lasts.
-fn line_after(line: Line, b: u8) -> Line
-    requires { ⌜ Fits line ⌝ }
-    ensures { λ r. ⌜ r ≡ lineAfter line b ⌝ }
-{
-    if b == LINE_FEED {
-        return Line {
-            count: line.count,
-            layer: line.layer,
-            unit: 0,
-            letter: 0,
-        };
-    }
-    let letter = line.letter;
-    if letter == 0 {
-        return open_line(line, b);
-    }
-    if letter == b'L' {
-        return add_letter(line, b);
-    }
-    line
-}
-
-// Its value with one digit more. A number beyond the range is no flat file's, and is held so that it fits.
-fn push_digit(value: u32, b: u8) -> u32
-    ensures { λ r. ⌜ r ≡ pushed value b ⌝ }
-{
-    if b < b'0' {
-        return value;
-    }
-    if b > b'9' {
-        return value;
-    }
-    if value > LARGEST {
-        return value;
-    }
-    10 * value + (b - b'0') as u32
-}
-
-// A number ends at a space and at its line's semicolon.
-fn ends_number(b: u8) -> bool
-    ensures { λ r. ⌜ r ≡ ends b ⌝ }
-{
-    if b == b' ' {
-        return true;
-    }
-    b == b';'
-}
-
-fn numeral_after(n: Numeral, b: u8) -> Numeral
-    requires { ⌜ n .index ≤ 2 ^ 32 ⌝ }
-    ensures { λ r. ⌜ r ≡ numeralAfter n b ⌝ }
-{
-    if b == LINE_FEED {
-        return Numeral {
-            index: 0,
-            negative: false,
-            value: 0,
-        };
-    }
-    if b == b'-' {
-        return Numeral {
-            index: n.index,
-            negative: true,
-            value: n.value,
-        };
-    }
-    if ends_number(b) {
-        return Numeral {
-            index: n.index + 1,
-            negative: false,
-            value: 0,
-        };
-    }
-    let value = push_digit(n.value, b);
-    Numeral {
-        index: n.index,
-        negative: n.negative,
-        value,
-    }
-}
-
-fn value_of(n: Numeral) -> i64
-    ensures { λ r. ⌜ r ≡ valueOf n ⌝ }
-{
-    let v = n.value as i64;
-    let negative = n.negative;
-    if negative {
-        return -v;
-    }
-    v
-}
-
-// ---- the window
-
-fn no_numbers() -> Span
-    ensures { λ r. ⌜ r ≡ nowhere ⌝ }
-{
-    Span {
-        some: false,
-        low: 0,
-        high: 0,
-    }
-}
-
-fn lower_of(a: i64, b: i64) -> i64
-    ensures { λ r. ⌜ r ≡ lower a b ⌝ }
-{
-    if a <= b {
-        return a;
-    }
-    b
-}
-
-fn higher_of(a: i64, b: i64) -> i64
-    ensures { λ r. ⌜ r ≡ higher a b ⌝ }
-{
-    if b <= a {
-        return a;
-    }
-    b
-}
-
-fn include(span: Span, z: i64) -> Span
-    ensures { λ r. ⌜ r ≡ includes span z ⌝ }
-{
-    let some = span.some;
-    if some {
-        let low = lower_of(span.low, z);
-        let high = higher_of(span.high, z);
-        return Span {
-            some: true,
-            low,
-            high,
-        };
-    }
-    Span {
-        some: true,
-        low: z,
-        high: z,
-    }
-}
-
-fn alternate(index: usize) -> u8
-    ensures { λ r. ⌜ r ≡ alternate index ⌝ }
-{
-    if index % 2 == 0 {
-        return X;
-    }
-    Y
-}
-
-// Behind one size.
-fn axis_behind(index: usize) -> u8
-    requires { ⌜ index ≤ 2 ^ 32 ⌝ }
-    ensures { λ r. ⌜ r ≡ behindSize index ⌝ }
-{
-    if index == 0 {
-        return NEITHER;
-    }
-    alternate(index + 1)
-}
-
-// Sizes and a box's direction are in no window.
-fn axis_of(letter: u8, index: usize) -> u8
-    requires { ⌜ index ≤ 2 ^ 32 ⌝ }
-    ensures { λ r. ⌜ r ≡ axisOf letter index ⌝ }
-{
-    if letter == b'P' {
-        return alternate(index);
-    }
-    if letter == b'B' {
-        if index == 2 {
-            return X;
-        }
-        if index == 3 {
-            return Y;
-        }
-        return NEITHER;
-    }
-    if letter == b'R' {
-        return axis_behind(index);
-    }
-    if letter == b'W' {
-        return axis_behind(index);
-    }
-    NEITHER
-}
-
-// A number that ends is taken where it is one of the axis.
-fn span_after(axis: u8, span: Span, letter: u8, n: Numeral, b: u8) -> Span
-    requires { ⌜ n .index ≤ 2 ^ 32 ⌝ }
-    ensures { λ r. ⌜ r ≡ spanAfter axis span letter n b ⌝ }
-{
-    if ends_number(b) {
-        if axis_of(letter, n.index) == axis {
-            return include(span, value_of(n));
-        }
-        return span;
-    }
-    span
-}
-
-// ---- writing
 
 fn put_word(out: &mut [u8], start: usize, word: &[u8]) -> usize
     requires { ⌜ (start ≤ 2 ^ 60) × (length (now word) ≤ 2 ^ 50) ⌝ }
@@ -382,8 +86,18 @@ fn put_heading(out: &mut [u8], at: usize, count: u64, layer: u32, letter: u8) ->
     put_kind_field(out, third, letter)
 }
 
+// The lines that are not listed: L and E.
+fn is_quiet(letter: u8) -> bool
+    ensures { λ r. ⌜ r ≡ quiet letter ⌝ }
+{
+    if letter == b'L' {
+        return true;
+    }
+    letter == b'E'
+}
+
 // What is written at a byte of the flat file: a shape's letter gives the heading of its line, and its numbers are copied.
-fn put_byte(out: &mut [u8], at: usize, line: Line, b: u8) -> usize
+fn put_byte(out: &mut [u8], at: usize, line: lines::Line, b: u8) -> usize
     requires { ⌜ at ≤ 2 ^ 58 ⌝ }
     ensures { λ r. ⌜ Writes (now (out .entry)) (now (out .exit)) at r (wrote line b) ⌝ }
     ensures { λ r. ⌜ r ≤ at + 34 ⌝ }
@@ -413,29 +127,16 @@ fn put_shapes(flat: &[u8], out: &mut [u8]) -> Walked
     ensures { λ r. ⌜ Walks (now (flat .entry)) (now (out .entry)) (now (out .exit)) r ⌝ }
 {
     let mut at = 0;
-    let mut line = Line {
-        count: 1,
-        layer: 0,
-        unit: 0,
-        letter: 0,
-    };
-    let mut number = Numeral {
-        index: 0,
-        negative: false,
-        value: 0,
-    };
-    let mut xs = no_numbers();
-    let mut ys = no_numbers();
+    let mut seen = lines::start();
     let mut i = 0;
     while i < flat.len() {
         let b = flat[i];
-        at = put_byte(out, at, line, b);
-        xs = span_after(X, xs, line.letter, number, b);
-        ys = span_after(Y, ys, line.letter, number, b);
-        number = numeral_after(number, b);
-        line = line_after(line, b);
+        at = put_byte(out, at, seen.line, b);
+        seen = lines::after(seen, b);
         i += 1;
     }
+    let xs = seen.xs;
+    let ys = seen.ys;
     Walked { at, xs, ys }
 }
 
@@ -451,7 +152,7 @@ fn put_total(out: &mut [u8], at: usize, shapes: u64, calls: u64, redefinitions: 
     pen::put(out, last, LINE_FEED)
 }
 
-fn put_window(out: &mut [u8], at: usize, xs: Span, ys: Span) -> usize
+fn put_window(out: &mut [u8], at: usize, xs: lines::Span, ys: lines::Span) -> usize
     requires { ⌜ at ≤ 2 ^ 58 ⌝ }
     ensures { λ r. ⌜ Writes (now (out .entry)) (now (out .exit)) at r (windowOf xs ys) ⌝ }
     ensures { λ r. ⌜ r ≤ at + 91 ⌝ }
