@@ -1,5 +1,5 @@
 // Tells which texts are CIF, by the grammar of section 7.1.1, and what each character is in them. `recognise` is the whole of it for a text,
-// and `cif_recognise` the same for hosts; `step` is for crates above, which learn a byte's role as they go.
+// and `cif_recognise` the same for hosts; `recognised`, `step` and `entry_at` are for crates above, which lend the tables and learn a byte's role.
 ghost use mathlib.Core.Path.{_≡_};
 ghost use Prim.Native.Nat.{_<_, _/_, _%_};
 ghost use Rattle.grammar.specs.Tables.{stateCount, kindCount, roleUnit};
@@ -136,7 +136,8 @@ fn plain_next(kinds: &[u8; 256], next: &[u16; tables::ENTRY_COUNT], q: usize, b:
     entry_at(kinds, next, q, b) % tables::ROLE_UNIT
 }
 
-fn recognised(text: &[u8], kinds: &[u8; 256], next: &[u16; tables::ENTRY_COUNT]) -> Verdict
+// The verdict on any bytes, in one pass, with the tables lent.
+pub fn recognised(text: &[u8], kinds: &[u8; 256], next: &[u16; tables::ENTRY_COUNT]) -> Verdict
     requires { ⌜ KindsLent (now kinds) × NextLent (now next) ⌝ }
     ensures { λ r. ⌜ Judged (now (text .entry)) r ⌝ }
 {
@@ -170,8 +171,7 @@ fn recognised(text: &[u8], kinds: &[u8; 256], next: &[u16; tables::ENTRY_COUNT])
     Verdict::StuckAt(i)
 }
 
-// The verdict on any bytes, in one pass and in no memory but the tables, which are copied to locals once: a const array would be built anew at
-// every use.
+// The verdict on any bytes, in no memory but the tables, which are copied to locals once: a const array would be built anew at every use.
 pub fn recognise(text: &[u8]) -> Verdict
     ensures { λ r. ⌜ Judged (now (text .entry)) r ⌝ }
 {

@@ -1,24 +1,34 @@
 // The first of refusals 2 to 9: `check` and `refusal` give the definition's own answer. That the account by which crate commands goes is the definition's
 // on every text of the grammar is proved here.
 use commands::Fault;
+ghost use Rattle.grammar.specs.Steps.{KindsLent, NextLent};
 ghost use Rattle.reading.specs.Refusal.{Checked, Refuses, Told};
 
-// The first of refusals 3 to 9, if the text is one of the grammar.
+// The first of refusals 3 to 9, if the text is one of the grammar, with the tables lent.
+fn check_by(text: &[u8], kinds: &[u8; 256], next: &[u16; grammar::tables::ENTRY_COUNT]) -> Fault
+    requires { ⌜ KindsLent (now kinds) × NextLent (now next) ⌝ }
+    ensures { λ r. ⌜ Checked (now (text .entry)) r ⌝ }
+{
+    commands::checked(text, kinds, next)
+}
+
 pub fn check(text: &[u8]) -> Fault
     ensures { λ r. ⌜ Checked (now (text .entry)) r ⌝ }
 {
     let kinds = grammar::tables::KINDS;
     let next = grammar::tables::NEXT;
-    commands::checked(text, &kinds, &next)
+    check_by(text, &kinds, &next)
 }
 
-// The first of refusals 2 to 9.
+// The first of refusals 2 to 9. The tables are copied once for both passes.
 pub fn refusal(text: &[u8]) -> Fault
     ensures { λ r. ⌜ Refuses (now (text .entry)) r ⌝ }
 {
-    match grammar::recognise(text) {
+    let kinds = grammar::tables::KINDS;
+    let next = grammar::tables::NEXT;
+    match grammar::recognised(text, &kinds, &next) {
         grammar::Verdict::StuckAt(n) => Fault::Refused(2, n),
-        grammar::Verdict::InGrammar => check(text),
+        grammar::Verdict::InGrammar => check_by(text, &kinds, &next),
     }
 }
 

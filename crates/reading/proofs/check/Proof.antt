@@ -1,26 +1,16 @@
--- `check` meets its contract: the marking that the code reads is the only one, what it keeps comes to the account, and the account to the definition.
+-- `check` meets its contract: the tables that it lends are those of the grammar.
 -- Assumes nothing.
-use mathlib.Core.Path.{sym, ap, _∙_}
 use borrow.Author.Needs.{needs}
-use mathlib.Core.List.{List}
-use Rattle.grammar.specs.Notation.{Letter}
 use Rattle.grammar.specs.Tables.{kinds, table}
-use Rattle.grammar.proofs.Markings.{marking-is}
-use Rattle.pieces.specs.Pieces.{stream, start}
-use Rattle.commands.specs.Account.{atStart, faultOf}
-use Rattle.reading.proofs.Meaning.{runs-first}
-use Rattle.reading.proofs.Agree.{fault-is}
 use Rattle.reading.proofs.check.Statement.{statement}
 use Rattle.reading.proofs.check.Tie as tie
 
-checked-requires : tie.Need-checked-requires
+check-by-requires : tie.Need-check-by-requires
 unfolding kinds table
-checked-requires c κs = search needs
+check-by-requires c κs = search needs
 
 returns : tie.Need-returns
-returns c =
-    let e = c .checked .ensures ∙ runs-first (stream (c .before .before .before .before .args .text .now) start) atStart in
-    record { along = e; is = λ m k. e ∙ (ap (λ (l : List Letter). faultOf l) (sym (marking-is k)) ∙ fault-is k) }
+returns c = search needs
 
 pub check-spec : {M : Type 1} → statement M
-check-spec = tie.close (tie.spec checked-requires returns)
+check-spec = tie.close (tie.spec check-by-requires returns)
