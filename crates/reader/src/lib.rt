@@ -1,6 +1,7 @@
 // The reader (01, "What the reader takes and gives"): `flatten` answers of any text and any room, and `cif_flatten` the same for hosts. Refusals 1 and 18
 // stand here, 2 to 9 in reading, 10 to 17 in drawing, bodies and shapes.
 use commands::Fault;
+use counts::Counts;
 use definition::Answer;
 use shapes::Drawn;
 ghost use mathlib.Core.Path.{_≡_};
@@ -19,17 +20,25 @@ const MOST_BYTES: usize = 16_777_216;
 // How long the flat file's last line is: `E` and byte 10.
 const LAST_LINE: usize = 2;
 
-fn refused(number: usize, place: usize) -> Answer
+// A refusal gives zero for every count, whatever has been counted by then.
+fn refused_after(number: usize, place: usize, counted: Counts) -> Answer
     ensures { λ r. ⌜ r ≡ answer number place 0 (counts 0 0 0) ⌝ }
 {
+    let none = counts::cleared(counted);
     Answer {
         number,
         place,
         length: 0,
-        shapes: 0,
-        calls: 0,
-        redefinitions: 0,
+        shapes: none.shapes,
+        calls: none.calls,
+        redefinitions: none.redefinitions,
     }
+}
+
+fn refused(number: usize, place: usize) -> Answer
+    ensures { λ r. ⌜ r ≡ answer number place 0 (counts 0 0 0) ⌝ }
+{
+    refused_after(number, place, counts::no_counts())
 }
 
 // The lines of the shapes, and at their end the last one.
@@ -53,10 +62,10 @@ fn flatten_passed(text: &[u8], scrap: &mut [u8], room: &mut [u8]) -> Answer
             let end = last.at;
             let length = end + LAST_LINE;
             if room.len() < length {
-                return refused(18, 0);
+                return refused_after(18, 0, counts);
             }
             if MOST_BYTES < length {
-                return refused(18, 0);
+                return refused_after(18, 0, counts);
             }
             write_file(text, room, end);
             Answer {

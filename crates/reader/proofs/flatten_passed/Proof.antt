@@ -23,23 +23,23 @@ enum-known-counts c = search needs
 add-length : tie.Need-add-length
 add-length c = omega (arith, far-below (c .before .before .before .before .before .before .before .before .before .before .pre) (c .before .before .before .before .before .draw .ensures (c .before .before .before .before .before .before .before .before .before .before .pre)) (c .before .counts .given .1))
 
-refused-requires-2 : tie.Need-refused-requires-2
-refused-requires-2 c κs = search needs
+refused-after-requires : tie.Need-refused-after-requires
+refused-after-requires c κs = search needs
 
 same-length : tie.Need-same-length
 same-length c = search needs
 
 returns : tie.Need-returns
-returns c = over-told (c .before .before .before .before .before .before .before .before .before .before .before .before .pre) (c .before .before .before .before .before .before .before .draw .ensures (c .before .before .before .before .before .before .before .before .before .before .before .before .pre)) (c .before .before .before .counts .given .1) (inl (c .before .if1 .taken)) (c .refused2 .ensures)
+returns c = over-told (c .before .before .before .before .before .before .before .before .before .before .before .before .pre) (c .before .before .before .before .before .before .before .draw .ensures (c .before .before .before .before .before .before .before .before .before .before .before .before .pre)) (c .before .before .before .counts .given .1) (inl (c .before .if1 .taken)) (c .refused-after .ensures)
 
-refused-requires-3 : tie.Need-refused-requires-3
-refused-requires-3 c κs = search needs
+refused-after-requires-2 : tie.Need-refused-after-requires-2
+refused-after-requires-2 c κs = search needs
 
 same-length-2 : tie.Need-same-length-2
 same-length-2 c = search needs
 
 returns-2 : tie.Need-returns-2
-returns-2 c = over-told (c .before .before .before .before .before .before .before .before .before .before .before .before .before .pre) (c .before .before .before .before .before .before .before .before .draw .ensures (c .before .before .before .before .before .before .before .before .before .before .before .before .before .pre)) (c .before .before .before .before .counts .given .1) (inr (c .before .if2 .taken)) (c .refused3 .ensures)
+returns-2 c = over-told (c .before .before .before .before .before .before .before .before .before .before .before .before .before .pre) (c .before .before .before .before .before .before .before .before .draw .ensures (c .before .before .before .before .before .before .before .before .before .before .before .before .before .pre)) (c .before .before .before .before .counts .given .1) (inr (c .before .if2 .taken)) (c .refused-after2 .ensures)
 
 write-file-requires : tie.Need-write-file-requires
 write-file-requires c κs = search needs
@@ -68,10 +68,10 @@ flatten-passed-spec =
     refused-requires
     enum-known-counts
     add-length
-    refused-requires-2
+    refused-after-requires
     same-length
     returns
-    refused-requires-3
+    refused-after-requires-2
     same-length-2
     returns-2
     write-file-requires
