@@ -13,7 +13,7 @@ use Rattle.pen.specs.Names.{nameOf}
 use Rattle.pen.proofs.Names.{no-name}
 use Rattle.pieces.specs.Pieces.{stream, behind}
 use Rattle.pieces.specs.declared.Spot.{Spot}
-use Rattle.commands.specs.Written.{written}
+use Rattle.rules.specs.Written.{written}
 use Rattle.counts.specs.declared.Counts.{Counts}
 use Rattle.shapes.specs.declared.Pen.{Pen}
 use Rattle.shapes.specs.declared.Drawn.the-variants.{Done, Refused}

@@ -17,8 +17,8 @@ use Rattle.definition.proofs.Said.{or-first, or-second}
 use Rattle.turns.specs.Words.{turnsWords}
 use Rattle.pen.specs.Names.{nameOf}
 use Rattle.pieces.specs.Pieces.{letterS, letterF, tooLarge}
-use Rattle.commands.specs.Letters.{letterC, letterD, letterL}
-use Rattle.commands.specs.Written.{Written, insideBehind}
+use Rattle.rules.specs.Letters.{letterC, letterD, letterL}
+use Rattle.rules.specs.Written.{Written, insideBehind}
 use Rattle.bodies.specs.Voices.{Voice, a-shape, a-call, a-layer, a-start, a-finish, a-delete, a-nothing}
 use Rattle.moves.specs.Moves.{Shaped}
 

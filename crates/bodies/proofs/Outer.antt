@@ -19,8 +19,8 @@ use Rattle.turns.specs.Nets.{Carries}
 use Rattle.turns.specs.Words.{turnsWords}
 use Rattle.table.specs.declared.Row.{Row}
 use Rattle.pen.specs.Names.{nameOf}
-use Rattle.commands.specs.Letters.{letterC}
-use Rattle.commands.specs.Written.{Written}
+use Rattle.rules.specs.Letters.{letterC}
+use Rattle.rules.specs.Written.{Written}
 use Rattle.counts.specs.declared.Counts.{Counts}
 use Rattle.shapes.specs.declared.Pen.{Pen}
 use Rattle.shapes.specs.declared.Drawn.{Drawn}

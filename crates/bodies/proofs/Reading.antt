@@ -16,8 +16,8 @@ use Rattle.turns.specs.Words.{turnsWords}
 use Rattle.pen.specs.Names.{nameOf}
 use Rattle.pieces.specs.Pieces.{stream, behind}
 use Rattle.pieces.specs.declared.Spot.{Spot}
-use Rattle.commands.specs.Letters.{letterL}
-use Rattle.commands.specs.Written.{Written, written, insideBehind}
+use Rattle.rules.specs.Letters.{letterL}
+use Rattle.rules.specs.Written.{Written, written, insideBehind}
 use Rattle.commands.specs.declared.Read.{Read}
 use Rattle.commands.specs.declared.Read.the-variants.{Decoded, Nothing}
 use Rattle.commands.specs.Words.{wordsOf, insideFirst, DecodedOne, ReadsCommand}

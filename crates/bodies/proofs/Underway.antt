@@ -25,8 +25,8 @@ use Rattle.turns.proofs.Nets.{near-more}
 use Rattle.pen.specs.Names.{nameOf}
 use Rattle.pieces.specs.Pieces.{behind, Fit, letterF}
 use Rattle.pieces.specs.declared.Spot.{Spot}
-use Rattle.commands.specs.Letters.{letterC, letterL}
-use Rattle.commands.specs.Written.{Written}
+use Rattle.rules.specs.Letters.{letterC, letterL}
+use Rattle.rules.specs.Written.{Written}
 use Rattle.commands.specs.declared.Read.{Read}
 use Rattle.commands.specs.declared.Read.the-variants.{Decoded, Nothing}
 use Rattle.commands.specs.Words.{DecodedOne, ReadsCommand}

@@ -11,7 +11,7 @@ use Rattle.definition.specs.Standing.{Standing, scaledShape, scaledTurn}
 use Rattle.definition.specs.Table.{Table}
 use Rattle.definition.specs.Drawing.{Event, drawShape, drawCall}
 use Rattle.moves.specs.Moves.{mostValues}
-use Rattle.commands.specs.Written.{Written}
+use Rattle.rules.specs.Written.{Written}
 use Rattle.bodies.specs.Voices.{Voice}
 
 -- what a command outside of definitions draws: shapes and calls do, the others not

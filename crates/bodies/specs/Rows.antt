@@ -12,7 +12,7 @@ use Rattle.definition.specs.Table.{Definition, Table}
 use Rattle.definition.specs.Drawing.{retained}
 use Rattle.table.specs.declared.Row.{Row}
 use Rattle.pieces.specs.Pieces.{stream, behind, tooLarge}
-use Rattle.commands.specs.Written.{written}
+use Rattle.rules.specs.Written.{written}
 use Rattle.bodies.specs.Voices.{Told}
 
 -- what a reader of the text t meets behind a DS that ends before this place, with the a and b said: commands of the definition

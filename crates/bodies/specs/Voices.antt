@@ -15,8 +15,8 @@ use Rattle.turns.specs.Words.{turnsWords}
 use Rattle.pen.specs.Names.{nameOf}
 use Rattle.moves.specs.Moves.{mostValues, Shaped}
 use Rattle.pieces.specs.Pieces.{letterS, letterF, tooLarge}
-use Rattle.commands.specs.Letters.{letterC, letterD, letterL}
-use Rattle.commands.specs.Written.{Written, lastLetter, insideBehind}
+use Rattle.rules.specs.Letters.{letterC, letterD, letterL}
+use Rattle.rules.specs.Written.{Written, lastLetter, insideBehind}
 use Rattle.commands.specs.Words.{wordsOf, kindBy}
 
 -- no letter that drawing knows

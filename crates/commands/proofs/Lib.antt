@@ -1,5 +1,2 @@
 -- What the loops of this crate keep, and the laws by which they do.
-pub mod Scaling
-pub mod Ahead
-pub mod Checking
 pub mod Wording

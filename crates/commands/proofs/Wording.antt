@@ -23,15 +23,15 @@ use Rattle.pieces.specs.Pieces.{stream, behind, insideAfter, Fit, Step}
 use Rattle.pieces.specs.declared.Spot.{Spot}
 use Rattle.pieces.specs.declared.Piece.{Piece}
 use Rattle.pieces.specs.declared.Piece.the-variants.{First, Second, Number, Word, Stop}
-use Rattle.commands.specs.Letters.{letterC, letterM, byteUnit, firstUnit, widest}
-use Rattle.commands.specs.Written.{Written, itemsOf, stops, written, writtenAt, letters, lastOf, packedBy, insideBehind}
-use Rattle.commands.specs.Account.{distance}
+use Rattle.rules.specs.Letters.{letterC, letterM, byteUnit, firstUnit, widest}
+use Rattle.rules.specs.Written.{Written, itemsOf, stops, written, writtenAt, letters, lastOf, packedBy, insideBehind}
+use Rattle.rules.specs.Rules.{distance}
 use Rattle.commands.specs.Words.{held, signed, word, valueOf, letterWords, bodyOf, tally, kindBy, framed, wordsOf, Writes, lineNumber, lineLetter, Lined, closed, Closed, Tells, insideFirst, ReadsCommand, ReadsItems}
 use Rattle.commands.specs.declared.Line.{Line}
 use Rattle.commands.specs.declared.Read.{Read}
 use Rattle.commands.specs.declared.Read.the-variants.{Decoded, Nothing}
-use Rattle.commands.proofs.Ahead.{Finds, none, some}
-use Rattle.commands.proofs.Checking.{name-room}
+use Rattle.pieces.proofs.Finds.{Finds, none, some}
+use Rattle.rules.proofs.Naming.{name-room}
 
 never : false ≡ true → ⊥
 never e = let z : _≡_ {A = ℕ} 0 1 = cc in omega arith
@@ -101,8 +101,8 @@ lined-number ws ws′ c a b l σ n v at ev w = record {
   laid = w .laid ∙ ap (λ (k : ℕ). sets ws (c .at) (word σ k ∷ [])) ev;
 }
 
-pub lined-letter : (ws ws′ : List ℤ) (c : Line) (l x y at : ℕ) → y ≡ x → Writes ws (c .at) (letterWords l x) at ws′
-    → Lined ws (c .at) (letterWords l x) (lineLetter l c x) (record { at = at; word = x; count = c .count; unit = c .unit / byteUnit; name = c .name + y * c .unit }) ws′
+pub lined-letter : (ws ws′ : List ℤ) (c : Line) (l x y at : ℕ) → y ≡ c .name + x * c .unit → Writes ws (c .at) (letterWords l x) at ws′
+    → Lined ws (c .at) (letterWords l x) (lineLetter l c x) (record { at = at; word = x; count = c .count; unit = c .unit / byteUnit; name = y }) ws′
 lined-letter ws ws′ c l x y at ey w = record {
   line = rw (w .next, ey);
   laid = w .laid;

@@ -15,9 +15,9 @@ use Rattle.pieces.specs.Pieces.{letterS, farthest, stream, behind, insideAfter,
 use Rattle.pieces.specs.declared.Spot.{Spot}
 use Rattle.pieces.specs.declared.Piece.{Piece}
 use Rattle.pieces.specs.declared.Piece.the-variants.{First, Second, Number, Word, Stop}
-use Rattle.commands.specs.Letters.{letterB, letterC, letterD, letterL, letterM, byteUnit, firstUnit, widest}
-use Rattle.commands.specs.Written.{Written, written, writtenAt, letters, lastLetter, packedBy, insideBehind}
-use Rattle.commands.specs.Account.{distance}
+use Rattle.rules.specs.Letters.{letterB, letterC, letterD, letterL, letterM, byteUnit, firstUnit, widest}
+use Rattle.rules.specs.Written.{Written, written, writtenAt, letters, lastLetter, packedBy, insideBehind}
+use Rattle.rules.specs.Rules.{distance}
 use Rattle.commands.specs.declared.Line.{Line}
 use Rattle.commands.specs.declared.Read.{Read}
 use Rattle.commands.specs.declared.Read.the-variants.{Decoded, Nothing}

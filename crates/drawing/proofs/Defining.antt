@@ -26,7 +26,7 @@ use Rattle.table.specs.Rows.{Told as Entering}
 use Rattle.table.proofs.Entering.{rows-length}
 use Rattle.pieces.specs.Pieces.{stream, tooLarge, Fit}
 use Rattle.pieces.specs.declared.Spot.{Spot}
-use Rattle.commands.specs.Written.{written}
+use Rattle.rules.specs.Written.{written}
 use Rattle.counts.specs.declared.Counts.{Counts}
 use Rattle.counts.specs.Counting.{tally, CountsRedefinition}
 use Rattle.shapes.specs.declared.Pen.{Pen}

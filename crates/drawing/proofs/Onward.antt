@@ -19,8 +19,8 @@ use Rattle.table.specs.Rows.{forgetRow}
 use Rattle.pieces.specs.Pieces.{stream, letterS}
 use Rattle.pieces.specs.Pieces.{start as textStart}
 use Rattle.pieces.specs.declared.Spot.{Spot}
-use Rattle.commands.specs.Letters.{letterD, letterL}
-use Rattle.commands.specs.Written.{Written, written}
+use Rattle.rules.specs.Letters.{letterD, letterL}
+use Rattle.rules.specs.Written.{Written, written}
 use Rattle.counts.specs.declared.Counts.{Counts}
 use Rattle.shapes.specs.declared.Pen.{Pen}
 use Rattle.shapes.specs.declared.Drawn.the-variants.{Done, Refused}

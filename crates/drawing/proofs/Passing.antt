@@ -20,8 +20,8 @@ use Rattle.table.specs.declared.Row.{Row}
 use Rattle.pieces.specs.Pieces.{letterS, Fit}
 use Rattle.pieces.specs.Pieces.{start as textStart}
 use Rattle.pieces.specs.declared.Spot.{Spot}
-use Rattle.commands.specs.Letters.{letterD, letterL}
-use Rattle.commands.specs.Written.{Written}
+use Rattle.rules.specs.Letters.{letterD, letterL}
+use Rattle.rules.specs.Written.{Written}
 use Rattle.commands.specs.declared.Read.{Read}
 use Rattle.commands.specs.declared.Read.the-variants.{Nothing}
 use Rattle.commands.specs.Words.{DecodedOne, ReadsCommand}

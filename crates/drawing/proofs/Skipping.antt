@@ -15,7 +15,7 @@ use Rattle.definition.specs.Table.{Table}
 use Rattle.definition.specs.Drawing.{deeds, story}
 use Rattle.pieces.specs.Pieces.{stream, letterF, Fit}
 use Rattle.pieces.specs.declared.Spot.{Spot}
-use Rattle.commands.specs.Written.{Written, written}
+use Rattle.rules.specs.Written.{Written, written}
 use Rattle.commands.specs.declared.Read.{Read}
 use Rattle.commands.specs.declared.Read.the-variants.{Nothing}
 use Rattle.commands.specs.Words.{DecodedOne, ReadsCommand}

@@ -26,10 +26,10 @@ use Rattle.pen.proofs.Names.{a-name, name-back}
 use Rattle.pieces.specs.Pieces.{letterS, letterF, stream, start}
 use Rattle.pieces.specs.declared.Piece.{Piece}
 use Rattle.pieces.proofs.Spots.{start-pieces}
-use Rattle.commands.specs.Letters.{letterC, letterD, letterL, byteUnit, firstUnit}
-use Rattle.commands.specs.Written.{Written, written, letters, lastOf, lastLetter, insideBehind, packedBy}
+use Rattle.rules.specs.Letters.{letterC, letterD, letterL, byteUnit, firstUnit}
+use Rattle.rules.specs.Written.{Written, written, letters, lastOf, lastLetter, insideBehind, packedBy}
 use Rattle.commands.specs.Words.{signed, wordsOf, kindBy}
-use Rattle.commands.specs.declared.Scope.{Scope}
+use Rattle.checking.specs.declared.Scope.{Scope}
 use Rattle.reading.proofs.Says.{tells, Says, Idle}
 use Rattle.reading.proofs.Says.{a-polygon, a-box, a-turned-box, a-flash, a-wire, a-scaled-start, a-deletion}
 use Rattle.reading.proofs.Says.{a-layer as says-layer, a-call as says-call, a-start as says-start, a-finish as says-finish, a-nothing as says-nothing}

@@ -15,7 +15,7 @@ use Rattle.definition.specs.Drawing.{retained, define, deeds, happens, story}
 use Rattle.table.specs.Rows.{Columns, rowsOf, Sorted, Sized}
 use Rattle.pieces.specs.Pieces.{stream, behind, tooLarge, Fit}
 use Rattle.pieces.specs.declared.Spot.{Spot}
-use Rattle.commands.specs.Written.{written}
+use Rattle.rules.specs.Written.{written}
 use Rattle.counts.specs.declared.Counts.{Counts}
 use Rattle.shapes.specs.declared.Pen.{Pen}
 use Rattle.shapes.specs.declared.Drawn.the-variants.{Done, Refused}

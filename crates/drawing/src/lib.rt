@@ -14,7 +14,7 @@ ghost use Rattle.definition.specs.Table.{Table};
 ghost use Rattle.table.specs.Rows.{columns, rowsOf, Sorted, Sized};
 ghost use Rattle.moves.specs.Moves.{mostValues};
 ghost use Rattle.pieces.specs.Pieces.{tooLarge, stream, Fit};
-ghost use Rattle.commands.specs.Written.{written};
+ghost use Rattle.rules.specs.Written.{written};
 ghost use Rattle.shapes.specs.Painting.{Painted};
 ghost use Rattle.bodies.specs.Voices.{Told};
 ghost use Rattle.bodies.specs.Rows.{Stands};

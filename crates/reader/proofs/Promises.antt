@@ -22,8 +22,8 @@ use Rattle.definition.proofs.Outcomes
 use Rattle.definition.proofs.Outcomes.{flatLength, TooLong, by-drawing, by-flat-file, Accepting, refusal, acceptance}
 use Rattle.definition.proofs.Right.{one-answer}
 use Rattle.reading.specs.Refusal.{faultSaid, byVerdict}
-use Rattle.commands.specs.declared.Fault.{Fault}
-use Rattle.commands.specs.declared.Fault.the-variants.{Clear, Refused}
+use Rattle.checking.specs.declared.Fault.{Fault}
+use Rattle.checking.specs.declared.Fault.the-variants.{Clear, Refused}
 use Rattle.pen.specs.Names.{nameOf}
 use Rattle.pen.specs.Writes.{Writes}
 use Rattle.pen.proofs.Names.{no-name}

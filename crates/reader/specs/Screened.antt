@@ -5,8 +5,8 @@ use mathlib.Core.List.{List}
 use Prim.Native.Nat.{ℕ, _≤_, _<_}
 use lib.ListN.{length}
 use Rattle.reading.specs.Refusal.{Refuses}
-use Rattle.commands.specs.declared.Fault.{Fault}
-use Rattle.commands.specs.declared.Fault.the-variants.{Refused}
+use Rattle.checking.specs.declared.Fault.{Fault}
+use Rattle.checking.specs.declared.Fault.the-variants.{Refused}
 
 pub data Screened (t : List ℕ) : Fault → Type 0 where
   over : 16777216 < length t → Screened t (Refused 1 0)

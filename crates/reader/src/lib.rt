@@ -1,6 +1,6 @@
 // The reader (01, "What the reader takes and gives"): `flatten` answers of any text and any room, and `cif_flatten` the same for hosts. Refusals 1 and 18
 // stand here, 2 to 9 in reading, 10 to 17 in drawing, bodies and shapes.
-use commands::Fault;
+use checking::Fault;
 use counts::Counts;
 use definition::Answer;
 use shapes::Drawn;

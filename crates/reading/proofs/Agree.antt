@@ -21,12 +21,13 @@ use Rattle.definition.proofs.Made.{Name}
 use Rattle.definition.proofs.Ordered.{Allowed, Ordered, after-inside, ordered, two-bits}
 use Rattle.definition.proofs.Sizes.{nil-left, nil-right, all-map, at-numbers}
 use Rattle.pieces.specs.Pieces.{largest, capped}
-use Rattle.commands.specs.Letters.{firstUnit}
-use Rattle.commands.specs.Written.{Written, numbers, letters, figures, lastOf, lastLetter, sizeAt, packedBy, turnsOf}
-use Rattle.commands.specs.Account.{layerOf, scaleless, few, bare, many, Blame, blame, ofNumbers, ofWhole, blames, foremost, faultBy, scopeAfter, faultFrom, atStart, faultOf}
+use Rattle.rules.specs.Letters.{firstUnit}
+use Rattle.rules.specs.Written.{Written, numbers, letters, figures, lastOf, lastLetter, sizeAt, packedBy, turnsOf}
+use Rattle.rules.specs.Rules.{scaleless, few, bare, many}
+use Rattle.checking.specs.Account.{layerOf, Blame, blame, ofNumbers, ofWhole, blames, foremost, faultBy, scopeAfter, faultFrom, atStart, faultOf}
 use Rattle.reading.specs.Refusal.{faultSaid}
-use Rattle.commands.specs.declared.Scope.{Scope}
-use Rattle.commands.specs.declared.Fault.{Fault}
+use Rattle.checking.specs.declared.Scope.{Scope}
+use Rattle.checking.specs.declared.Fault.{Fault}
 use Rattle.definition.proofs.Said.{or-first, or-second}
 use Rattle.commands.specs.Words.{signed}
 use Rattle.reading.proofs.Says.{tells, Says, a-polygon, a-box, a-turned-box, a-flash, a-wire, a-layer, a-call, a-start, a-scaled-start, a-finish, a-deletion, a-nothing, AllSay, none-said, one-said}

@@ -24,7 +24,7 @@ use Rattle.definition.proofs.Ordered.{everywhere, role-of, byte-of, other, item
 use Rattle.pieces.specs.Pieces.{digitOf, placeAfter, withPiece, pieces}
 use Rattle.pieces.specs.declared.Piece.{Piece}
 use Rattle.pieces.specs.declared.Piece.the-variants.{Word}
-use Rattle.commands.specs.Written.{Written, written, writtenAt}
+use Rattle.rules.specs.Written.{Written, written, writtenAt}
 use Rattle.reading.proofs.Tokens.{Token, figure, seconded, tokens, ByRole, Closed, piecesOf, items-are, stops-are}
 use Rattle.reading.proofs.Tokens.{figuresOf, namesOf, seek, turnBy, turnsOf, commandBy, commandOf, command-is}
 use Rattle.reading.proofs.Says.{tells, Points, no-points, a-point, Turns, no-turns, a-shift, a-mirror-x, a-mirror-y, a-rotation, Idle, wrote, Says, a-polygon, a-box, a-turned-box, a-flash, a-wire, a-layer, a-call, a-start, a-scaled-start, a-finish, a-deletion, a-nothing, AllSay, none-said, one-said}

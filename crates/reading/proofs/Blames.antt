@@ -13,9 +13,10 @@ use Rattle.definition.specs.Words.{if_then_else_, any}
 use Rattle.definition.specs.Faults.{beyond, zero?}
 use Rattle.definition.proofs.Range.{All}
 use Rattle.pieces.specs.Pieces.{largest, tooLarge, capped}
-use Rattle.commands.specs.Written.{Figure}
-use Rattle.commands.specs.Account.{distance, vital, scaleless, few, bare, many, Blame, when, ofNumber, ofNumbers, ofWhole}
-use Rattle.commands.specs.declared.Scope.{Scope}
+use Rattle.rules.specs.Written.{Figure}
+use Rattle.rules.specs.Rules.{distance, vital, scaleless, few, bare, many}
+use Rattle.checking.specs.Account.{Blame, when, ofNumber, ofNumbers, ofWhole}
+use Rattle.checking.specs.declared.Scope.{Scope}
 use Rattle.reading.proofs.Foremost.{find, find-own, find-other, Numbered, all-when}
 use Rattle.reading.proofs.Marks.{Mark, foundBy, weighty}
 
@@ -80,7 +81,7 @@ module _ (s : Scope) (p l : ℕ) where
   test₆ f = distance l (f .word) (f .index) && ltb largest (s .a * f .size / s .b)
 
   abbrev test₇ : Figure → Bool
-  test₇ f = eqb (f .size) 0 && Rattle.commands.specs.Account.vital l (f .word) (f .index) (f .zero)
+  test₇ f = eqb (f .size) 0 && Rattle.rules.specs.Rules.vital l (f .word) (f .index) (f .zero)
 
   module _ (f : Figure) (r : List Blame) where
     abbrev from₇ : List Blame

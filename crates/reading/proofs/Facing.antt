@@ -16,9 +16,9 @@ use Rattle.definition.proofs.Sizes.{abs-neg}
 use Rattle.pieces.specs.Pieces.{capped}
 use Rattle.pieces.specs.declared.Piece.{Piece}
 use Rattle.pieces.specs.declared.Piece.the-variants.{Word}
-use Rattle.commands.specs.Letters.{letterC, letterP, letterR, letterT, letterW}
-use Rattle.commands.specs.Written.{Written, Figure, figures, numbers, letters, lastOf, lastLetter, sizeAt, turnsOf}
-use Rattle.commands.specs.Account.{shapely, distance, vital, pointsOf, scaleless, few, many}
+use Rattle.rules.specs.Letters.{letterC, letterP, letterR, letterT, letterW}
+use Rattle.rules.specs.Written.{Written, Figure, figures, numbers, letters, lastOf, lastLetter, sizeAt, turnsOf}
+use Rattle.rules.specs.Rules.{shapely, distance, vital, pointsOf, scaleless, few, many}
 use Rattle.commands.specs.Words.{signed}
 use Rattle.reading.proofs.Says.{tells, Points, no-points, a-point, Turns, no-turns, a-shift, a-mirror-x, a-mirror-y, a-rotation}
 use Rattle.reading.proofs.Says.{Says, a-polygon, a-box, a-turned-box, a-flash, a-wire, a-layer, a-call, a-start, a-scaled-start, a-finish, a-deletion, a-nothing}

@@ -14,7 +14,7 @@ use Rattle.definition.specs.Words.{if_then_else_, at, those}
 use Rattle.definition.specs.Commands.{Number}
 use Rattle.definition.specs.Faults.{Refusal, atNumbers, atCommand}
 use Rattle.definition.proofs.Range.{All}
-use Rattle.commands.specs.Account.{Blame, blame, when, sooner, foremost}
+use Rattle.checking.specs.Account.{Blame, blame, when, sooner, foremost}
 
 -- ---- the choice
 

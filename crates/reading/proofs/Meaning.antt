@@ -14,15 +14,16 @@ use Rattle.grammar.specs.Steps.{choose}
 use Rattle.pieces.specs.Pieces.{largest}
 use Rattle.pieces.specs.declared.Piece.{Piece}
 use Rattle.pieces.specs.declared.Piece.the-variants.{First, Second, Number, Word, Stop}
-use Rattle.commands.specs.Letters.{noRefusal, byteUnit, firstUnit}
-use Rattle.commands.specs.Written.{Written, itemsOf, stops, writtenAt, written, Figure, figures, letters, sizeAt, lastOf, packedBy, one, turning, turnsOf}
-use Rattle.commands.specs.Account.{distance, vital, scaleless, few, bare, many, layerOf, Blame, blame, when, ofNumber, ofNumbers, ofWhole, blames, sooner, foremost, faultBy, scopeBy, scopeAfter, faultFrom}
-use Rattle.commands.specs.Along.{numberNo, wholeNo, lower, blamed, kept, fresh, begun, idle, counted, worded, afterDoing, finished, onward, runs}
-use Rattle.commands.specs.declared.Scope.{Scope}
-use Rattle.commands.specs.declared.Doing.{Doing}
-use Rattle.commands.specs.declared.Ended.the-variants.{Then, Broken}
-use Rattle.commands.specs.declared.Fault.{Fault}
-use Rattle.commands.specs.declared.Fault.the-variants.{Clear}
+use Rattle.rules.specs.Letters.{noRefusal, byteUnit, firstUnit}
+use Rattle.rules.specs.Written.{Written, itemsOf, stops, writtenAt, written, Figure, figures, letters, sizeAt, lastOf, packedBy, one, turning, turnsOf}
+use Rattle.rules.specs.Rules.{distance, vital, scaleless, few, bare, many, numberNo, wholeNo}
+use Rattle.checking.specs.Account.{layerOf, Blame, blame, when, ofNumber, ofNumbers, ofWhole, blames, sooner, foremost, faultBy, scopeBy, scopeAfter, faultFrom}
+use Rattle.checking.specs.Along.{lower, blamed, kept, fresh, begun, idle, counted, worded, afterDoing, finished, onward, runs}
+use Rattle.checking.specs.declared.Scope.{Scope}
+use Rattle.checking.specs.declared.Doing.{Doing}
+use Rattle.checking.specs.declared.Ended.the-variants.{Then, Broken}
+use Rattle.checking.specs.declared.Fault.{Fault}
+use Rattle.checking.specs.declared.Fault.the-variants.{Clear}
 
 -- the sooner of two
 module _ (x y z : Blame) where

@@ -13,8 +13,8 @@ use Rattle.grammar.proofs.Tests.{and-left, and-right}
 use Rattle.definition.proofs.Range.{All}
 use Rattle.definition.proofs.Spelling.{NameChar}
 use Rattle.definition.proofs.Made.{Name}
-use Rattle.commands.specs.Letters.{firstUnit}
-use Rattle.commands.specs.Written.{packedBy}
+use Rattle.rules.specs.Letters.{firstUnit}
+use Rattle.rules.specs.Written.{packedBy}
 
 abbrev pub packed : List ℕ → ℕ
 packed l = packedBy firstUnit l

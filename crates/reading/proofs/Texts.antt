@@ -10,8 +10,8 @@ use Rattle.grammar.specs.Steps.{kindOf, entryOf, nextOf, modeAfter, markOf, rol
 use Rattle.definition.specs.Words.{bytesOf}
 use Rattle.definition.specs.Commands.{worth}
 use Rattle.pieces.specs.Pieces.{capped, pieces}
-use Rattle.commands.specs.Written.{Written, itemsOf, stops, written, letters, lastOf, packedBy}
-use Rattle.commands.specs.Account.{shapely, distance}
+use Rattle.rules.specs.Written.{Written, itemsOf, stops, written, letters, lastOf, packedBy}
+use Rattle.rules.specs.Rules.{shapely, distance}
 use Rattle.commands.specs.Words.{held, word, letterWords, bodyOf, closing, tally, wordsOf}
 
 spelled : ℕ → ℕ → List Written → List (List ℤ)

@@ -19,7 +19,7 @@ use Rattle.pieces.specs.Pieces.{capped, digitOf, placeAfter, withPiece, pieces}
 use Rattle.pieces.specs.declared.Piece.{Piece}
 use Rattle.pieces.specs.declared.Piece.the-variants.{Second, Word}
 use Rattle.pieces.specs.declared.Piece.the-variants.{Number as Numeral}
-use Rattle.commands.specs.Written.{itemsOf, stops}
+use Rattle.rules.specs.Written.{itemsOf, stops}
 use Rattle.commands.specs.Words.{signed}
 
 -- ---- the letters of a command

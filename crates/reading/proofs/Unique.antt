@@ -9,8 +9,8 @@ use Rattle.grammar.specs.declared.Verdict.the-variants.{InGrammar, StuckAt}
 use Rattle.grammar.proofs.Unique.{one-verdict}
 use Rattle.reading.specs.Refusal.{Checked, faultWords, Told}
 use Rattle.reading.specs.Refusal.{byVerdict, Refuses}
-use Rattle.commands.specs.declared.Fault.{Fault}
-use Rattle.commands.specs.declared.Fault.the-variants.{Refused}
+use Rattle.checking.specs.declared.Fault.{Fault}
+use Rattle.checking.specs.declared.Fault.the-variants.{Refused}
 
 pub one-fault : (t : List ℕ) (r s : Fault) → Checked t r → Checked t s → r ≡ s
 one-fault t r s h k = h .along ∙ sym (k .along)

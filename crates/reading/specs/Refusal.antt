@@ -12,9 +12,9 @@ use Rattle.grammar.specs.declared.Verdict.{Verdict}
 use Rattle.grammar.specs.declared.Verdict.the-variants.{InGrammar, StuckAt}
 use Rattle.definition.specs.Commands.{commands}
 use Rattle.definition.specs.Faults.{Refusal, firstFault}
-use Rattle.commands.specs.Account.{faultOf}
-use Rattle.commands.specs.declared.Fault.{Fault}
-use Rattle.commands.specs.declared.Fault.the-variants.{Clear, Refused}
+use Rattle.checking.specs.Account.{faultOf}
+use Rattle.checking.specs.declared.Fault.{Fault}
+use Rattle.checking.specs.declared.Fault.the-variants.{Clear, Refused}
 
 -- the definition's first of refusals 3 to 9, as the code says it
 abbrev pub faultSaid : Option Refusal → Fault

@@ -1,6 +1,6 @@
-// The first of refusals 2 to 9: `check` and `refusal` give the definition's own answer. That the account by which crate commands goes is the definition's
+// The first of refusals 2 to 9: `check` and `refusal` give the definition's own answer. That the account by which crate checking goes is the definition's
 // on every text of the grammar is proved here.
-use commands::Fault;
+use checking::Fault;
 ghost use Rattle.grammar.specs.Steps.{KindsLent, NextLent};
 ghost use Rattle.reading.specs.Refusal.{Checked, Refuses, Told};
 
@@ -9,7 +9,7 @@ fn check_by(text: &[u8], kinds: &[u8; 256], next: &[u16; grammar::tables::ENTRY_
     requires { ⌜ KindsLent (now kinds) × NextLent (now next) ⌝ }
     ensures { λ r. ⌜ Checked (now (text .entry)) r ⌝ }
 {
-    commands::checked(text, kinds, next)
+    checking::checked(text, kinds, next)
 }
 
 pub fn check(text: &[u8]) -> Fault

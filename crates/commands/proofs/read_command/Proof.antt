@@ -6,7 +6,7 @@ use Prim.Native.Nat.{_-_}
 use lib.IntN.{ℤ}
 use lib.ListN.{length}
 use Rattle.grammar.specs.Steps.{number}
-use Rattle.commands.proofs.Ahead.{finds, mark-less}
+use Rattle.pieces.proofs.Finds.{finds, mark-less}
 use Rattle.commands.proofs.Wording.{Seeking, seeking-start, seeking-ended, seeking-past, seeking-found}
 use Rattle.commands.proofs.read_command.Statement.{statement}
 use Rattle.commands.proofs.read_command.Tie as tie

@@ -6,7 +6,7 @@ use native.Mathlib.Omega.{arith}
 use borrow.Author.Needs.{needs}
 use lib.ListN.{length}
 use Rattle.grammar.specs.Steps.{number}
-use Rattle.commands.proofs.Ahead.{finds, step-less, mark-less}
+use Rattle.pieces.proofs.Finds.{finds, step-less, mark-less}
 use Rattle.commands.proofs.Wording.{Wording, wording-start, words-length, wording-number, wording-letter, wording-ended, wording-stop}
 use Rattle.commands.proofs.read_items.Statement.{statement}
 use Rattle.commands.proofs.read_items.Tie as tie

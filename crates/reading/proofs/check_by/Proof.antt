@@ -6,7 +6,7 @@ use mathlib.Core.List.{List}
 use Rattle.grammar.specs.Notation.{Letter}
 use Rattle.grammar.proofs.Markings.{marking-is}
 use Rattle.pieces.specs.Pieces.{stream, start}
-use Rattle.commands.specs.Account.{atStart, faultOf}
+use Rattle.checking.specs.Account.{atStart, faultOf}
 use Rattle.reading.proofs.Meaning.{runs-first}
 use Rattle.reading.proofs.Agree.{fault-is}
 use Rattle.reading.proofs.check_by.Statement.{statement}

@@ -1,0 +1,39 @@
+-- `add_number` meets its contract: field by field.
+-- Assumes nothing.
+use borrow.Author.Needs.{needs}
+use Rattle.checking.proofs.Checking.{counted-is}
+use Rattle.checking.proofs.add_number.Statement.{statement}
+use Rattle.checking.proofs.add_number.Tie as tie
+
+number-no-requires : tie.Need-number-no-requires
+number-no-requires c κs = search needs
+
+keep-requires : tie.Need-keep-requires
+keep-requires c κs = search needs
+
+keep-requires-2 : tie.Need-keep-requires-2
+keep-requires-2 c κs = search needs
+
+lower-of-requires : tie.Need-lower-of-requires
+lower-of-requires c κs = search needs
+
+blamed-at-requires : tie.Need-blamed-at-requires
+blamed-at-requires c κs = search needs
+
+add-t10 : tie.Need-add-t10
+add-t10 c = search needs
+
+returns : tie.Need-returns
+returns c = counted-is (c .before .before .before .before .before .before .args .s) (c .before .before .before .before .before .before .args .c) (c .before .before .before .before .before .before .args .p) (c .before .before .before .before .before .before .args .n) _ _ _ _ _ (c .before .before .before .before .before .number-no .ensures) (c .before .before .before .before .keep .ensures) (c .before .before .before .keep2 .ensures) (c .before .before .lower-of .ensures) (c .before .blamed-at .ensures)
+
+pub add-number-spec : {M : Type 1} → statement M
+add-number-spec =
+    tie.close
+    (tie.spec
+    number-no-requires
+    keep-requires
+    keep-requires-2
+    lower-of-requires
+    blamed-at-requires
+    add-t10
+    returns)

@@ -1,0 +1,218 @@
+// The rules for one command of a CIF text, in refusals 3 to 9: the lowest that a number meets, and the lowest that a whole command meets; what is scaled;
+// and a layer's name as one number. They stand below both passes over a text, the check and the drawing, so that both go by the same rules.
+ghost use mathlib.Core.Path.{_≡_};
+ghost use Prim.Native.Nat.{_+_, _*_, _≤_};
+ghost use Rattle.pieces.specs.Pieces.{tooLarge};
+ghost use Rattle.rules.specs.Letters.{byteUnit, firstUnit};
+ghost use Rattle.rules.specs.Rules.{shapely, distance, vital, scaleless, few, bare, pointsOf, many, emptyNo, numberNo, wholeNo};
+
+// 01, refusals 7 and 9.
+const LEAST_POINTS: usize = 3;
+
+const MOST_POINTS: usize = 1024;
+
+const MOST_TURNS: usize = 32;
+// Above the refusals that a command can meet: none.
+pub const NO_REFUSAL: usize = 10;
+// A layer's name is one number: its first letter counts FIRST_UNIT, and each behind it BYTE_UNIT times less.
+pub const BYTE_UNIT: usize = 256;
+
+pub const FIRST_UNIT: usize = 16_777_216;
+
+fn is_shape(letter: u8) -> bool
+    ensures { λ r. ⌜ r ≡ shapely letter ⌝ }
+{
+    if letter == b'B' {
+        return true;
+    }
+    if letter == b'P' {
+        return true;
+    }
+    if letter == b'R' {
+        return true;
+    }
+    letter == b'W'
+}
+
+// What is scaled: all but symbol numbers, a and b, and the directions of boxes and of R.
+pub fn is_distance(letter: u8, word: u8, index: usize) -> bool
+    ensures { λ r. ⌜ r ≡ distance letter word index ⌝ }
+{
+    if letter == b'B' {
+        return index < 4;
+    }
+    if letter == b'C' {
+        return word == b'T';
+    }
+    is_shape(letter)
+}
+
+// What may not be 0: a length, a width, a diameter, or the second number of a direction whose first is 0.
+fn is_vital(letter: u8, word: u8, index: usize, zero: bool) -> bool
+    ensures { λ r. ⌜ r ≡ vital letter word index zero ⌝ }
+{
+    if letter == b'B' {
+        if index < 2 {
+            return true;
+        }
+        if index == 5 {
+            return zero;
+        }
+        return false;
+    }
+    if letter == b'C' {
+        if word == b'R' {
+            if index % 2 == 0 {
+                return zero;
+            }
+            return false;
+        }
+        return false;
+    }
+    if index == 0 {
+        if letter == b'R' {
+            return true;
+        }
+        return letter == b'W';
+    }
+    false
+}
+
+fn empty_no(letter: u8, word: u8, index: usize, zero: bool, n: usize) -> usize
+    ensures { λ r. ⌜ r ≡ emptyNo letter word index zero n ⌝ }
+{
+    if n == 0 {
+        if is_vital(letter, word, index, zero) {
+            return 7;
+        }
+        return NO_REFUSAL;
+    }
+    NO_REFUSAL
+}
+
+// The lowest refusal that a number meets. At a scale of a = b, and so outside definitions, nothing is divided; elsewhere once.
+pub fn number_no(
+    a: usize,
+    b: usize,
+    letter: u8,
+    word: u8,
+    index: usize,
+    zero: bool,
+    n: usize,
+) -> usize
+    requires { ⌜ (a ≤ tooLarge) × (1 ≤ b) ⌝ }
+    ensures { λ r. ⌜ r ≡ numberNo a b letter word index zero n ⌝ }
+{
+    if pieces::LARGEST < n {
+        return 3;
+    }
+    if a == b {
+        return empty_no(letter, word, index, zero, n);
+    }
+    if is_distance(letter, word, index) {
+        let x = a * n;
+        let scaled = x / b;
+        if scaled * b == x {
+            if pieces::LARGEST < scaled {
+                return 6;
+            }
+            return empty_no(letter, word, index, zero, n);
+        }
+        return 5;
+    }
+    empty_no(letter, word, index, zero, n)
+}
+
+fn is_scaleless(letter: u8, word: u8, a: usize, b: usize) -> bool
+    ensures { λ r. ⌜ r ≡ scaleless letter word a b ⌝ }
+{
+    if letter == b'D' {
+        if word == b'S' {
+            if a == 0 {
+                return true;
+            }
+            return b == 0;
+        }
+        return false;
+    }
+    false
+}
+
+fn is_few(letter: u8, count: usize) -> bool
+    ensures { λ r. ⌜ r ≡ few letter count ⌝ }
+{
+    if letter == b'P' {
+        return count / 2 < LEAST_POINTS;
+    }
+    false
+}
+
+fn is_bare(letter: u8, layer: usize) -> bool
+    ensures { λ r. ⌜ r ≡ bare letter layer ⌝ }
+{
+    if is_shape(letter) {
+        return layer == 0;
+    }
+    false
+}
+
+fn points_of(letter: u8, count: usize) -> usize
+    ensures { λ r. ⌜ r ≡ pointsOf letter count ⌝ }
+{
+    if letter == b'P' {
+        return count / 2;
+    }
+    if letter == b'W' {
+        if count == 0 {
+            return 0;
+        }
+        return (count - 1) / 2;
+    }
+    0
+}
+
+fn is_many(letter: u8, count: usize, turns: usize) -> bool
+    ensures { λ r. ⌜ r ≡ many letter count turns ⌝ }
+{
+    if letter == b'C' {
+        return MOST_TURNS < turns;
+    }
+    let n = points_of(letter, count);
+    MOST_POINTS < n
+}
+
+// The lowest refusal that a whole command meets.
+pub fn whole_no(
+    letter: u8,
+    word: u8,
+    count: usize,
+    turns: usize,
+    a: usize,
+    b: usize,
+    layer: usize,
+) -> usize
+    ensures { λ r. ⌜ r ≡ wholeNo letter word count turns a b layer ⌝ }
+{
+    if is_scaleless(letter, word, a, b) {
+        return 4;
+    }
+    if is_few(letter, count) {
+        return 7;
+    }
+    if is_bare(letter, layer) {
+        return 8;
+    }
+    if is_many(letter, count, turns) {
+        return 9;
+    }
+    NO_REFUSAL
+}
+
+// A layer's name with one more letter, which counts the unit.
+pub fn longer_name(name: usize, unit: usize, letter: u8) -> usize
+    requires { ⌜ name + byteUnit * unit ≤ byteUnit * firstUnit ⌝ }
+    ensures { λ r. ⌜ r ≡ name + letter * unit ⌝ }
+{
+    let x = letter as usize;
+    name + x * unit
+}
