@@ -10,7 +10,7 @@ use Rattle.definition.specs.Commands.{Number, Shape, Turn, Command, draw, layer
 use Rattle.definition.specs.Standing.{Standing, after, outside, scaledShape, scaledTurn}
 use Rattle.definition.specs.Table.{Table, Definition, forget, enter}
 use Rattle.definition.specs.Drawing.{stepOf, retained, output, define, deedOf, deeds, Chain, Event, removed, drawShape, drawStep, drawBody, drawCall, happens, tableAfter, story}
-use Rattle.definition.proofs.Joined.{retained-out}
+use Rattle.laws.proofs.Joined.{retained-out}
 
 -- ---- a body
 

@@ -15,7 +15,7 @@ use Rattle.definition.specs.Faults.{beyond, both}
 use Rattle.definition.specs.Turns.{moved}
 use Rattle.definition.specs.Table.{Step, shape, instance, Definition, Table, find}
 use Rattle.definition.specs.Drawing.{Chain, Event, called, drew, entered, removed, refused, drawShape, drawStep, drawBody, callFault, unless, drawCall}
-use Rattle.definition.proofs.Counting.{redefinitionsOf, counted-all}
+use Rattle.laws.proofs.Counting.{redefinitionsOf, counted-all}
 use Rattle.counts.specs.declared.Counts.{Counts}
 use Rattle.shapes.specs.declared.Pen.{Pen}
 use Rattle.counts.specs.Counting.{tally}

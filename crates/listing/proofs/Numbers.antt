@@ -13,10 +13,10 @@ use lib.ListN.{length}
 use Rattle.definition.specs.Words.{if_then_else_, same}
 use Rattle.definition.specs.Flat.{shortest, decimal, spaced}
 use Rattle.definition.specs.Flat
-use Rattle.definition.proofs.Range.{All}
+use Rattle.laws.proofs.Range.{All}
 use Rattle.definition.proofs.Rows.{same-eq}
-use Rattle.definition.proofs.Decimals.{DigitByte, val, val-grows, digit-low, digit-high, shortest-is}
-use Rattle.definition.proofs.Sound.{Near}
+use Rattle.laws.proofs.Decimals.{DigitByte, val, val-grows, digit-low, digit-high, shortest-is}
+use Rattle.laws.proofs.Sound.{Near}
 use Rattle.pen.specs.Names.{packed}
 use Rattle.lines.specs.Followed.{line, fresh, named, lineAfter, numeral, ends, numeralAfter, valueOf, includes, axisOf, spanAfter}
 use Rattle.lines.specs.declared.Line.{Line}

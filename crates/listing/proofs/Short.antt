@@ -11,11 +11,11 @@ use Rattle.definition.specs.Faults.{least}
 use Rattle.definition.specs.Drawing.{Drawn}
 use Rattle.definition.specs.Flat.{shortest, decimal, spaced, letterOf, numbersOfShape, said, lines}
 use Rattle.definition.specs.Listing.{fields, shapeLines}
-use Rattle.definition.proofs.Range.{All}
-use Rattle.definition.proofs.Decimals.{shortest-is}
-use Rattle.definition.proofs.Shapes.{Formed, a-box, a-flash, a-wire, a-polygon}
-use Rattle.definition.proofs.Sound.{Sound}
-use Rattle.definition.proofs.Lengths.{shortest-length}
+use Rattle.laws.proofs.Range.{All}
+use Rattle.laws.proofs.Decimals.{shortest-is}
+use Rattle.laws.proofs.Shapes.{Formed, a-box, a-flash, a-wire, a-polygon}
+use Rattle.laws.proofs.Sound.{Sound}
+use Rattle.laws.proofs.Lengths.{shortest-length}
 
 -- ---- a line of the flat file has numbers
 

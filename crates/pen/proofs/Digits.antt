@@ -9,8 +9,8 @@ use lib.IntN.{ℤ, pos, negsuc, natAbs}
 use lib.ListN.{length, length-append}
 use lib.Seq.{sets}
 use Rattle.definition.specs.Flat.{digits, shortest, decimal}
-use Rattle.definition.proofs.Decimals.{by-shortest}
-use Rattle.definition.proofs.Lengths.{shortest-length}
+use Rattle.laws.proofs.Decimals.{by-shortest}
+use Rattle.laws.proofs.Lengths.{shortest-length}
 use Rattle.pen.specs.Writes.{Writes}
 use Rattle.pen.proofs.Writing.{last-first}
 

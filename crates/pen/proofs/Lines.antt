@@ -11,10 +11,10 @@ use lib.ListN.{length, drop, length-append}
 use Rattle.definition.specs.Words.{if_then_else_, same}
 use Rattle.definition.specs.Drawing.{Drawn}
 use Rattle.definition.specs.Flat.{spaced, letterOf, numbersOfShape, line, said, lines, flat}
-use Rattle.definition.proofs.Range.{All}
-use Rattle.definition.proofs.Joined.{lastLayer, lines-++}
-use Rattle.definition.proofs.Sound.{Sound}
-use Rattle.definition.proofs.Lengths.{lines-length}
+use Rattle.laws.proofs.Range.{All}
+use Rattle.laws.proofs.Joined.{lastLayer, lines-++}
+use Rattle.laws.proofs.Sound.{Sound}
+use Rattle.laws.proofs.Lengths.{lines-length}
 use Rattle.pen.specs.Writes.{Writes, layerLine}
 use Rattle.pen.specs.Names.{nameOf}
 use Rattle.pen.proofs.Writing.{both, same-bytes, nothing, begins}

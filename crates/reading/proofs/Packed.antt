@@ -10,9 +10,9 @@ use lib.Dec.{leb, eqb, leb→le}
 use lib.ListN.{length, getD}
 use Rattle.grammar.specs.Notation.{has}
 use Rattle.grammar.proofs.Tests.{and-left, and-right}
-use Rattle.definition.proofs.Range.{All}
-use Rattle.definition.proofs.Spelling.{NameChar}
-use Rattle.definition.proofs.Made.{Name}
+use Rattle.laws.proofs.Range.{All}
+use Rattle.laws.proofs.Spelling.{NameChar}
+use Rattle.laws.proofs.Made.{Name}
 use Rattle.rules.specs.Letters.{firstUnit}
 use Rattle.rules.specs.Written.{packedBy}
 
