@@ -25,6 +25,7 @@ use Rattle.turns.proofs.Nets.{near-more}
 use Rattle.pen.specs.Names.{nameOf}
 use Rattle.pieces.specs.Pieces.{behind, Fit, letterF}
 use Rattle.pieces.specs.declared.Spot.{Spot}
+use Rattle.pieces.proofs.Spots.{behind-fits}
 use Rattle.rules.specs.Letters.{letterC, letterL}
 use Rattle.rules.specs.Written.{Written}
 use Rattle.commands.specs.declared.Read.{Read}
@@ -84,20 +85,17 @@ ShapeDraws words letter end net l place c pen room r room′ =
 abbrev pub same-scene : {t : List ℕ} {rows : List Row} {drawing drawing′ : List ℕ} {level : ℕ} → take level drawing′ ≡ take level drawing → Scene t rows drawing level → Scene t rows drawing′ level
 same-scene e s = record { table = s .table; stands = s .stands; chain = s .chain; open-are = s .open-are ∙ sym e }
 
-behind-fits : {t : List ℕ} {from a b : ℕ} → Body t from a b → Fit t (behind true from)
-behind-fits k = record { within = k .within; state = omega arith }
-
 pub started : {t : List ℕ} {rows : List Row} {net : Net} {depth from a b : ℕ} (c : Counts) (pen : Pen) (words numbers : List ℤ) (drawing room : List ℕ)
     → Scene t rows drawing (32 - depth) → Body t from a b → Reached c pen → {spot : Spot} → spot ≡ behind true from
     → Underway t rows net depth from a b c pen words numbers drawing room words numbers drawing room spot 0 c pen
-started {t} {depth = depth} {a = a} {b = b} c pen words numbers drawing room s k r e = record {
+started {t} {depth = depth} {from = from} {a = a} {b = b} c pen words numbers drawing room s k r e = record {
   scene = s;
   body = k;
   along =
       λ s k outer h.
       let f = drawCall depth (s .table) (s .chain) outer in
       subst (λ (x : Spot). Along t a b f (s .chain) outer (bodyEvents depth s k outer) c pen room x 0 c pen room) (sym e) (start-body k f (s .chain) outer c pen room r);
-  fit = subst (Fit t) (sym e) (behind-fits k);
+  fit = subst (Fit t) (sym e) (behind-fits t true from (k .within));
   words-kept = refl;
   numbers-kept = refl;
   drawing-kept = refl;
