@@ -18,9 +18,9 @@ use Rattle.laws.proofs.Range.{All}
 use Rattle.laws.proofs.Sound.{Sound, all-sound}
 use Rattle.laws.proofs.Flattened.{reading, within-limit, shapes-counted}
 use Rattle.laws.proofs.Demand1.{located}
-use Rattle.pen.specs.Writes.{Writes}
+use Rattle.digits.specs.Writes.{Writes}
 use Rattle.pen.specs.Names.{packed}
-use Rattle.pen.proofs.Writing.{nothing, both, same-bytes, one-outcome}
+use Rattle.digits.proofs.Writing.{nothing, both, same-bytes, one-outcome}
 use Rattle.lines.specs.Followed.{fresh, nowhere}
 use Rattle.listing.specs.Account.{printed, spanOf, totalLine, windowOf, refusedLine, account}
 use Rattle.listing.specs.Listed.{Walks, Listed}

@@ -14,8 +14,8 @@ use mir.Facts.{toZ-ofZ}
 use Rattle.definition.specs.Words.{bytesOf}
 use Rattle.definition.specs.Flat.{decimal}
 use Rattle.definition.specs.Listing.{fields}
-use Rattle.pen.specs.Writes.{Writes}
-use Rattle.pen.proofs.Signs.{wrap}
+use Rattle.digits.specs.Writes.{Writes}
+use Rattle.digits.proofs.Signs.{wrap}
 use Rattle.lines.specs.declared.Span.{Span}
 use Rattle.listing.specs.Account.{windowOf}
 

@@ -5,8 +5,8 @@ use mathlib.Core.List.{List, _++_}
 use Prim.Native.Nat.{ℕ, _+_, _*_, _≤_, _<_}
 use native.Mathlib.Omega.{arith}
 use lib.ListN.{length, getD, drop}
-use Rattle.pen.specs.Writes.{Writes}
-use Rattle.pen.proofs.Writing.{Going, begun, goes-on, over}
+use Rattle.digits.specs.Writes.{Writes}
+use Rattle.digits.proofs.Writing.{Going, begun, goes-on, over}
 use Rattle.lines.specs.Followed.{fresh, lineAfter, numeralAfter, spanAfter, Fits, unread, seenAfter}
 use Rattle.lines.specs.declared.Line.{Line}
 use Rattle.lines.specs.declared.Numeral.{Numeral}

@@ -8,7 +8,7 @@ use lib.ListN.{length, getD}
 use Rattle.definition.specs.declared.Answer.{Answer}
 use Rattle.definition.specs.Answer.{Outcome, flatFile, given-back, Answers}
 use Rattle.definition.specs.Listing.{listing}
-use Rattle.pen.specs.Writes.{Writes}
+use Rattle.digits.specs.Writes.{Writes}
 use Rattle.lines.specs.Followed.{fresh}
 use Rattle.listing.specs.Account.{printed, spanOf, account}
 use Rattle.listing.specs.declared.Walked.{Walked}

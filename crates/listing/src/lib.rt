@@ -6,7 +6,7 @@ ghost use Prim.Native.Nat.{_+_, _^_, _≤_};
 ghost use lib.IntN.{pos};
 ghost use lib.ListN.{length};
 ghost use Rattle.definition.specs.Flat.{decimal};
-ghost use Rattle.pen.specs.Writes.{Writes};
+ghost use Rattle.digits.specs.Writes.{Writes};
 ghost use Rattle.pen.specs.Names.{nameOf};
 ghost use Rattle.listing.specs.Account.{quiet, heading, wrote, totalLine, windowOf, refusedLine};
 ghost use Rattle.listing.specs.Listed.{Walks, Listed, answerBy};
@@ -32,7 +32,7 @@ fn put_word(out: &mut [u8], start: usize, word: &[u8]) -> usize
     let mut at = start;
     let mut i = 0;
     while i < word.len() {
-        at = pen::put(out, at, word[i]);
+        at = digits::put(out, at, word[i]);
         i += 1;
     }
     at
@@ -43,8 +43,8 @@ fn put_field(out: &mut [u8], at: usize, n: u64) -> usize
     ensures { λ r. ⌜ Writes (now (out .entry)) (now (out .exit)) at r (9 ∷ decimal (pos n)) ⌝ }
     ensures { λ r. ⌜ r ≤ at + 21 ⌝ }
 {
-    let next = pen::put(out, at, TAB);
-    pen::put_digits(out, next, n)
+    let next = digits::put(out, at, TAB);
+    digits::put_digits(out, next, n)
 }
 
 fn put_signed_field(out: &mut [u8], at: usize, z: i64) -> usize
@@ -52,8 +52,8 @@ fn put_signed_field(out: &mut [u8], at: usize, z: i64) -> usize
     ensures { λ r. ⌜ Writes (now (out .entry)) (now (out .exit)) at r (9 ∷ decimal z) ⌝ }
     ensures { λ r. ⌜ r ≤ at + 21 ⌝ }
 {
-    let next = pen::put(out, at, TAB);
-    pen::put_decimal(out, next, z)
+    let next = digits::put(out, at, TAB);
+    digits::put_decimal(out, next, z)
 }
 
 fn put_name_field(out: &mut [u8], at: usize, layer: u32) -> usize
@@ -61,7 +61,7 @@ fn put_name_field(out: &mut [u8], at: usize, layer: u32) -> usize
     ensures { λ r. ⌜ Writes (now (out .entry)) (now (out .exit)) at r (9 ∷ nameOf layer) ⌝ }
     ensures { λ r. ⌜ r ≤ at + 5 ⌝ }
 {
-    let next = pen::put(out, at, TAB);
+    let next = digits::put(out, at, TAB);
     pen::put_name(out, next, layer)
 }
 
@@ -69,9 +69,9 @@ fn put_kind_field(out: &mut [u8], at: usize, letter: u8) -> usize
     requires { ⌜ at ≤ 2 ^ 59 ⌝ }
     ensures { λ r. ⌜ Writes (now (out .entry)) (now (out .exit)) at r (9 ∷ letter ∷ 9 ∷ []) ⌝ }
 {
-    let next = pen::put(out, at, TAB);
-    let behind = pen::put(out, next, letter);
-    pen::put(out, behind, TAB)
+    let next = digits::put(out, at, TAB);
+    let behind = digits::put(out, next, letter);
+    digits::put(out, behind, TAB)
 }
 
 // What stands before a shape's numbers.
@@ -116,9 +116,9 @@ fn put_byte(out: &mut [u8], at: usize, line: lines::Line, b: u8) -> usize
         return at;
     }
     if b == b';' {
-        return pen::put(out, at, LINE_FEED);
+        return digits::put(out, at, LINE_FEED);
     }
-    pen::put(out, at, b)
+    digits::put(out, at, b)
 }
 
 // The lines of all shapes, from one pass over the flat file.
@@ -149,7 +149,7 @@ fn put_total(out: &mut [u8], at: usize, shapes: u64, calls: u64, redefinitions: 
     let second = put_field(out, first, shapes);
     let third = put_field(out, second, calls);
     let last = put_field(out, third, redefinitions);
-    pen::put(out, last, LINE_FEED)
+    digits::put(out, last, LINE_FEED)
 }
 
 fn put_window(out: &mut [u8], at: usize, xs: lines::Span, ys: lines::Span) -> usize
@@ -164,7 +164,7 @@ fn put_window(out: &mut [u8], at: usize, xs: lines::Span, ys: lines::Span) -> us
         let third = put_signed_field(out, second, ys.low);
         let fourth = put_signed_field(out, third, xs.high);
         let last = put_signed_field(out, fourth, ys.high);
-        return pen::put(out, last, LINE_FEED);
+        return digits::put(out, last, LINE_FEED);
     }
     put_word(out, first, b"\tnone\n")
 }
@@ -176,7 +176,7 @@ fn put_refusal(out: &mut [u8], number: u64, place: u64) -> usize
     let first = put_word(out, 0, b"refused");
     let second = put_field(out, first, number);
     let last = put_field(out, second, place);
-    pen::put(out, last, LINE_FEED)
+    digits::put(out, last, LINE_FEED)
 }
 
 // Prints into `out` what the list program prints of an answer and its flat file, as far as the room reaches, and gives back how many bytes that are

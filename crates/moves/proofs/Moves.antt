@@ -22,7 +22,7 @@ use Rattle.turns.specs.declared.Net.{Net}
 use Rattle.turns.specs.declared.Pair.{Pair}
 use Rattle.turns.proofs.Signed.{told}
 use Rattle.moves.specs.Moves.{sizeCount, directionCount, BeginAt, EndAt, Copied, Pointed, Moves, ShapedAt, MovesShape}
-use Rattle.pen.proofs.Writing.{sets-append}
+use Rattle.digits.proofs.Writing.{sets-append}
 
 both-++ : (a b : List (Point ℤ)) → both (a ++ b) ≡ both a ++ both b
 both-++ [] b = refl

@@ -18,9 +18,9 @@ use Rattle.turns.specs.declared.Net.{Net}
 use Rattle.turns.proofs.Nets.{moved-by}
 use Rattle.moves.specs.declared.Lined.{Lined}
 use Rattle.moves.specs.declared.Lined.the-variants.{Beyond, Written}
-use Rattle.pen.specs.Writes.{Writes}
+use Rattle.digits.specs.Writes.{Writes}
 use Rattle.moves.specs.Moves.{mostValues, ShapedAt, placed, placedNumbers, MovesShape, LineOf, PutsShape}
-use Rattle.pen.proofs.Writing.{same-bytes, one-outcome}
+use Rattle.digits.proofs.Writing.{same-bytes, one-outcome}
 use Rattle.moves.proofs.Moves.{map-both}
 
 pub placed-moved : (ts : List (Turn ℤ)) (net : Net) → Carries ts net → (k : Shape ℤ) → placed net k ≡ moved ts k

@@ -14,7 +14,7 @@ use Rattle.definition.specs.Faults.{beyond, both}
 use Rattle.definition.specs.Flat.{spaced, letterOf, numbersOfShape, line}
 use Rattle.turns.specs.Nets.{apply, turned}
 use Rattle.turns.specs.declared.Net.{Net}
-use Rattle.pen.specs.Writes.{Writes}
+use Rattle.digits.specs.Writes.{Writes}
 use Rattle.moves.specs.declared.Lined.{Lined}
 use Rattle.moves.specs.declared.Lined.the-variants.{Beyond, Written}
 

@@ -19,7 +19,7 @@ use Rattle.laws.proofs.Range.{All, all-to}
 use Rattle.definition.proofs.Rows.{same-eq}
 use Rattle.laws.proofs.Spelling.{NameChar}
 use Rattle.laws.proofs.Sound.{Sound}
-use Rattle.pen.specs.Writes.{layerLine}
+use Rattle.pen.specs.Lines.{layerLine}
 use Rattle.pen.specs.Names.{packed, behind, unpacked, nameOf, earlier}
 
 -- CM is the bytes 67 and 77, and two of zero

@@ -12,9 +12,19 @@ use lib.IntN.{ℤ, pos, natAbs}
 use lib.ListN.{length, getD, drop, drop-of-length-le}
 use lib.Seq.{drop-cons}
 use Rattle.definition.specs.Flat.{decimal, spaced, line}
-use Rattle.pen.specs.Writes.{Writes, number}
-use Rattle.pen.proofs.Writing.{Going, begun, goes-on, over}
-use Rattle.pen.proofs.Digits.{decimal-64}
+use Rattle.digits.specs.Writes.{Writes}
+use Rattle.pen.specs.Lines.{space, number}
+use Rattle.digits.proofs.Writing.{Going, begun, goes-on, over}
+use Rattle.digits.proofs.Digits.{decimal-64}
+
+-- a space, and the number behind it
+pub space-short : (first : Bool) → length (space first) ≤ 1
+space-short true = omega arith
+space-short false = omega arith
+
+pub space-number : (first : Bool) (z : ℤ) → space first ++ decimal z ≡ number first z
+space-number true z = refl
+space-number false z = refl
 
 -- the numbers, of which the first is a line's first or not
 unfoldable pub numbersBy : Bool → List ℤ → List ℕ

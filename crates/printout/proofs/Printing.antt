@@ -15,8 +15,8 @@ use Rattle.definition.specs.Answer.{Outcome, accepted, rejected, flatFile, answ
 use Rattle.definition.specs.Listing.{fields, listing, Lists, over, within}
 use Rattle.definition.proofs.Right.{unique}
 use Rattle.laws.proofs.Demand1.{refusal-holds, success-holds}
-use Rattle.pen.specs.Writes.{Writes}
-use Rattle.pen.proofs.Writing.{begins, same-bytes, one-outcome}
+use Rattle.digits.specs.Writes.{Writes}
+use Rattle.digits.proofs.Writing.{begins, same-bytes, one-outcome}
 use Rattle.listing.specs.Account.{account, refusedLine}
 use Rattle.listing.specs.Listed.{Listed}
 use Rattle.printout.specs.Prints.{Lays, Prints, roomLength, listingLength}

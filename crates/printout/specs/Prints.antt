@@ -5,7 +5,7 @@ use mathlib.Core.List.{List}
 use Prim.Native.Nat.{ℕ, _≤_}
 use lib.ListN.{length, take}
 use Rattle.definition.specs.Listing.{Lists}
-use Rattle.pen.specs.Writes.{Writes}
+use Rattle.digits.specs.Writes.{Writes}
 
 -- 01: its room is 32,768 bytes; no listing is longer than four bytes for each of those and 256 more
 abbrev pub roomLength : ℕ

@@ -25,9 +25,9 @@ use Rattle.reading.specs.Refusal.{faultSaid, byVerdict}
 use Rattle.checking.specs.declared.Fault.{Fault}
 use Rattle.checking.specs.declared.Fault.the-variants.{Clear, Refused}
 use Rattle.pen.specs.Names.{nameOf}
-use Rattle.pen.specs.Writes.{Writes}
+use Rattle.digits.specs.Writes.{Writes}
 use Rattle.pen.proofs.Names.{no-name}
-use Rattle.pen.proofs.Writing.{both, written, begins}
+use Rattle.digits.proofs.Writing.{both, written, begins}
 use Rattle.counts.specs.declared.Counts.{Counts}
 use Rattle.counts.specs.Counting.{tally}
 use Rattle.shapes.specs.declared.Pen.{Pen}

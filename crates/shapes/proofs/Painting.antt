@@ -14,8 +14,8 @@ use Rattle.definition.specs.Counts.{Counts as Tally}
 use Rattle.definition.specs.Flat.{lines}
 use Rattle.laws.proofs.Joined.{ending-++, shapesOf-++}
 use Rattle.pen.specs.Names.{nameOf}
-use Rattle.pen.specs.Writes.{Writes}
-use Rattle.pen.proofs.Writing.{both, written}
+use Rattle.digits.specs.Writes.{Writes}
+use Rattle.digits.proofs.Writing.{both, written}
 use Rattle.counts.specs.declared.Counts.{Counts}
 use Rattle.shapes.specs.declared.Pen.{Pen}
 use Rattle.shapes.specs.declared.Drawn.{Drawn}

@@ -19,7 +19,8 @@ use Rattle.definition.specs.Flat.{numbersOfShape, line, spaced, said, lines}
 use Rattle.turns.specs.Nets.{Carries}
 use Rattle.turns.specs.declared.Net.{Net}
 use Rattle.pen.specs.Names.{nameOf}
-use Rattle.pen.specs.Writes.{Writes, layerLine}
+use Rattle.digits.specs.Writes.{Writes}
+use Rattle.pen.specs.Lines.{layerLine}
 use Rattle.pen.proofs.Lines.{Handed, shape-said, layer-line-length}
 use Rattle.moves.proofs.Shapes.{placed-moved, part-placed}
 use Rattle.counts.specs.declared.Counts.{Counts}

@@ -4,7 +4,7 @@ use borrow.Author.Tests.{eq-eqb, ne-eqb}
 use mathlib.Core.Path.{sym, _∙_}
 use native.Mathlib.Omega.{arith}
 use Rattle.listing.specs.Account.{wrote}
-use Rattle.pen.proofs.Writing.{same-bytes, nothing}
+use Rattle.digits.proofs.Writing.{same-bytes, nothing}
 use borrow.Author.Needs.{needs}
 use Rattle.listing.proofs.put_byte.Statement.{statement}
 use Rattle.listing.proofs.put_byte.Tie as tie

@@ -1,9 +1,9 @@
 -- `listing::put_field` meets its contract: one write after the other; a number of 64 bits has at most 20 digits.
 -- Assumes nothing.
 use native.Mathlib.Omega.{arith}
-use Rattle.pen.proofs.Digits.{digits-64}
+use Rattle.digits.proofs.Digits.{digits-64}
 use Rattle.definition.specs.Flat.{decimal}
-use Rattle.pen.proofs.Writing.{both}
+use Rattle.digits.proofs.Writing.{both}
 use borrow.Author.Needs.{needs}
 use Rattle.listing.proofs.put_field.Statement.{statement}
 use Rattle.listing.proofs.put_field.Tie as tie

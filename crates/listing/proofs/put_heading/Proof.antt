@@ -3,7 +3,7 @@
 use native.Mathlib.Omega.{arith}
 use Rattle.definition.specs.Words.{bytesOf}
 use Rattle.listing.specs.Account.{heading}
-use Rattle.pen.proofs.Writing.{both}
+use Rattle.digits.proofs.Writing.{both}
 use borrow.Author.Needs.{needs}
 use Rattle.listing.proofs.put_heading.Statement.{statement}
 use Rattle.listing.proofs.put_heading.Tie as tie

@@ -1,6 +1,6 @@
 -- `listing::put_kind_field` meets its contract: one write after the other.
 -- Assumes nothing.
-use Rattle.pen.proofs.Writing.{both}
+use Rattle.digits.proofs.Writing.{both}
 use borrow.Author.Needs.{needs}
 use Rattle.listing.proofs.put_kind_field.Statement.{statement}
 use Rattle.listing.proofs.put_kind_field.Tie as tie

@@ -2,7 +2,7 @@
 -- Assumes nothing.
 use native.Mathlib.Omega.{arith}
 use Rattle.pen.proofs.Names.{name-length}
-use Rattle.pen.proofs.Writing.{both}
+use Rattle.digits.proofs.Writing.{both}
 use borrow.Author.Needs.{needs}
 use Rattle.listing.proofs.put_name_field.Statement.{statement}
 use Rattle.listing.proofs.put_name_field.Tie as tie

@@ -1,10 +1,10 @@
 -- `listing::put_signed_field` meets its contract: one write after the other; a number of 64 bits has at most 20 bytes.
 -- Assumes nothing.
 use native.Mathlib.Omega.{arith}
-use Rattle.pen.proofs.Digits.{decimal-64}
+use Rattle.digits.proofs.Digits.{decimal-64}
 use lib.Signed.{natAbs-le}
 use mir.Facts.{toZ-ofZ}
-use Rattle.pen.proofs.Writing.{both}
+use Rattle.digits.proofs.Writing.{both}
 use borrow.Author.Needs.{needs}
 use Rattle.listing.proofs.put_signed_field.Statement.{statement}
 use Rattle.listing.proofs.put_signed_field.Tie as tie

@@ -2,7 +2,7 @@
 -- Assumes nothing.
 use native.Mathlib.Omega.{arith}
 use Rattle.definition.specs.Words.{bytesOf}
-use Rattle.pen.proofs.Writing.{both}
+use Rattle.digits.proofs.Writing.{both}
 use Rattle.listing.proofs.Steps.{told-field, some-window, no-window}
 use borrow.Author.Needs.{needs}
 use Rattle.listing.proofs.put_window.Statement.{statement}

@@ -3,7 +3,7 @@
 use Prim.Native.Nat.{_-_, _≤_}
 use native.Mathlib.Omega.{arith}
 use lib.ListN.{length, drop}
-use Rattle.pen.proofs.Writing.{Going, begun, goes-on, over, reaches}
+use Rattle.digits.proofs.Writing.{Going, begun, goes-on, over, reaches}
 use Rattle.listing.proofs.Steps.{next-byte, no-byte}
 use Rattle.listing.proofs.put_word.Statement.{statement}
 use Rattle.listing.proofs.put_word.Tie as tie

@@ -1,6 +1,6 @@
 -- `pen::put_end` meets its contract: the last line is two bytes, one write after the other.
 -- Assumes nothing.
-use Rattle.pen.proofs.Writing.{both}
+use Rattle.digits.proofs.Writing.{both}
 use borrow.Author.Needs.{needs}
 use Rattle.pen.proofs.put_end.Statement.{statement}
 use Rattle.pen.proofs.put_end.Tie as tie

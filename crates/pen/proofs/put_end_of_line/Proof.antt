@@ -1,6 +1,6 @@
 -- `pen::put_end_of_line` meets its contract: two bytes, one write after the other.
 -- Assumes nothing.
-use Rattle.pen.proofs.Writing.{both}
+use Rattle.digits.proofs.Writing.{both}
 use borrow.Author.Needs.{needs}
 use Rattle.pen.proofs.put_end_of_line.Statement.{statement}
 use Rattle.pen.proofs.put_end_of_line.Tie as tie

@@ -2,7 +2,7 @@
 -- Assumes nothing.
 use mathlib.Core.Path.{sym}
 use native.Mathlib.Omega.{arith}
-use Rattle.pen.proofs.Writing.{both, same-bytes, nothing}
+use Rattle.digits.proofs.Writing.{both, same-bytes, nothing}
 use Rattle.pen.proofs.Names.{name-length, no-line, a-line}
 use borrow.Author.Needs.{needs}
 use Rattle.pen.proofs.put_layer_line.Statement.{statement}

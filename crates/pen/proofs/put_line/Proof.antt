@@ -1,7 +1,7 @@
 -- `pen::put_line` meets its contract: the letter, the numbers and the line's end, one write after the other.
 -- Assumes nothing.
 use native.Mathlib.Omega.{arith}
-use Rattle.pen.proofs.Writing.{both}
+use Rattle.digits.proofs.Writing.{both}
 use borrow.Author.Needs.{needs}
 use Rattle.pen.proofs.put_line.Statement.{statement}
 use Rattle.pen.proofs.put_line.Tie as tie

@@ -5,7 +5,7 @@ use Prim.Native.Nat.{_<_}
 use native.Mathlib.Omega.{arith}
 use lib.ListN.{length}
 use Rattle.pen.specs.Names.{nameOf}
-use Rattle.pen.proofs.Writing.{Going, begun, goes-on, over, reaches}
+use Rattle.digits.proofs.Writing.{Going, begun, goes-on, over, reaches}
 use Rattle.pen.proofs.Names.{name-bytes, name-length, no-name}
 use Rattle.pen.proofs.put_name.Statement.{statement}
 use Rattle.pen.proofs.put_name.Tie as tie

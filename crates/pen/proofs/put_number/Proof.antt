@@ -2,8 +2,8 @@
 -- Assumes nothing.
 use native.Mathlib.Omega.{arith}
 use mir.Facts.{toZ-ofZ}
-use Rattle.pen.proofs.Writing.{both, same-bytes}
-use Rattle.pen.proofs.Signs.{space-number, space-short}
+use Rattle.digits.proofs.Writing.{both, same-bytes}
+use Rattle.pen.proofs.Numbers.{space-number, space-short}
 use borrow.Author.Needs.{needs}
 use Rattle.pen.proofs.put_number.Statement.{statement}
 use Rattle.pen.proofs.put_number.Tie as tie

@@ -4,7 +4,7 @@ use Prim.Native.Nat.{_-_}
 use native.Mathlib.Omega.{arith}
 use lib.IntN.{pos}
 use lib.ListN.{length, getD}
-use Rattle.pen.proofs.Signs.{lent}
+use Rattle.digits.proofs.Signs.{lent}
 use Rattle.pen.proofs.Numbers.{Along, first-along, next-along, all-along}
 use Rattle.pen.proofs.put_numbers.Statement.{statement}
 use Rattle.pen.proofs.put_numbers.Tie as tie

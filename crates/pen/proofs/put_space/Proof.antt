@@ -1,6 +1,6 @@
 -- `put_space` meets its contract.
 -- Assumes nothing.
-use Rattle.pen.proofs.Writing.{nothing, same-bytes}
+use Rattle.digits.proofs.Writing.{nothing, same-bytes}
 use borrow.Author.Needs.{needs}
 use Rattle.pen.proofs.put_space.Statement.{statement}
 use Rattle.pen.proofs.put_space.Tie as tie

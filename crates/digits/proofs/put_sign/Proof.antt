@@ -1,10 +1,10 @@
 -- `put_sign` meets its contract: a minus sign before a negative number, and nothing before any other.
 -- Assumes nothing.
-use Rattle.pen.proofs.Writing.{nothing, same-bytes}
-use Rattle.pen.proofs.Signs.{negative, positive, minus, no-minus}
+use Rattle.digits.proofs.Writing.{nothing, same-bytes}
+use Rattle.digits.proofs.Signs.{negative, positive, minus, no-minus}
 use borrow.Author.Needs.{needs}
-use Rattle.pen.proofs.put_sign.Statement.{statement}
-use Rattle.pen.proofs.put_sign.Tie as tie
+use Rattle.digits.proofs.put_sign.Statement.{statement}
+use Rattle.digits.proofs.put_sign.Tie as tie
 
 put-requires : tie.Need-put-requires
 put-requires c κs = search needs

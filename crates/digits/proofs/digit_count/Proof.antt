@@ -5,9 +5,9 @@ use Prim.Native.Nat.{_+_}
 use native.Mathlib.Omega.{arith}
 use lib.ListN.{length}
 use Rattle.definition.specs.Flat.{shortest}
-use Rattle.pen.proofs.Digits.{counts-one, counts-more, digits-64}
-use Rattle.pen.proofs.digit_count.Statement.{statement}
-use Rattle.pen.proofs.digit_count.Tie as tie
+use Rattle.digits.proofs.Digits.{counts-one, counts-more, digits-64}
+use Rattle.digits.proofs.digit_count.Statement.{statement}
+use Rattle.digits.proofs.digit_count.Tie as tie
 
 abbrev Inv-loop : tie.InvT-loop
 Inv-loop n count₀ high₀ count high = count + length (shortest high) ≡ length (shortest n) + 1

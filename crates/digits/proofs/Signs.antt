@@ -14,7 +14,7 @@ use mir.Facts.{toZ-ofZ}
 use mir.Syntax.{w64}
 use mir.Val.{SFits, toZ, ofZ}
 use Rattle.definition.specs.Flat.{shortest, decimal}
-use Rattle.pen.specs.Writes.{sign, space, number}
+use Rattle.digits.specs.Writes.{sign}
 
 abbrev pub wrap : ℤ → ℤ
 wrap z = toZ w64 (ofZ w64 z)
@@ -91,18 +91,10 @@ pub sign-short : (z : ℤ) → length (sign z) ≤ 1
 sign-short (pos n) = omega arith
 sign-short (negsuc n) = omega arith
 
-pub space-short : (first : Bool) → length (space first) ≤ 1
-space-short true = omega arith
-space-short false = omega arith
-
 pub sign-size : (z : ℤ) → sign z ++ shortest (natAbs z) ≡ decimal z
 unfolding decimal
 sign-size (pos n) = refl
 sign-size (negsuc n) = refl
-
-pub space-number : (first : Bool) (z : ℤ) → space first ++ decimal z ≡ number first z
-space-number true z = refl
-space-number false z = refl
 
 -- an element of a lent run
 pub lent : (z : ℤ) → mag z < 9223372036854775808 → (wrap z ≡ z) × (natAbs z ≤ 9223372036854775808)

@@ -2,10 +2,10 @@
 -- Assumes nothing.
 use native.Mathlib.Omega.{arith}
 use borrow.Author.Needs.{needs}
-use Rattle.pen.proofs.Writing.{only-counted}
-use Rattle.pen.proofs.Digits.{digits-64}
-use Rattle.pen.proofs.put_digits.Statement.{statement}
-use Rattle.pen.proofs.put_digits.Tie as tie
+use Rattle.digits.proofs.Writing.{only-counted}
+use Rattle.digits.proofs.Digits.{digits-64}
+use Rattle.digits.proofs.put_digits.Statement.{statement}
+use Rattle.digits.proofs.put_digits.Tie as tie
 
 digit-count-requires : tie.Need-digit-count-requires
 digit-count-requires c κs = search needs

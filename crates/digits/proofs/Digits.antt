@@ -11,8 +11,8 @@ use lib.Seq.{sets}
 use Rattle.definition.specs.Flat.{digits, shortest, decimal}
 use Rattle.laws.proofs.Decimals.{by-shortest}
 use Rattle.laws.proofs.Lengths.{shortest-length}
-use Rattle.pen.specs.Writes.{Writes}
-use Rattle.pen.proofs.Writing.{last-first}
+use Rattle.digits.specs.Writes.{Writes}
+use Rattle.digits.proofs.Writing.{last-first}
 
 -- ---- one digit, and more
 

@@ -2,10 +2,10 @@
 -- Assumes nothing.
 use native.Mathlib.Omega.{arith}
 use mir.Facts.{toZ-ofZ}
-use Rattle.pen.proofs.Signs.{negative, positive, at-least, at-most, size-turned, size-kept}
+use Rattle.digits.proofs.Signs.{negative, positive, at-least, at-most, size-turned, size-kept}
 use borrow.Author.Needs.{needs}
-use Rattle.pen.proofs.size_of.Statement.{statement}
-use Rattle.pen.proofs.size_of.Tie as tie
+use Rattle.digits.proofs.size_of.Statement.{statement}
+use Rattle.digits.proofs.size_of.Tie as tie
 
 cast-result : tie.Need-cast-result
 cast-result c = let n = positive (c .before .args .z) (c .before .fits .z) (at-least (c .before .args .z) (c .before .fits .z) (c .if1 .taken)) in rw (toZ-ofZ (c .before .fits .z), n .is) (tt, record { fits = omega arith })

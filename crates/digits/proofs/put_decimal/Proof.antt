@@ -2,11 +2,11 @@
 -- Assumes nothing.
 use native.Mathlib.Omega.{arith}
 use mir.Facts.{toZ-ofZ}
-use Rattle.pen.proofs.Writing.{both, same-bytes}
-use Rattle.pen.proofs.Signs.{sign-size, sign-short}
+use Rattle.digits.proofs.Writing.{both, same-bytes}
+use Rattle.digits.proofs.Signs.{sign-size, sign-short}
 use borrow.Author.Needs.{needs}
-use Rattle.pen.proofs.put_decimal.Statement.{statement}
-use Rattle.pen.proofs.put_decimal.Tie as tie
+use Rattle.digits.proofs.put_decimal.Statement.{statement}
+use Rattle.digits.proofs.put_decimal.Tie as tie
 
 put-sign-requires : tie.Need-put-sign-requires
 put-sign-requires c κs = search needs

@@ -2,9 +2,9 @@
 -- Assumes nothing.
 use Prim.Native.Nat.{_≤_}
 use native.Mathlib.Omega.{arith}
-use Rattle.pen.proofs.Digits.{Backward, none-stored, one-stored, all-stored}
-use Rattle.pen.proofs.put_backward.Statement.{statement}
-use Rattle.pen.proofs.put_backward.Tie as tie
+use Rattle.digits.proofs.Digits.{Backward, none-stored, one-stored, all-stored}
+use Rattle.digits.proofs.put_backward.Statement.{statement}
+use Rattle.digits.proofs.put_backward.Tie as tie
 
 abbrev Inv-loop : tie.InvT-loop
 Inv-loop room₀ at end n rest₀ i₀ room rest i = Backward room₀ room at i n rest × (i ≤ end)

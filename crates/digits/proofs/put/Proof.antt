@@ -1,10 +1,10 @@
 -- `pen::put` meets its contract: past the room's end nothing is stored, which is what a store there does to a list.
 -- Assumes nothing.
 use mathlib.Core.Path.{refl}
-use Rattle.pen.proofs.Writing.{only-counted}
+use Rattle.digits.proofs.Writing.{only-counted}
 use borrow.Author.Needs.{needs}
-use Rattle.pen.proofs.put.Statement.{statement}
-use Rattle.pen.proofs.put.Tie as tie
+use Rattle.digits.proofs.put.Statement.{statement}
+use Rattle.digits.proofs.put.Tie as tie
 
 slice-write-room : tie.Need-slice-write-room
 slice-write-room c = search needs
