@@ -9,7 +9,7 @@ use Rattle.definition.specs.Words.{Placed, at}
 use Rattle.definition.specs.Commands.{Number, Shape, Turn, Command, draw, layer, call, start, finish, delete, nothing}
 use Rattle.definition.specs.Standing.{Standing, after, outside, scaledShape, scaledTurn}
 use Rattle.definition.specs.Table.{Table, Definition, forget, enter}
-use Rattle.definition.specs.Drawing.{stepOf, retained, output, define, deedOf, deeds, Chain, Event, removed, drawShape, drawStep, drawBody, drawCall, happens, tableAfter, story}
+use Rattle.definition.specs.Drawing.{stepOf, retained, define, deedOf, deeds, Chain, Event, removed, drawShape, drawStep, drawBody, drawCall, happens, tableAfter, story}
 use Rattle.laws.proofs.Joined.{retained-out}
 
 -- ---- a body

@@ -15,7 +15,7 @@ use Rattle.pieces.specs.Pieces.{tooLarge, stream, start, Fit, Step}
 use Rattle.pieces.specs.declared.Spot.{Spot}
 use Rattle.pieces.specs.declared.Piece.{Piece}
 use Rattle.pieces.specs.declared.Piece.the-variants.{First, Second, Number, Word, Stop}
-use Rattle.rules.specs.Letters.{letterD, letterL, noRefusal, byteUnit, firstUnit}
+use Rattle.rules.specs.Letters.{letterD, letterL, noRefusal, byteUnit}
 use Rattle.pieces.specs.Pieces.{letterS, letterF}
 use Rattle.rules.specs.Written.{one, turning}
 use Rattle.rules.specs.Rules.{scaleless, few, bare, many, numberNo, wholeNo}

@@ -23,10 +23,10 @@ use Rattle.pieces.specs.Pieces.{stream, behind, insideAfter, Fit, Step}
 use Rattle.pieces.specs.declared.Spot.{Spot}
 use Rattle.pieces.specs.declared.Piece.{Piece}
 use Rattle.pieces.specs.declared.Piece.the-variants.{First, Second, Number, Word, Stop}
-use Rattle.rules.specs.Letters.{letterC, letterM, byteUnit, firstUnit, widest}
+use Rattle.rules.specs.Letters.{letterC, letterM, byteUnit, firstUnit}
 use Rattle.rules.specs.Written.{Written, itemsOf, stops, written, writtenAt, letters, lastOf, packedBy, insideBehind}
 use Rattle.rules.specs.Rules.{distance}
-use Rattle.commands.specs.Words.{held, signed, word, valueOf, letterWords, bodyOf, tally, kindBy, framed, wordsOf, Writes, lineNumber, lineLetter, Lined, closed, Closed, Tells, insideFirst, ReadsCommand, ReadsItems}
+use Rattle.commands.specs.Words.{widest, held, signed, word, valueOf, letterWords, bodyOf, tally, kindBy, framed, wordsOf, Writes, lineNumber, lineLetter, Lined, closed, Closed, Tells, insideFirst, ReadsCommand, ReadsItems}
 use Rattle.commands.specs.declared.Line.{Line}
 use Rattle.commands.specs.declared.Read.{Read}
 use Rattle.commands.specs.declared.Read.the-variants.{Decoded, Nothing}

@@ -15,12 +15,16 @@ use Rattle.pieces.specs.Pieces.{letterS, farthest, stream, behind, insideAfter,
 use Rattle.pieces.specs.declared.Spot.{Spot}
 use Rattle.pieces.specs.declared.Piece.{Piece}
 use Rattle.pieces.specs.declared.Piece.the-variants.{First, Second, Number, Word, Stop}
-use Rattle.rules.specs.Letters.{letterB, letterC, letterD, letterL, letterM, byteUnit, firstUnit, widest}
+use Rattle.rules.specs.Letters.{letterB, letterC, letterD, letterL, letterM, byteUnit, firstUnit}
 use Rattle.rules.specs.Written.{Written, written, writtenAt, letters, lastLetter, packedBy, insideBehind}
 use Rattle.rules.specs.Rules.{distance}
 use Rattle.commands.specs.declared.Line.{Line}
 use Rattle.commands.specs.declared.Read.{Read}
 use Rattle.commands.specs.declared.Read.the-variants.{Decoded, Nothing}
+
+-- the largest number that a word holds
+abbrev pub widest : ℕ
+widest = 2147483647
 
 -- a word holds what it can; nothing that refusals 1 to 9 let pass is cut
 unfoldable pub held : ℕ → ℕ

@@ -1,15 +1,15 @@
 // One command of a CIF text decoded to words: its kind, its place, and its numbers after scaling, with what is left out filled in. `read_command` takes
 // any bytes: where a text leaves the grammar it has no more pieces, and so no more commands. Which numbers these are is proved in reading, above.
 ghost use mathlib.Core.Path.{_≡_};
-ghost use mathlib.Core.Bool.{true, false};
+ghost use mathlib.Core.Bool.{false};
 ghost use mathlib.Core.List.{[], _∷_};
 ghost use Prim.Native.Nat.{_+_, _*_, _/_, _<_, _≤_};
 ghost use Rattle.grammar.specs.Steps.{KindsLent, NextLent};
 ghost use Rattle.definition.specs.Words.{if_then_else_};
 ghost use Rattle.pieces.specs.Pieces.{tooLarge, Fit};
-ghost use Rattle.rules.specs.Letters.{byteUnit, firstUnit, widest};
+ghost use Rattle.rules.specs.Letters.{byteUnit, firstUnit};
 ghost use Rattle.rules.specs.Rules.{distance};
-ghost use Rattle.commands.specs.Words.{held, word, valueOf, letterWords, closing, kindBy, Writes, Lined, lineNumber, lineLetter, Closed, outmost, ReadsCommand, ReadsItems};
+ghost use Rattle.commands.specs.Words.{widest, held, word, valueOf, letterWords, closing, kindBy, Writes, Lined, lineNumber, lineLetter, Closed, outmost, ReadsCommand, ReadsItems};
 
 // The largest number that a word holds.
 const WIDEST: usize = 2_147_483_647;

@@ -1,13 +1,10 @@
 -- The short way over a byte: outside comments, one entry of the table says where the byte leads and which role it has.
 -- Assumes nothing.
-use mathlib.Core.Path.{_≡_, ap, _∙_}
-use mathlib.Core.Bool.{Bool}
+use mathlib.Core.Path.{_≡_}
 use Prim.Native.Nat.{ℕ, _-_, _/_, _%_, _≤_, _<_}
 use borrow.Author.Tests.{lt-ltb, le-ltb, eq-eqb, ne-eqb}
-use lib.Dec.{eqb, ltb}
 use Rattle.grammar.specs.Tables.{deep, roleUnit, stuck}
 use Rattle.grammar.specs.Steps.{kindOf, entryOf, nextOf, mode, modeAfter, markOf}
-use Rattle.grammar.specs.declared.Mode.{Mode}
 
 pub next-is : (q b e : ℕ) → e ≡ entryOf q (kindOf b) → e % roleUnit ≡ nextOf q (kindOf b)
 unfolding nextOf

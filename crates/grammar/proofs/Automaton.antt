@@ -12,7 +12,7 @@ use native.Mathlib.Omega.{arith}
 use borrow.Author.Tests.{ltb-true, ltb-false, eqb-false}
 use lib.Dec.{T, ltb, leb, eqb, ltb→lt, leb→le, eqb→eq, eqb·suc-zero}
 use lib.ListN.{length, getD}
-use Rattle.grammar.specs.Notation.{Class, Role, Letter, Expression, Match, has, is, dec, one, skip, head, second, turn, axis, sign, lead, later, name, stop, Digit, Upper, Blank, User, Comment, lpar, rpar, semicolon}
+use Rattle.grammar.specs.Notation.{Class, Role, Letter, Expression, Match, has, is, dec, skip, head, second, turn, axis, sign, lead, later, name, stop, Digit, Upper, Blank, User, Comment, lpar, rpar, semicolon}
 use Rattle.grammar.specs.Notation.{'-', 'B', 'C', 'D', 'E', 'F', 'L', 'M', 'P', 'R', 'S', 'T', 'W', 'X', 'Y'}
 use Rattle.grammar.specs.Productions.{cifFile}
 use Rattle.grammar.specs.Tables.{kinds, samples, table, roles, ends, letter, kindCount, entryCount, roleCount, stateCount, lparKind, stuck, rparKind, deep, roleUnit, foreignKind, accepting}

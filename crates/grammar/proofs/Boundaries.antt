@@ -11,7 +11,7 @@ use borrow.Author.Tests.{eq-eqb}
 use lib.Dec.{T, ltb, eqb, eqb→eq, eqb·suc-zero}
 use lib.ListN.{getD}
 use Rattle.grammar.specs.Notation.{Role, Letter, has, 'S', 'F', second, stop}
-use Rattle.grammar.specs.Tables.{stateCount, kindCount, roleUnit, stuck, deep, lparKind, rparKind, foreignKind, startKind, finishKind, kinds, table, letter, insides}
+use Rattle.grammar.specs.Tables.{stateCount, kindCount, roleUnit, stuck, deep, lparKind, rparKind, foreignKind, startKind, finishKind, kinds, table, insides}
 use Rattle.grammar.specs.Steps.{choose, kindOf, entryOf, nextOf, modeAfter, entered, within, mode, markOf, roleOf, number, inside, marked}
 use Rattle.grammar.specs.Viable.{bytes, Marked}
 use Rattle.grammar.specs.declared.Mode.{Mode}

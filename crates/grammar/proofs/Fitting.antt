@@ -13,7 +13,7 @@ use Rattle.grammar.specs.Notation.{'-', 'B', 'C', 'D', 'E', 'F', 'L', 'M
 use Rattle.grammar.specs.Productions.{cifFile}
 use Rattle.grammar.specs.Tables.{kinds, samples, tree, table, roles, ends, letter, stateCount, roleUnit, lparKind, accepting, kindCount, deep, rparKind, stuck, foreignKind, roleCount, insideState, insides, startKind, outsideState, finishKind}
 use Rattle.grammar.proofs.Derivatives.{Sequence, Choice, push, derive}
-use Rattle.grammar.proofs.Items.{deriveItems, final, part, same}
+use Rattle.grammar.proofs.Items.{deriveItems, final, part}
 use Rattle.grammar.proofs.Roles.{soleItems}
 use Rattle.grammar.proofs.Tests.{sameBit, every, upto}
 

@@ -2,17 +2,15 @@
 -- can be told by its bytes, without the table. And a comment is a command: what begins one is a first letter.
 -- Assumes nothing.
 use mathlib.Core.Path.{_≡_, refl, sym, ap, _∙_, subst}
-use mathlib.Core.Bool.{Bool, true, false, not, _&&_, _||_}
+use mathlib.Core.Bool.{Bool, true, not, _&&_, _||_}
 use mathlib.Core.Logic.{_⊎_, inl, inr}
 use Prim.Native.Nat.{ℕ, _+_, _*_, _/_, _%_, _≤_, _<_}
 use native.Mathlib.Omega.{arith}
 use borrow.Author.Tests.{eq-eqb, lt-ltb, le-ltb}
 use lib.Dec.{T, ltb, eqb, ltb→lt, nltb→le, eqb→eq}
-use lib.ListN.{getD}
 use Rattle.grammar.specs.Notation.{lead, later, head}
-use Rattle.grammar.specs.Tables.{stateCount, kindCount, roleUnit, stuck, deep, kinds, table}
+use Rattle.grammar.specs.Tables.{stateCount, roleUnit, stuck, deep, kinds, table}
 use Rattle.grammar.specs.Steps.{kindOf, entryOf, nextOf, modeAfter, mode, markOf, number}
-use Rattle.grammar.specs.declared.Mode.{Mode}
 use Rattle.grammar.proofs.Tests.{and-left, and-right, or-cases, follows, sameBit, bit-eq, every, every-at}
 use Rattle.grammar.proofs.Fitting.{everyEntry}
 use Rattle.grammar.proofs.Automaton.{entry-at, kind-below}

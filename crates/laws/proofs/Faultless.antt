@@ -12,7 +12,7 @@ use lib.ListN.{length}
 use Rattle.grammar.specs.Notation.{Letter, dec, has, stop, skip}
 use Rattle.grammar.specs.Tables.{letter}
 use Rattle.definition.specs.Words.{if_then_else_, Placed, at, Point, any, those, same}
-use Rattle.definition.specs.Commands.{Shape, Number, Command, draw, layer, nothing, commandAt, commands}
+use Rattle.definition.specs.Commands.{Shape, Number, Command, draw, layer, commandAt, commands}
 use Rattle.definition.specs.Standing.{outside, after, given, scaled, whole, scaledShape}
 use Rattle.definition.specs.Faults.{Refusal, beyond, both, emptyShape, partsOf, distances, numbersOf, atNumbers, zeroScale, degenerate, layerless, tooMany, faults, allFaults}
 use Rattle.definition.specs.Flat.{letterOf, numbersOfShape}

@@ -11,7 +11,7 @@ use lib.Dec.{T}
 use lib.ListN.{length}
 use Rattle.grammar.specs.Notation.{Expression, one, _▹_, _∣_, many, option, commentText, Class, Role, Letter, Match, char, both, left, right, none, more, absent, present, text, dec, has}
 use Rattle.grammar.specs.Notation.{Role-discrete, Digit, Upper, Blank, User, Comment, '-', lpar, rpar, semicolon, 'B', 'C', 'D', 'E', 'F', 'L', 'M', 'P', 'R', 'S', 'T', 'W', 'X', 'Y'}
-use Rattle.grammar.specs.Notation.{skip, head, second, sign, name, stop}
+use Rattle.grammar.specs.Notation.{skip, head, second, name, stop}
 use Rattle.grammar.specs.Productions.{cifFile}
 use Rattle.grammar.proofs.Tests.{and-left, and-right}
 use Rattle.definition.specs.Words.{if_then_else_, Placed, at, Point}

@@ -13,7 +13,7 @@ use Rattle.grammar.specs.Notation.{Role, Role-discrete, Letter, dec, second, tu
 use Rattle.grammar.proofs.Items.{dec-sound}
 use Rattle.definition.specs.Words.{if_then_else_, Placed, at}
 use Rattle.definition.specs.Commands.{Number, Turn}
-use Rattle.definition.specs.Commands.{Command, nothing}
+use Rattle.definition.specs.Commands.{Command}
 use Rattle.definition.specs.Commands.{_plays_, _is_, worth, numbers, nth, paired, next, turnAt, turns, commandAt, commands}
 use Rattle.definition.specs.Faults.{partsOf, shifts, bearings, both, distances, numbersOf}
 use Rattle.laws.proofs.Range.{All}

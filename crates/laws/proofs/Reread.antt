@@ -17,7 +17,7 @@ use Rattle.definition.specs.Commands.{Shape, Turn, Number, Command, draw, layer
 use Rattle.definition.specs.Standing.{outside, after, scaledShape}
 use Rattle.definition.specs.Faults.{beyond, both}
 use Rattle.definition.specs.Turns.{act, aim, inOrder, moved}
-use Rattle.definition.specs.Table.{Table, shape}
+use Rattle.definition.specs.Table.{Table}
 use Rattle.definition.specs.Drawing.{Drawn, Event, drew, refused, stepOf, deedOf, deeds, drawShape, drawStep, happens, tableAfter, story}
 use Rattle.definition.specs.Counts.{shapesOf, counts, finished, counted, goOn, ending}
 use Rattle.definition.specs.Flat.{letterOf, numbersOfShape, spaced, line, said, lines, flat, shortest}

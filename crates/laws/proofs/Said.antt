@@ -4,7 +4,7 @@ use mathlib.Core.Path.{_≡_, refl, sym, ap, ap₂, _∙_, subst}
 use mathlib.Core.Bool.{Bool, true, false, not, _&&_, _||_}
 use mathlib.Core.List.{List, [], _∷_, _++_, map, nil≢cons}
 use mathlib.Core.Option.{none}
-use Prim.Native.Nat.{ℕ, zero, suc, _≤_, _<_}
+use Prim.Native.Nat.{ℕ, suc, _≤_, _<_}
 use native.Mathlib.Omega.{arith}
 use borrow.Author.Tests.{ltb-false, eqb-false}
 use lib.Dec.{T, ltb, eqb}
@@ -18,17 +18,15 @@ use Rattle.definition.specs.Commands.{Command, draw, layer, call, start, finish
 use Rattle.definition.specs.Standing.{Standing, outside, after, scaled, whole, scaledPoint, scaledShape}
 use Rattle.definition.specs.Faults.{beyond, both, zero?, nowhere, least, emptyShape, partsOf, distances, numbersOf, atNumbers, atCommand, zeroScale, degenerate, layerless, tooMany, faults, allFaults, firstFault}
 use Rattle.definition.specs.Turns.{Heading, +x, +y, -x, -y, askew, heading, rotated, act, aim, inOrder, moved}
-use Rattle.definition.specs.Table.{shape}
 use Rattle.definition.specs.Drawing.{stepOf, Drawn}
 use Rattle.definition.specs.Counts.{shapesOf}
-use Rattle.definition.specs.Flat.{flat}
 use Rattle.definition.specs.Answer.{drawingOf}
 use Rattle.laws.proofs.Range.{All, Within}
 use Rattle.laws.proofs.Sizes
 use Rattle.laws.proofs.Sizes.{Fits, Fits₂, Fit, FitStep, nil-left, nil-right, abs-neg, fit-moved, fit-step, no-fault}
 use Rattle.laws.proofs.Shapes
 use Rattle.laws.proofs.Shapes.{Formed}
-use Rattle.laws.proofs.Reread.{InRange, Sayable, again}
+use Rattle.laws.proofs.Reread.{InRange, Sayable}
 use Rattle.laws.proofs.Spelling.{Spelt}
 use Rattle.laws.proofs.Course.{natural}
 use Rattle.laws.proofs.Made

@@ -12,13 +12,13 @@ use lib.Dec.{T, leb, leb→le, eqb→eq}
 use lib.IntN.{pos, negℤ}
 use lib.ListN.{length, drop}
 use Rattle.grammar.specs.Notation.{Expression, one, _▹_, _∣_, many, option, commentText, commentRule, Class, Role, Letter, Match, char, both, left, right, none, more, absent, present, text, dec, has}
-use Rattle.grammar.specs.Notation.{Role-discrete, Class-discrete, Expression-discrete, semicolon, 'B', 'C', 'D', 'L', 'P', 'R', 'S', 'W'}
+use Rattle.grammar.specs.Notation.{Role-discrete, Class-discrete, Expression-discrete, 'B', 'C', 'D', 'L', 'P', 'R', 'S', 'W'}
 use Rattle.grammar.specs.Notation.{head, second, turn, sign, lead, stop}
 use Rattle.grammar.specs.Productions.{cifFile}
 use Rattle.grammar.proofs.Tests.{and-left, and-right, or-cases}
 use Rattle.grammar.proofs.Items.{dec-sound}
 use Rattle.definition.specs.Words.{if_then_else_, Placed, at}
-use Rattle.definition.specs.Commands.{Number, wire, polygon, Command, draw, layer, call, start, finish, delete, nothing}
+use Rattle.definition.specs.Commands.{Number, polygon, Command, draw, layer, call, start, finish, delete, nothing}
 use Rattle.definition.specs.Commands.{_plays_, _is_, worth, numbers, paired, next, commandAt, commands}
 use Rattle.laws.proofs.Range.{All}
 use Rattle.laws.proofs.NumberPlaces.{either-by}

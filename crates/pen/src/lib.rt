@@ -1,6 +1,5 @@
 // Command lines written into a lent room (01, "The flat file"), over the bytes and numbers of crate digits: like these, every function gives back the next
 // place, exact whatever the room.
-ghost use mathlib.Core.Path.{_≡_};
 ghost use mathlib.Core.List.{_∷_, []};
 ghost use Prim.Native.Nat.{_+_, _*_, _^_, _≤_};
 ghost use lib.ListN.{length};

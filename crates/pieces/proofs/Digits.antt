@@ -9,9 +9,8 @@ use borrow.Author.Tests.{eqb-true, eqb-false, leb-true, ltb-false, le-ltb, le-le
 use lib.Dec.{ltb, leb, eqb}
 use lib.ListN.{length, getD}
 use Rattle.grammar.specs.Notation.{Role, Letter, dec, skip, head, second, turn, axis, sign, lead, later, name, stop}
-use Rattle.grammar.specs.Tables.{stateCount, stuck, roles, letter}
-use Rattle.grammar.specs.Steps.{modeAfter, markOf, mode, number, Moved}
-use Rattle.grammar.specs.declared.Mode.{Mode}
+use Rattle.grammar.specs.Tables.{stateCount, stuck, letter}
+use Rattle.grammar.specs.Steps.{modeAfter, markOf, number, Moved}
 use Rattle.grammar.specs.declared.Move.{Move}
 use Rattle.grammar.proofs.Automaton.{number-mark}
 use Rattle.grammar.proofs.Numerals.{Digital, Numeral}

@@ -2,7 +2,7 @@
 -- and the way to the next piece, each with what its loop keeps, stand in Digits, Comments and Marks.
 -- Assumes nothing.
 use mathlib.Core.Path.{_≡_, refl, sym, ap, _∙_, subst}
-use mathlib.Core.Bool.{Bool, true, false}
+use mathlib.Core.Bool.{true, false}
 use mathlib.Core.List.{List, [], _∷_}
 use Prim.Native.Nat.{ℕ, _+_, _≤_, _<_}
 use native.Mathlib.Omega.{arith}
@@ -11,9 +11,9 @@ use borrow.Author.Tests.{eq-eqb, ne-eqb}
 use lib.Dec.{ltb, eqb}
 use lib.ListN.{length, getD, drop-of-length-le}
 use lib.Seq.{drop-cons}
-use Rattle.grammar.specs.Notation.{Role, Letter, has, 'S', 'F', skip, second, stop}
+use Rattle.grammar.specs.Notation.{Role, has, 'S', 'F', skip, second, stop}
 use Rattle.grammar.specs.Tables.{stateCount, roleCount, stuck, roles, letter}
-use Rattle.grammar.specs.Steps.{choose, kindOf, modeAfter, roleOf, marked, mode, number, inside, Moved}
+use Rattle.grammar.specs.Steps.{choose, kindOf, modeAfter, roleOf, marked, number, inside, Moved}
 use Rattle.grammar.specs.declared.Mode.{Mode}
 use Rattle.grammar.specs.declared.Move.{Move}
 use Rattle.grammar.proofs.Automaton.{mark-below, mark-number, step-range}

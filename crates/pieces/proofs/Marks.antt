@@ -7,21 +7,20 @@ use mathlib.Core.Logic.{_⊎_, inl, inr}
 use Prim.Native.Nat.{ℕ, _+_, _-_, _/_, _%_, _≤_, _<_}
 use native.Mathlib.Omega.{arith}
 use borrow.Author.Tests.{eqb-true, eqb-false}
-use lib.Dec.{ltb, eqb}
+use lib.Dec.{eqb}
 use lib.ListN.{length, getD}
 use Rattle.grammar.specs.Notation.{Role, Letter, has, skip, head, second, turn, axis, sign, lead, later, name, stop}
 use Rattle.grammar.specs.Tables.{stateCount, roleUnit, stuck, deep, roles, letter}
-use Rattle.grammar.specs.Steps.{kindOf, entryOf, nextOf, markOf, mode, number, inside, Moved}
+use Rattle.grammar.specs.Steps.{kindOf, entryOf, nextOf, markOf, number, inside, Moved}
 use Rattle.grammar.specs.declared.Move.{Move}
 use Rattle.grammar.proofs.Automaton.{number-mark}
 use Rattle.grammar.proofs.Ahead.{next-is, mark-is, plain-is, stuck-is, deep-is}
 use Rattle.grammar.proofs.Numerals.{Numeral, comment-head, lead-numeral}
-use Rattle.definition.specs.Commands.{worth}
-use Rattle.pieces.specs.Pieces.{capped, digitOf, pieces, left, stream, spot, behind, insideAfter, nextPlace, Fit, Small, Step, Led, Begins, Closes}
+use Rattle.pieces.specs.Pieces.{pieces, left, stream, spot, behind, insideAfter, nextPlace, Fit, Small, Step, Led, Begins, Closes}
 use Rattle.pieces.specs.declared.Spot.{Spot}
 use Rattle.pieces.specs.declared.Begun.{Begun}
 use Rattle.pieces.specs.declared.Piece.{Piece}
-use Rattle.pieces.specs.declared.Piece.the-variants.{First, Second, Number, Word, Stop}
+use Rattle.pieces.specs.declared.Piece.the-variants.{First, Second, Word, Stop}
 use Rattle.pieces.proofs.Lexing.{role, pieces-none, left-ended, left-stuck, left-next, role-is, next-state, next-inside, still-inside, next-stop}
 
 -- before a piece; a number that begins right here has place p

@@ -27,11 +27,11 @@ use Rattle.laws.proofs.FaultRules.{commands-written}
 use Rattle.pieces.specs.Pieces.{largest, letterS, letterF, capped, pieces}
 use Rattle.pieces.specs.declared.Piece.{Piece}
 use Rattle.pieces.specs.declared.Piece.the-variants.{Word}
-use Rattle.rules.specs.Letters.{letterC, letterD, letterL, letterR, letterT, byteUnit, firstUnit, widest}
+use Rattle.rules.specs.Letters.{letterC, letterD, letterL, letterR, letterT, byteUnit, firstUnit}
 use Rattle.rules.specs.Written.{Written, written, letters, lastOf, lastLetter, packedBy}
 use Rattle.rules.specs.Rules.{shapely, distance}
 use Rattle.checking.specs.Account.{scopeAfter, atStart}
-use Rattle.commands.specs.Words.{held, signed, word, valueOf, letterWords, bodyOf, closing, tally, kindBy, framed, wordsOf}
+use Rattle.commands.specs.Words.{widest, held, signed, word, valueOf, letterWords, bodyOf, closing, tally, kindBy, framed, wordsOf}
 use Rattle.checking.specs.declared.Scope.{Scope}
 use Rattle.reading.proofs.Says.{tells, Points, no-points, a-point, Turns, no-turns, a-shift, a-mirror-x, a-mirror-y, a-rotation}
 use Rattle.reading.proofs.Says.{Says, a-polygon, a-box, a-turned-box, a-flash, a-wire, a-layer, a-call, a-start, a-scaled-start, a-finish, a-deletion, a-nothing}

@@ -51,7 +51,3 @@ byteUnit = 256
 
 abbrev pub firstUnit : ℕ
 firstUnit = 16777216
-
--- the largest number that a word holds
-abbrev pub widest : ℕ
-widest = 2147483647

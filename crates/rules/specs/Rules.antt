@@ -2,7 +2,7 @@
 -- refusals 3 to 9 that a number and that a whole command meets. A running account, not to be believed: the refusals stand in crates/definition, and
 -- crates/reading shows that on a text of the grammar the two come to the same. All is over ℕ: a number is its distance from zero.
 -- Assumes nothing.
-use mathlib.Core.Bool.{Bool, true, false, not, _&&_, _||_}
+use mathlib.Core.Bool.{Bool, not, _&&_, _||_}
 use Prim.Native.Nat.{ℕ, _-_, _*_, _/_, _%_}
 use lib.Dec.{ltb, eqb}
 use Rattle.definition.specs.Words.{if_then_else_}

@@ -5,7 +5,7 @@ ghost use Prim.Native.Nat.{_+_, _<_, _≤_};
 ghost use mathlib.Core.Bool.{_&&_};
 ghost use lib.Dec.{ltb, leb, eqb};
 ghost use lib.ListN.{length, getD};
-ghost use Rattle.table.specs.Rows.{most, findRow, enterRow, forgetRow, columns, rowsOf, Sorted, Nearest, Parted, Inserted, Forgets, Sized, Enters, foundBy};
+ghost use Rattle.table.specs.Rows.{most, findRow, columns, rowsOf, Sorted, Nearest, Parted, Inserted, Forgets, Sized, Enters, foundBy};
 
 // The most live definitions that there can be.
 pub const MOST: usize = 512;

@@ -3,7 +3,6 @@
 -- Assumes nothing.
 use mathlib.Core.List.{List, [], _∷_, _++_}
 use lib.IntN.{ℤ, pos}
-use Rattle.definition.specs.Words.{Point}
 use Rattle.definition.specs.Commands.{Turn, translate, mirrorX, mirrorY, rotate}
 
 -- the letter T or R and two numbers; of a mirror the letter of its axis

@@ -3,9 +3,9 @@
 // so that i64 never wraps: the contracts carry the longest step along as `Near`.
 ghost use mathlib.Core.Path.{_≡_};
 ghost use mathlib.Core.Bool.{_||_};
-ghost use mathlib.Core.List.{List, _∷_, []};
-ghost use Prim.Native.Nat.{ℕ, _+_, _*_, _^_, _<_, _≤_};
-ghost use lib.IntN.{ℤ, pos, natAbs, _+ℤ_};
+ghost use mathlib.Core.List.{_∷_, []};
+ghost use Prim.Native.Nat.{_+_, _^_, _<_, _≤_};
+ghost use lib.IntN.{pos, natAbs, _+ℤ_};
 ghost use lib.ListN.{length};
 ghost use Rattle.definition.specs.Words.{if_then_else_, point};
 ghost use Rattle.definition.specs.Commands.{translate, rotate};

@@ -3,7 +3,6 @@
 use native.Mathlib.Omega.{arith}
 use Rattle.turns.proofs.Nets.{near-more}
 use Rattle.bodies.proofs.CallWords.{symbol-there, call-list, call-read}
-use borrow.Author.Needs.{needs}
 use Rattle.bodies.proofs.read_call.Statement.{statement}
 use Rattle.bodies.proofs.read_call.Tie as tie
 use Rattle.bodies.proofs.read_call.Reads as reads

@@ -3,7 +3,6 @@
 use native.Mathlib.Omega.{arith}
 use mir.Facts.{toZ-ofZ}
 use Rattle.digits.proofs.Signs.{negative, positive, at-least, at-most, size-turned, size-kept}
-use borrow.Author.Needs.{needs}
 use Rattle.digits.proofs.size_of.Statement.{statement}
 use Rattle.digits.proofs.size_of.Tie as tie
 

@@ -1,6 +1,6 @@
 -- `cif_recognise` meets its contract: in each case it stores the words of the verdict that `recognise` answers.
 -- Assumes nothing.
-use mathlib.Core.Path.{_≡_, sym, ap}
+use mathlib.Core.Path.{sym, ap}
 use Rattle.grammar.specs.Host.{wordsOf}
 use borrow.Author.Needs.{needs}
 use Rattle.grammar.proofs.cif_recognise.Statement.{statement}

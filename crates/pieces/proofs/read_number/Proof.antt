@@ -1,6 +1,6 @@
 -- `read_number` meets its contract: Digits holds at each byte, and what is left of the text falls.
 -- Assumes nothing.
-use mathlib.Core.Path.{refl, sym, _∙_, subst}
+use mathlib.Core.Path.{sym, _∙_, subst}
 use Prim.Native.Nat.{ℕ, _-_}
 use borrow.Author.Needs.{needs}
 use lib.ListN.{length}

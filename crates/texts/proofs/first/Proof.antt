@@ -1,8 +1,7 @@
 -- `first` meets its contract: a part of n bytes has n, and is no longer than the whole.
 -- Assumes nothing.
-use mathlib.Core.Path.{_≡_, sym}
+use mathlib.Core.Path.{sym}
 use native.Mathlib.Omega.{arith}
-use lib.ListN.{length, take}
 use lib.Seq.{length-take-le}
 use borrow.Author.Needs.{needs}
 use Rattle.texts.proofs.first.Statement.{statement}
