@@ -13,7 +13,7 @@ use Rattle.definition.specs.Words.{any}
 use Rattle.definition.specs.Commands.{Number, Shape, Turn, Kind, box, flash, wire, polygon, Command, draw, layer, call, start, finish, delete, nothing}
 use Rattle.definition.specs.Standing.{Standing, scaledShape, scaledTurn}
 use Rattle.definition.specs.Flat.{letterOf}
-use Rattle.laws.proofs.Said.{or-first, or-second}
+use Rattle.laws.proofs.FlatFile.Said.{or-first, or-second}
 use Rattle.turns.specs.Words.{turnsWords}
 use Rattle.pen.specs.Names.{nameOf}
 use Rattle.pieces.specs.Pieces.{letterS, letterF, tooLarge}

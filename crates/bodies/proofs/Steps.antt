@@ -10,7 +10,7 @@ use Rattle.definition.specs.Commands.{Number, Shape, Turn, Command, draw, layer
 use Rattle.definition.specs.Standing.{Standing, after, outside, scaledShape, scaledTurn}
 use Rattle.definition.specs.Table.{Table, Definition, forget, enter}
 use Rattle.definition.specs.Drawing.{stepOf, retained, define, deedOf, deeds, Chain, Event, removed, drawShape, drawStep, drawBody, drawCall, happens, tableAfter, story}
-use Rattle.laws.proofs.Joined.{retained-out}
+use Rattle.laws.proofs.Lists.Joined.{retained-out}
 
 -- ---- a body
 
@@ -31,7 +31,7 @@ module _ (f : ℕ → ℕ → List (Turn ℤ) → List Event) (chain : Chain) (n
   call-left n ts = rw opened
 
   pub layer-left : (l : List ℕ) → drawn-by (layer l) ≡ then-on (layer l)
-  unfolding retained stepOf
+  unfolding retained stepOf drawBody drawStep
   layer-left l = rw opened
 
   pub nothing-left : drawn-by nothing ≡ then-on nothing

@@ -12,13 +12,13 @@ use Rattle.definition.specs.Commands.{Shape, Turn, Command, draw, layer,
 use Rattle.definition.specs.Standing.{Standing, after, scaledShape, scaledTurn}
 use Rattle.definition.specs.Faults.{beyond, both}
 use Rattle.definition.specs.Turns.{moved, offAxes}
-use Rattle.definition.specs.Table.{Step, shape, instance, Definition, Table, find, enter, forget}
+use Rattle.definition.specs.Table.{Step, shape, instance, setting, Definition, Table, find, enter, forget}
 
 -- what a command does when it is drawn: its distances are scaled as the text is read, and its layer is the one that stands
 unfoldable pub stepOf : Standing → Command → List Step
 stepOf s (draw k) = shape (s .layer-set) (scaledShape s k) ∷ []
 stepOf s (call n ts) = instance (natAbs (n .what)) (map (scaledTurn s) ts) ∷ []
-stepOf s (layer l) = []
+stepOf s (layer l) = setting l ∷ []
 stepOf s (start n a b) = []
 stepOf s finish = []
 stepOf s (delete n) = []
@@ -79,6 +79,7 @@ drawShape chain net p l k =
 unfoldable pub drawStep : (ℕ → ℕ → List (Turn ℤ) → List Event) → Chain → List (Turn ℤ) → ℕ → Step → List Event
 drawStep drawCall chain net p (shape l k) = drawShape chain net p l k ∷ []
 drawStep drawCall chain net p (instance n ts) = drawCall p n ts
+drawStep drawCall chain net p (setting l) = []
 
 unfoldable pub drawBody : (ℕ → ℕ → List (Turn ℤ) → List Event) → Chain → List (Turn ℤ) → List (Placed Step) → List Event
 drawBody drawCall chain net [] = []

@@ -1,5 +1,28 @@
-// What a CIF text means stands in specs/, and what follows from it in proofs/. This crate has no code: only the struct that readers give back is
-// declared here, so that contracts can say which one it is.
+// What a CIF text means stands in specs/, and what follows from it in proofs/. This crate has no code: only what readers give back is declared here, so
+// that contracts can say which one it is, and document 01's limits, so that code has each under one name (specs/Limits.antt has them for definitions).
+
+// The farthest from zero that a number may be (01, refusals 3, 6 and 16).
+pub const LARGEST: usize = 16_777_215;
+// The longest text and the longest flat file (1 and 18).
+pub const MOST_BYTES: usize = 16_777_216;
+// The most points of a shape and the most transformations of a call (9).
+pub const MOST_POINTS: usize = 1_024;
+
+pub const MOST_TURNS: usize = 32;
+// The most live definitions (10), the deepest call (14), the most calls (15) and the most shapes (17).
+pub const MOST_DEFINITIONS: usize = 512;
+
+pub const DEEPEST: usize = 32;
+
+pub const MOST_CALLS: usize = 1_048_576;
+
+pub const MOST_SHAPES: usize = 1_048_576;
+
+// A refusal: its number in document 01's table, and its place.
+pub struct Refusal {
+    pub number: usize,
+    pub place: usize,
+}
 
 // What a reader gives back (01, "What the reader takes and gives"): refusal number, place, length written, and the counts of the drawing.
 pub struct Answer {

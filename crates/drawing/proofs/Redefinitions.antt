@@ -13,9 +13,9 @@ use Rattle.definition.specs.Commands.{Shape, Turn, Command, draw, layer, call, 
 use Rattle.definition.specs.Standing.{Standing, scaledShape}
 use Rattle.definition.specs.Faults.{beyond, both}
 use Rattle.definition.specs.Turns.{moved}
-use Rattle.definition.specs.Table.{Step, shape, instance, Definition, Table, find}
+use Rattle.definition.specs.Table.{Step, shape, instance, setting, Definition, Table, find}
 use Rattle.definition.specs.Drawing.{Chain, Event, called, drew, entered, removed, refused, drawShape, drawStep, drawBody, callFault, unless, drawCall}
-use Rattle.laws.proofs.Counting.{redefinitionsOf, counted-all}
+use Rattle.laws.proofs.Story.Counting.{redefinitionsOf, counted-all}
 use Rattle.counts.specs.declared.Counts.{Counts}
 use Rattle.shapes.specs.declared.Pen.{Pen}
 use Rattle.counts.specs.Counting.{tally}
@@ -56,6 +56,7 @@ body-bare f chain net h (s ∷ ss) = both-bare (drawStep f chain net (s .place) 
     go : (x : Step) → Bare (drawStep f chain net (s .place) x)
     go (shape l k) = unfold drawStep in shape-bare chain net (s .place) l k
     go (instance n ts) = unfold drawStep in h (s .place) n ts
+    go (setting l) = unfold drawStep redefinitionsOf in refl
 
 unless-bare : (o : Option ℕ) (p : ℕ) (chain : Chain) (found : Option Definition) (go : Definition → List Event) → ((d : Definition) → Bare (go d)) → Bare (unless o p chain found go)
 unfolding unless redefinitionsOf

@@ -16,10 +16,10 @@ use Rattle.definition.specs.Commands.{Turn, translate, mirrorX, mirrorY, rotate
 use Rattle.definition.specs.Standing.{Standing, outside, scaledShape, scaledTurn}
 use Rattle.definition.specs.Faults.{firstFault, numbersOf, partsOf, zeroScale, tooMany, zero?}
 use Rattle.definition.specs.Flat.{letterOf}
-use Rattle.laws.proofs.Range.{All}
-use Rattle.laws.proofs.Made.{Name}
-use Rattle.laws.proofs.Said.{or-first, or-second}
-use Rattle.laws.proofs.Ordered.{Ordered, Allowed, after-inside, ordered}
+use Rattle.laws.proofs.Lists.Range.{All}
+use Rattle.laws.proofs.Commands.Made.{Name}
+use Rattle.laws.proofs.FlatFile.Said.{or-first, or-second}
+use Rattle.laws.proofs.Commands.Ordered.{Ordered, Allowed, after-inside, ordered}
 use Rattle.turns.specs.Words.{turnWords, turnsWords}
 use Rattle.pen.specs.Names.{nameOf, packed}
 use Rattle.pen.proofs.Names.{a-name, name-back}

@@ -14,10 +14,10 @@ use Rattle.definition.specs.Flat.{flat}
 use Rattle.definition.specs.declared.Answer.{Answer}
 use Rattle.definition.specs.Answer.{Outcome, accepted, rejected, flatFile, given-back, Answers}
 use Rattle.definition.specs.Listing.{shapeLines, windowLine, listing}
-use Rattle.laws.proofs.Range.{All}
-use Rattle.laws.proofs.Sound.{Sound, all-sound}
-use Rattle.laws.proofs.Flattened.{reading, within-limit, shapes-counted}
-use Rattle.laws.proofs.Demand1.{located}
+use Rattle.laws.proofs.Lists.Range.{All}
+use Rattle.laws.proofs.FlatFile.Sound.{Sound, all-sound}
+use Rattle.laws.proofs.FlatFile.Flattened.{reading, within-limit, shapes-counted}
+use Rattle.laws.proofs.Demands.Demand1.{located}
 use Rattle.digits.specs.Writes.{Writes}
 use Rattle.pen.specs.Names.{packed}
 use Rattle.digits.proofs.Writing.{nothing, both, same-bytes, one-outcome}

@@ -18,11 +18,11 @@ use Rattle.definition.specs.Drawing.{Drawn}
 use Rattle.definition.specs.Flat.{shortest, decimal, spaced, letterOf, numbersOfShape, said, lines}
 use Rattle.definition.specs.Flat
 use Rattle.definition.specs.Listing.{fields, shapeLines}
-use Rattle.laws.proofs.Range.{All, all-to, all-++}
+use Rattle.laws.proofs.Lists.Range.{All, all-to, all-++}
 use Rattle.definition.proofs.Rows.{same-eq}
-use Rattle.laws.proofs.Decimals.{DigitByte, shortest-is, digit-low, digit-high}
-use Rattle.laws.proofs.Spelling.{NameChar}
-use Rattle.laws.proofs.Sound.{Sound}
+use Rattle.laws.proofs.FlatFile.Decimals.{DigitByte, shortest-is, digit-low, digit-high}
+use Rattle.laws.proofs.FlatFile.Spelling.{NameChar}
+use Rattle.laws.proofs.FlatFile.Sound.{Sound}
 use Rattle.pen.specs.Names.{packed, nameOf}
 use Rattle.pen.proofs.Names.{name-back, sound-name}
 use Rattle.lines.specs.Followed.{line, fresh, opened, named, lineAfter, pushed, ends}

@@ -13,10 +13,10 @@ use lib.ListN.{length}
 use Rattle.definition.specs.Words.{if_then_else_, same}
 use Rattle.definition.specs.Flat.{shortest, decimal, spaced}
 use Rattle.definition.specs.Flat
-use Rattle.laws.proofs.Range.{All}
+use Rattle.laws.proofs.Lists.Range.{All}
 use Rattle.definition.proofs.Rows.{same-eq}
-use Rattle.laws.proofs.Decimals.{DigitByte, val, val-grows, digit-low, digit-high, shortest-is}
-use Rattle.laws.proofs.Sound.{Near}
+use Rattle.laws.proofs.FlatFile.Decimals.{DigitByte, val, val-grows, digit-low, digit-high, shortest-is}
+use Rattle.laws.proofs.FlatFile.Sound.{Near}
 use Rattle.pen.specs.Names.{packed}
 use Rattle.lines.specs.Followed.{line, fresh, named, lineAfter, numeral, ends, numeralAfter, valueOf, includes, axisOf, spanAfter}
 use Rattle.lines.specs.declared.Line.{Line}

@@ -11,11 +11,11 @@ use Rattle.definition.specs.Faults.{least}
 use Rattle.definition.specs.Drawing.{Drawn}
 use Rattle.definition.specs.Flat.{shortest, decimal, spaced, letterOf, numbersOfShape, said, lines}
 use Rattle.definition.specs.Listing.{fields, shapeLines}
-use Rattle.laws.proofs.Range.{All}
-use Rattle.laws.proofs.Decimals.{shortest-is}
-use Rattle.laws.proofs.Shapes.{Formed, a-box, a-flash, a-wire, a-polygon}
-use Rattle.laws.proofs.Sound.{Sound}
-use Rattle.laws.proofs.Lengths.{shortest-length}
+use Rattle.laws.proofs.Lists.Range.{All}
+use Rattle.laws.proofs.FlatFile.Decimals.{shortest-is}
+use Rattle.laws.proofs.FlatFile.Shapes.{Formed, a-box, a-flash, a-wire, a-polygon}
+use Rattle.laws.proofs.FlatFile.Sound.{Sound}
+use Rattle.laws.proofs.FlatFile.Lengths.{shortest-length}
 
 -- ---- a line of the flat file has numbers
 

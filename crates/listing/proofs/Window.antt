@@ -16,11 +16,11 @@ use Rattle.definition.specs.Faults.{both}
 use Rattle.definition.specs.Drawing.{Drawn}
 use Rattle.definition.specs.Flat.{letterOf, spaced, numbersOfShape, said, lines}
 use Rattle.definition.specs.Listing.{extreme, windowLine}
-use Rattle.laws.proofs.Range.{All, all-to}
-use Rattle.laws.proofs.Shapes.{Formed, a-box, a-flash, a-wire, a-polygon}
-use Rattle.laws.proofs.Spelling.{NameChar}
-use Rattle.laws.proofs.Sound.{Sound}
-use Rattle.laws.proofs.Lengths.{numbers-near}
+use Rattle.laws.proofs.Lists.Range.{All, all-to}
+use Rattle.laws.proofs.FlatFile.Shapes.{Formed, a-box, a-flash, a-wire, a-polygon}
+use Rattle.laws.proofs.FlatFile.Spelling.{NameChar}
+use Rattle.laws.proofs.FlatFile.Sound.{Sound}
+use Rattle.laws.proofs.FlatFile.Lengths.{numbers-near}
 use Rattle.pen.specs.Names.{packed}
 use Rattle.lines.specs.Followed.{fresh, numeral, span, nowhere, lower, higher, includes, alternate, axisOf, spanAfter}
 use Rattle.lines.specs.declared.Span.{Span}

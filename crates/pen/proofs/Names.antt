@@ -15,10 +15,10 @@ use Rattle.grammar.proofs.Tests.{and-left, and-right}
 use Rattle.definition.specs.Words.{if_then_else_, same}
 use Rattle.definition.specs.Drawing.{Drawn}
 use Rattle.definition.specs.Flat.{line}
-use Rattle.laws.proofs.Range.{All, all-to}
+use Rattle.laws.proofs.Lists.Range.{All, all-to}
 use Rattle.definition.proofs.Rows.{same-eq}
-use Rattle.laws.proofs.Spelling.{NameChar}
-use Rattle.laws.proofs.Sound.{Sound}
+use Rattle.laws.proofs.FlatFile.Spelling.{NameChar}
+use Rattle.laws.proofs.FlatFile.Sound.{Sound}
 use Rattle.pen.specs.Lines.{layerLine}
 use Rattle.pen.specs.Names.{packed, behind, unpacked, nameOf, earlier}
 

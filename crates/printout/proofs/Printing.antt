@@ -14,7 +14,7 @@ use Rattle.definition.specs.declared.Answer.{Answer}
 use Rattle.definition.specs.Answer.{Outcome, accepted, rejected, flatFile, answer, given-back, Answers, Promised}
 use Rattle.definition.specs.Listing.{fields, listing, Lists, over, within}
 use Rattle.definition.proofs.Right.{unique}
-use Rattle.laws.proofs.Demand1.{refusal-holds, success-holds}
+use Rattle.laws.proofs.Demands.Demand1.{refusal-holds, success-holds}
 use Rattle.digits.specs.Writes.{Writes}
 use Rattle.digits.proofs.Writing.{begins, same-bytes, one-outcome}
 use Rattle.listing.specs.Account.{account, refusedLine}

@@ -15,10 +15,10 @@ use Rattle.definition.specs.Counts.{Counts, shapesOf}
 use Rattle.definition.specs.Flat.{flat}
 use Rattle.definition.specs.Answer.{Outcome, accepted, rejected, Answers, Promised}
 use Rattle.definition.proofs.Right.{unique}
-use Rattle.laws.proofs.Outcomes.{Accepting}
-use Rattle.laws.proofs.Demand1.{Located, RefusalHolds, refusal-holds, SuccessHolds, success-holds}
-use Rattle.laws.proofs.Demand2.{Refused, RuleBroken, DrawingStopped, FlatFileTooLong, refused-1, refused-2, refused-3-to-9, refused-10-to-17, refused-18, accepted-exactly}
-use Rattle.laws.proofs.Demand3.{Demand3, demand3, twice}
+use Rattle.laws.proofs.Rules.Outcomes.{Accepting}
+use Rattle.laws.proofs.Demands.Demand1.{Located, RefusalHolds, refusal-holds, SuccessHolds, success-holds}
+use Rattle.laws.proofs.Demands.Demand2.{Refused, RuleBroken, DrawingStopped, FlatFileTooLong, refused-1, refused-2, refused-3-to-9, refused-10-to-17, refused-18, accepted-exactly}
+use Rattle.laws.proofs.Demands.Demand3.{Demand3, demand3, twice}
 
 -- the number and the place of an answer
 abbrev pub Says : Answer → (number place : ℕ) → Type 0

@@ -17,9 +17,9 @@ use Rattle.definition.specs.Drawing.{Chain, Event}
 use Rattle.definition.specs.Counts.{counts, shapesOf}
 use Rattle.definition.specs.Flat.{lines, flat}
 use Rattle.definition.specs.Answer.{Outcome, accepted, rejected, flatFile, answer, given-back, drawn, outcomeOf, Answers, too-long, not-cif, read, Promised}
-use Rattle.laws.proofs.FaultRules.{no-first-fault}
-use Rattle.laws.proofs.Outcomes
-use Rattle.laws.proofs.Outcomes.{flatLength, TooLong, by-drawing, by-flat-file, Accepting, refusal, acceptance}
+use Rattle.laws.proofs.Rules.FaultRules.{no-first-fault}
+use Rattle.laws.proofs.Rules.Outcomes
+use Rattle.laws.proofs.Rules.Outcomes.{flatLength, TooLong, by-drawing, by-flat-file, Accepting, refusal, acceptance}
 use Rattle.definition.proofs.Right.{one-answer}
 use Rattle.reading.specs.Refusal.{faultSaid, byVerdict}
 use Rattle.checking.specs.declared.Fault.{Fault}

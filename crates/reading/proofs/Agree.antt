@@ -16,10 +16,10 @@ use Rattle.definition.specs.Words.{if_then_else_, Placed, at, any, those, first
 use Rattle.definition.specs.Commands.{Number, Command, start, finish, layer, commands}
 use Rattle.definition.specs.Standing.{Standing, outside, after, scaled, whole}
 use Rattle.definition.specs.Faults.{beyond, zero?, partsOf, distances, numbersOf, zeroScale, degenerate, layerless, tooMany, Refusal, atNumbers, atCommand, faults, allFaults, firstFault}
-use Rattle.laws.proofs.Range.{All, all-++}
-use Rattle.laws.proofs.Made.{Name}
-use Rattle.laws.proofs.Ordered.{Allowed, Ordered, after-inside, ordered, two-bits}
-use Rattle.laws.proofs.Sizes.{nil-left, nil-right, all-map, at-numbers}
+use Rattle.laws.proofs.Lists.Range.{All, all-++}
+use Rattle.laws.proofs.Commands.Made.{Name}
+use Rattle.laws.proofs.Commands.Ordered.{Allowed, Ordered, after-inside, ordered, two-bits}
+use Rattle.laws.proofs.Commands.Sizes.{nil-left, nil-right, all-map, at-numbers}
 use Rattle.pieces.specs.Pieces.{largest, capped}
 use Rattle.rules.specs.Letters.{firstUnit}
 use Rattle.rules.specs.Written.{Written, numbers, letters, figures, lastOf, lastLetter, sizeAt, packedBy, turnsOf}
@@ -28,7 +28,7 @@ use Rattle.checking.specs.Account.{layerOf, Blame, blame, ofNumbers, ofWhole, b
 use Rattle.reading.specs.Refusal.{faultSaid}
 use Rattle.checking.specs.declared.Scope.{Scope}
 use Rattle.checking.specs.declared.Fault.{Fault}
-use Rattle.laws.proofs.Said.{or-first, or-second}
+use Rattle.laws.proofs.FlatFile.Said.{or-first, or-second}
 use Rattle.commands.specs.Words.{signed}
 use Rattle.reading.proofs.Says.{tells, Says, a-polygon, a-box, a-turned-box, a-flash, a-wire, a-layer, a-call, a-start, a-scaled-start, a-finish, a-deletion, a-nothing, AllSay, none-said, one-said}
 use Rattle.reading.proofs.AllSay.{all-say}

@@ -18,9 +18,9 @@ use Rattle.grammar.proofs.Tests.{and-right}
 use Rattle.definition.specs.Words.{if_then_else_, Placed, at}
 use Rattle.definition.specs.Commands.{Command}
 use Rattle.definition.specs.Commands.{worth, paired, commandAt, commands}
-use Rattle.laws.proofs.Range.{All}
-use Rattle.laws.proofs.Spelling.{NameChar}
-use Rattle.laws.proofs.Ordered.{everywhere, role-of, byte-of, other, itemOf}
+use Rattle.laws.proofs.Lists.Range.{All}
+use Rattle.laws.proofs.FlatFile.Spelling.{NameChar}
+use Rattle.laws.proofs.Commands.Ordered.{everywhere, role-of, byte-of, other, itemOf}
 use Rattle.pieces.specs.Pieces.{digitOf, placeAfter, withPiece, pieces}
 use Rattle.pieces.specs.declared.Piece.{Piece}
 use Rattle.pieces.specs.declared.Piece.the-variants.{Word}

@@ -19,11 +19,11 @@ use Rattle.definition.specs.Commands.{Number, Turn, translate, mirrorX, mirrorY
 use Rattle.definition.specs.Standing.{Standing, outside, after, scaled, scaledPoint, scaledShape, scaledTurn}
 use Rattle.definition.specs.Faults.{beyond, partsOf, shifts, bearings, both, distances, numbersOf, tooMany, faults, allFaults, firstFault}
 use Rattle.definition.specs.Flat.{letterOf, numbersOfShape}
-use Rattle.laws.proofs.Range.{All, all-to}
-use Rattle.laws.proofs.Sizes.{all-left, nil-left, nil-right, no-fault}
-use Rattle.laws.proofs.Said.{length-map, or-first}
-use Rattle.laws.proofs.Ordered.{Ordered, after-inside, ordered}
-use Rattle.laws.proofs.FaultRules.{commands-written}
+use Rattle.laws.proofs.Lists.Range.{All, all-to}
+use Rattle.laws.proofs.Commands.Sizes.{all-left, nil-left, nil-right, no-fault}
+use Rattle.laws.proofs.FlatFile.Said.{length-map, or-first}
+use Rattle.laws.proofs.Commands.Ordered.{Ordered, after-inside, ordered}
+use Rattle.laws.proofs.Rules.FaultRules.{commands-written}
 use Rattle.pieces.specs.Pieces.{largest, letterS, letterF, capped, pieces}
 use Rattle.pieces.specs.declared.Piece.{Piece}
 use Rattle.pieces.specs.declared.Piece.the-variants.{Word}

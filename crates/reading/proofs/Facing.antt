@@ -12,7 +12,7 @@ use lib.ListN.{length}
 use Rattle.definition.specs.Words.{Placed, at, Point, any}
 use Rattle.definition.specs.Commands.{Number, wire, polygon, Shape, shapeOf, Turn, Command, draw}
 use Rattle.definition.specs.Faults.{beyond, zero?, partsOf, shifts, bearings, least, zeroScale, tooMany}
-use Rattle.laws.proofs.Sizes.{abs-neg}
+use Rattle.laws.proofs.Commands.Sizes.{abs-neg}
 use Rattle.pieces.specs.Pieces.{capped}
 use Rattle.pieces.specs.declared.Piece.{Piece}
 use Rattle.pieces.specs.declared.Piece.the-variants.{Word}

@@ -13,7 +13,7 @@ use lib.IntN.{ℤ}
 use Rattle.definition.specs.Words.{if_then_else_, at, those}
 use Rattle.definition.specs.Commands.{Number}
 use Rattle.definition.specs.Faults.{Refusal, atNumbers, atCommand}
-use Rattle.laws.proofs.Range.{All}
+use Rattle.laws.proofs.Lists.Range.{All}
 use Rattle.checking.specs.Account.{Blame, blame, when, sooner, foremost}
 
 -- ---- the choice

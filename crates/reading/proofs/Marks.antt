@@ -16,9 +16,9 @@ use Rattle.definition.specs.Words.{if_then_else_, Point, any}
 use Rattle.definition.specs.Commands.{Number, Shape, Turn, Command, draw, layer, call, start, finish, delete, nothing}
 use Rattle.definition.specs.Standing.{Standing, given, scaled, whole, scaledPoint, scaledShape}
 use Rattle.definition.specs.Faults.{zero?, least, emptyShape, degenerate, partsOf, shifts, bearings, both, distances, numbersOf, nowhere}
-use Rattle.laws.proofs.Range.{All}
-use Rattle.laws.proofs.Sizes.{all-left, abs-neg}
-use Rattle.laws.proofs.Said.{length-map}
+use Rattle.laws.proofs.Lists.Range.{All}
+use Rattle.laws.proofs.Commands.Sizes.{all-left, abs-neg}
+use Rattle.laws.proofs.FlatFile.Said.{length-map}
 use Rattle.reading.proofs.Foremost.{found}
 
 pub record Mark : Type 0 where

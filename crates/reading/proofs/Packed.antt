@@ -10,9 +10,9 @@ use lib.Dec.{leb, eqb, leb→le}
 use lib.ListN.{length, getD}
 use Rattle.grammar.specs.Notation.{has}
 use Rattle.grammar.proofs.Tests.{and-left, and-right}
-use Rattle.laws.proofs.Range.{All}
-use Rattle.laws.proofs.Spelling.{NameChar}
-use Rattle.laws.proofs.Made.{Name}
+use Rattle.laws.proofs.Lists.Range.{All}
+use Rattle.laws.proofs.FlatFile.Spelling.{NameChar}
+use Rattle.laws.proofs.Commands.Made.{Name}
 use Rattle.rules.specs.Letters.{firstUnit}
 use Rattle.rules.specs.Written.{packedBy}
 

@@ -14,9 +14,9 @@ use Rattle.grammar.specs.Notation.{one, _▹_, _∣_, many, option, char, both,
 use Rattle.grammar.specs.Productions.{blank, sep, c, shortname, integerD, integer, sinteger, path, transformation}
 use Rattle.grammar.specs.Productions.{point as pointRule}
 use Rattle.definition.specs.Commands.{worth}
-use Rattle.laws.proofs.Range.{All}
-use Rattle.laws.proofs.Spelling.{NameChar}
-use Rattle.laws.proofs.Ordered.{everywhere, match-all, role-of, byte-of}
+use Rattle.laws.proofs.Lists.Range.{All}
+use Rattle.laws.proofs.FlatFile.Spelling.{NameChar}
+use Rattle.laws.proofs.Commands.Ordered.{everywhere, match-all, role-of, byte-of}
 use Rattle.pieces.specs.Pieces.{digitOf, placeAfter}
 use Rattle.reading.proofs.Tokens.{Token, figure, seconded, turned, axled, lettered, withToken, tokens}
 

@@ -10,7 +10,7 @@ use lib.IntN.{pos}
 use lib.ListN.{length}
 use Rattle.definition.specs.Words.{Placed, at, Point, point}
 use Rattle.definition.specs.Commands.{Number, box, flash, wire, polygon, shapeOf, Turn, translate, mirrorX, mirrorY, rotate, Command, draw, layer, call, start, finish, delete, nothing}
-use Rattle.laws.proofs.Made.{Name}
+use Rattle.laws.proofs.Commands.Made.{Name}
 use Rattle.pieces.specs.Pieces.{letterS, letterF, capped}
 use Rattle.pieces.specs.declared.Piece.{Piece}
 use Rattle.pieces.specs.declared.Piece.the-variants.{Second, Word}

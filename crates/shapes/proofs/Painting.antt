@@ -12,7 +12,7 @@ use Rattle.definition.specs.Drawing.{Drawn as Shown}
 use Rattle.definition.specs.Counts.{End, finished, stopped, counted, goOn, ending, shapesOf}
 use Rattle.definition.specs.Counts.{Counts as Tally}
 use Rattle.definition.specs.Flat.{lines}
-use Rattle.laws.proofs.Joined.{ending-++, shapesOf-++}
+use Rattle.laws.proofs.Lists.Joined.{ending-++, shapesOf-++}
 use Rattle.pen.specs.Names.{nameOf}
 use Rattle.digits.specs.Writes.{Writes}
 use Rattle.digits.proofs.Writing.{both, written}

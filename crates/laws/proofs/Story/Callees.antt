@@ -1,0 +1,82 @@
+-- Which moments follow a call: one that keeps the rules 11 to 14 draws the body that it found, and one that breaks such a rule draws nothing.
+-- It says what the moments are without the tests that the story makes.
+-- Assumes nothing.
+use mathlib.Core.Path.{_≡_, refl, ap}
+use mathlib.Core.List.{List, [], _∷_, _++_}
+use mathlib.Core.Option.{Option, none, some}
+use Prim.Native.Nat.{ℕ, suc, _-_, _<_}
+use native.Mathlib.Omega.{arith}
+use lib.IntN.{ℤ}
+use lib.ListN.{length}
+use Rattle.definition.specs.Words.{at}
+use Rattle.definition.specs.Commands.{Turn}
+use Rattle.definition.specs.Table.{Definition, Table, find}
+use Rattle.definition.specs.Drawing.{Chain, Event, called, drew, entered, removed, refused, callFault}
+use Rattle.definition.specs.Counts.{Counts, counts, End, finished, counted}
+use Rattle.laws.proofs.Story.Moments.{calling, Moment, moment, callEvent, eventOf, eventAt, followed, bodyMoments, callMoments}
+use Rattle.laws.proofs.Rules.DrawingRules.{Broken, off-axes, undefined, being-drawn, deep, many-calls, Breaks, tallied, Met, goes-on, stops, met}
+use Rattle.laws.proofs.Story.Counting.{not-finished}
+use Rattle.laws.proofs.Story.Depth.{made-unbroken}
+
+-- the rules 11 to 14 do not count
+uncounted : (a b : Counts) (t : Table) (chain : Chain) (net : List (Turn ℤ)) (n : ℕ) (ts : List (Turn ℤ)) (k : ℕ) → k < 15
+    → Broken a t chain net (calling n ts) k → Broken b t chain net (calling n ts) k
+uncounted a b t chain net n ts k h (off-axes x) = off-axes x
+uncounted a b t chain net n ts k h (undefined x) = undefined x
+uncounted a b t chain net n ts k h (being-drawn x) = being-drawn x
+uncounted a b t chain net n ts k h (deep x) = deep x
+uncounted a b t chain net n ts k h (many-calls x) = absurd (go h)
+  where
+    go : 15 < 15 → ⊥
+    go l = omega arith
+
+kept-finishes : (c : Counts) (m : Moment) → ((k : ℕ) → Breaks c m k → ⊥) → counted c (eventAt m) ≡ finished (tallied c m)
+kept-finishes c m h = go (met c m)
+  where
+    go : {e : End} → Met c m e → e ≡ finished (tallied c m)
+    go (goes-on x) = refl
+    go (stops l) = absurd (h _ (l .breaks))
+
+-- a call whose event is no refusal is made
+called-found : (o : Option ℕ) (found : Option Definition) (p : ℕ) (chain : Chain) (d : Definition) (x : Counts) → found ≡ some d
+    → counted (counts 0 0 0) (callEvent o found p chain) ≡ finished x → callEvent o found p chain ≡ called p chain d
+unfolding callEvent counted
+called-found (some k) found p chain d x e h = absurd (not-finished h)
+called-found none none p chain d x e h = absurd (not-finished h)
+called-found none (some f) p chain d x e h = ap (λ (g : Definition). called p chain g) (cc)
+
+none-follow : (e : Event) (go : Definition → List Moment) → ((q : ℕ) (chain : Chain) (d : Definition) → e ≡ called q chain d → ⊥) → followed e go ≡ []
+unfolding followed
+none-follow (called p chain d) go h = absurd (h p chain d refl)
+none-follow (drew d) go h = refl
+none-follow (entered d before) go h = refl
+none-follow (removed n before) go h = refl
+none-follow (refused n p chain) go h = refl
+
+module _ (c : Counts) (left : ℕ) (t : Table) (chain : Chain) (net : List (Turn ℤ)) (p n : ℕ) (ts : List (Turn ℤ)) where
+  abbrev it : Moment
+  it = moment t chain net p (calling n ts)
+
+  call-made : (d : Definition) → find n t ≡ some d → ((k : ℕ) → k < 15 → Breaks c it k → ⊥) → eventAt it ≡ called p chain d
+  unfolding eventOf
+  call-made d e h =
+      called-found (callFault (32 - length chain) (find n t) chain n ts) (find n t) p chain d (tallied (counts 0 0 0) it) e (kept-finishes (counts 0 0 0) it kept)
+    where
+      kept : (k : ℕ) → Broken (counts 0 0 0) t chain net (calling n ts) k → ⊥
+      kept k (off-axes x) = h 11 (omega arith) (off-axes x)
+      kept k (undefined x) = h 12 (omega arith) (undefined x)
+      kept k (being-drawn x) = h 13 (omega arith) (being-drawn x)
+      kept k (deep x) = h 14 (omega arith) (deep x)
+      kept k (many-calls x) = omega arith
+
+  pub call-draws-body : (d : Definition) → find n t ≡ some d → ((k : ℕ) → k < 15 → Breaks c it k → ⊥)
+      → callMoments (suc left) t chain net p n ts
+      ≡ it ∷ bodyMoments (callMoments left t (chain ++ (at p n ∷ [])) (ts ++ net)) t (chain ++ (at p n ∷ [])) (ts ++ net) (d .body)
+  unfolding callMoments followed
+  call-draws-body d e h = rw (call-made d e h)
+
+  pub call-draws-nothing : (k : ℕ) → k < 15 → Breaks c it k → callMoments (suc left) t chain net p n ts ≡ it ∷ []
+  unfolding callMoments
+  call-draws-nothing k h x =
+      ap (λ (ms : List Moment). it ∷ ms)
+      (none-follow (eventAt it) _ (λ q ch d e. made-unbroken it q ch d e k (uncounted c (counts 0 0 0) t chain net n ts k h x)))

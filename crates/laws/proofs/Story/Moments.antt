@@ -1,0 +1,177 @@
+-- The moments of a drawing: what it comes to, one after the other, each with the table, the open calls and their transformations as they are there.
+-- The rules 10 to 17 of document 01 speak of moments (DrawingRules); here each event of the story is what one moment leads to, and no moment is left out.
+-- Assumes nothing.
+use mathlib.Core.Path.{_≡_, refl, sym, ap, ap₂, _∙_}
+use mathlib.Core.Bool.{Bool, true, false}
+use mathlib.Core.List.{List, [], _∷_, _++_, map}
+use mathlib.Core.Option.{Option, none, some}
+use Prim.Native.Nat.{ℕ, zero, suc, _+_, _-_}
+use native.Mathlib.Omega.{arith}
+use lib.Dec.{ltb}
+use lib.IntN.{ℤ}
+use lib.ListN.{length, length-append}
+use Rattle.definition.specs.Words.{if_then_else_, Placed, at}
+use Rattle.definition.specs.Commands.{Shape, Turn}
+use Rattle.definition.specs.Turns.{offAxes}
+use Rattle.definition.specs.Table.{Step, shape, instance, setting, Definition, Table, find, enter}
+use Rattle.definition.specs.Drawing.{Deed, output, define, remove, Chain, Event, called, drew, entered, removed, refused}
+use Rattle.definition.specs.Drawing.{drawShape, drawStep, drawBody, callFault, unless, drawCall, happens, tableAfter, story}
+
+-- a call of a symbol with its own transformations; a shape on its layer; a definition to enter; a symbol number from which on entries are removed
+pub data Act : Type 0 where
+  calling : (symbol : ℕ) → List (Turn ℤ) → Act
+  drawing : (layer : List ℕ) → Shape ℤ → Act
+  entering : Definition → Act
+  removing : (symbol : ℕ) → Act
+
+-- the table as it is before the act, the open calls and their transformations in one list, the command's place, and the act
+pub record Moment : Type 0 where
+  pub table : Table
+  pub chain : Chain
+  pub net : List (Turn ℤ)
+  pub place : ℕ
+  pub act : Act
+
+abbrev pub moment : Table → Chain → List (Turn ℤ) → ℕ → Act → Moment
+moment t chain net p a = record { table = t; chain = chain; net = net; place = p; act = a }
+
+-- a call that has a fault is refused, and one that has none is made
+unfoldable pub callEvent : Option ℕ → Option Definition → ℕ → Chain → Event
+callEvent (some number) found p chain = refused number p chain
+callEvent none none p chain = refused 12 p chain
+callEvent none (some d) p chain = called p chain d
+
+-- what a moment leads to. 32 levels are left outside all calls, and each open call takes one
+unfoldable pub eventOf : Table → Chain → List (Turn ℤ) → ℕ → Act → Event
+eventOf t chain net p (calling n ts) = callEvent (callFault (32 - length chain) (find n t) chain n ts) (find n t) p chain
+eventOf t chain net p (drawing l k) = drawShape chain net p l k
+eventOf t chain net p (entering d) = if ltb 512 (length (enter d t)) then refused 10 p chain else entered d t
+eventOf t chain net p (removing n) = removed (at p n) t
+
+abbrev pub eventAt : Moment → Event
+eventAt m = eventOf (m .table) (m .chain) (m .net) (m .place) (m .act)
+
+-- a call that is made is followed by what its definition leads to
+unfoldable pub followed : Event → (Definition → List Moment) → List Moment
+followed (called p chain d) go = go d
+followed (drew d) go = []
+followed (entered d before) go = []
+followed (removed n before) go = []
+followed (refused n p chain) go = []
+
+unfoldable pub stepMoments : (ℕ → ℕ → List (Turn ℤ) → List Moment) → Table → Chain → List (Turn ℤ) → ℕ → Step → List Moment
+stepMoments callMoments t chain net p (shape l k) = moment t chain net p (drawing l k) ∷ []
+stepMoments callMoments t chain net p (instance n ts) = callMoments p n ts
+stepMoments callMoments t chain net p (setting l) = []
+
+unfoldable pub bodyMoments : (ℕ → ℕ → List (Turn ℤ) → List Moment) → Table → Chain → List (Turn ℤ) → List (Placed Step) → List Moment
+bodyMoments callMoments t chain net [] = []
+bodyMoments callMoments t chain net (s ∷ ss) =
+    stepMoments callMoments t chain net (s .place) (s .what) ++ bodyMoments callMoments t chain net ss
+
+-- a body draws its calls and a call draws its body
+unfoldable pub callMoments : (left : ℕ) → Table → Chain → List (Turn ℤ) → ℕ → ℕ → List (Turn ℤ) → List Moment
+callMoments zero t chain net p n ts = moment t chain net p (calling n ts) ∷ []
+callMoments (suc left) t chain net p n ts =
+    let deeper : Chain = chain ++ (at p n ∷ []) in
+    moment t chain net p (calling n ts)
+    ∷ followed (eventOf t chain net p (calling n ts))
+    (λ d. bodyMoments (callMoments left t deeper (ts ++ net)) t deeper (ts ++ net) (d .body))
+
+unfoldable pub deedMoments : Table → Deed → List Moment
+deedMoments t (output s) = stepMoments (callMoments 32 t [] []) t [] [] (s .place) (s .what)
+deedMoments t (define d) = moment t [] [] (d .place) (entering d) ∷ []
+deedMoments t (remove n) = moment t [] [] (n .place) (removing (n .what)) ∷ []
+
+unfoldable pub moments : Table → List Deed → List Moment
+moments t [] = []
+moments t (d ∷ ds) = deedMoments t d ++ moments (tableAfter t d) ds
+
+-- the events of a list of moments
+abbrev pub events : List Moment → List Event
+events ms = map eventAt ms
+
+pub events-++ : (a b : List Moment) → events (a ++ b) ≡ events a ++ events b
+events-++ [] b = refl
+events-++ (m ∷ a) b = ap (λ (x : List Event). eventAt m ∷ x) (events-++ a b)
+
+-- where the functions that draw calls agree, so do steps and bodies
+module _ (f : ℕ → ℕ → List (Turn ℤ) → List Event) (g : ℕ → ℕ → List (Turn ℤ) → List Moment)
+    (agree : (p n : ℕ) (ts : List (Turn ℤ)) → f p n ts ≡ events (g p n ts)) where
+  step-events : (t : Table) (chain : Chain) (net : List (Turn ℤ)) (p : ℕ) (s : Step) → drawStep f chain net p s ≡ events (stepMoments g t chain net p s)
+  unfolding drawStep stepMoments eventOf
+  step-events t chain net p (shape l k) = refl
+  step-events t chain net p (instance n ts) = agree p n ts
+  step-events t chain net p (setting l) = refl
+
+  body-events : (t : Table) (chain : Chain) (net : List (Turn ℤ)) (b : List (Placed Step)) → drawBody f chain net b ≡ events (bodyMoments g t chain net b)
+  unfolding drawBody bodyMoments
+  body-events t chain net [] = refl
+  body-events t chain net (s ∷ b) =
+      ap₂ {C = List Event} (λ (x y : List Event). x ++ y) (step-events t chain net (s .place) (s .what)) (body-events t chain net b)
+      ∙ sym (events-++ (stepMoments g t chain net (s .place) (s .what)) (bodyMoments g t chain net b))
+
+-- a call that finds nothing has a fault
+nothing-found : (left : ℕ) (chain : Chain) (n : ℕ) (ts : List (Turn ℤ)) → callFault left none chain n ts ≡ none → ⊥
+unfolding callFault
+nothing-found left chain n ts e = go (offAxes ts) e
+  where
+    go : (b : Bool) → _≡_ {A = Option ℕ} (if b then some 11 else some 12) none → ⊥
+    go true h = let z : _≡_ {A = ℕ} 0 1 = cc in omega arith
+    go false h = let z : _≡_ {A = ℕ} 0 1 = cc in omega arith
+
+unless-events : (o : Option ℕ) (p : ℕ) (chain : Chain) (found : Option Definition) (go : Definition → List Event) (go′ : Definition → List Moment)
+    → (found ≡ none → o ≡ none → ⊥) → ((d : Definition) → go d ≡ events (go′ d))
+    → unless o p chain found go ≡ callEvent o found p chain ∷ events (followed (callEvent o found p chain) go′)
+unfolding unless callEvent followed
+unless-events (some number) p chain found go go′ h same = refl
+unless-events none p chain none go go′ h same = absurd (h refl refl)
+unless-events none p chain (some d) go go′ h same = ap (λ (x : List Event). called p chain d ∷ x) (same d)
+
+none-followed : (e : Event) → followed e (λ d. []) ≡ []
+unfolding followed
+none-followed (called p chain d) = refl
+none-followed (drew d) = refl
+none-followed (entered d before) = refl
+none-followed (removed n before) = refl
+none-followed (refused n p chain) = refl
+
+-- the fault of a call that finds nothing is there wherever it is looked for
+found-or-fault : (left : ℕ) (found : Option Definition) (chain : Chain) (n : ℕ) (ts : List (Turn ℤ)) → found ≡ none → callFault left found chain n ts ≡ none → ⊥
+found-or-fault left found chain n ts e h = nothing-found left chain n ts (rw e at h)
+
+pub call-events : (left : ℕ) (t : Table) (chain : Chain) (net : List (Turn ℤ)) (p n : ℕ) (ts : List (Turn ℤ)) → left + length chain ≡ 32
+    → drawCall left t chain net p n ts ≡ events (callMoments left t chain net p n ts)
+unfolding drawCall callMoments eventOf
+call-events zero t chain net p n ts h =
+    let levels : 32 - length chain ≡ 0 = omega arith in
+    let o = callFault 0 (find n t) chain n ts in
+    rw levels
+    (unless-events o p chain (find n t) (λ d. []) (λ d. []) (found-or-fault 0 (find n t) chain n ts) (λ d. refl)
+    ∙ ap (λ (x : List Moment). callEvent o (find n t) p chain ∷ events x) (none-followed (callEvent o (find n t) p chain)))
+call-events (suc left) t chain net p n ts h =
+    let levels : 32 - length chain ≡ suc left = omega arith in
+    let deeper : Chain = chain ++ (at p n ∷ []) in
+    let one-more : left + length deeper ≡ 32 = rw length-append (omega arith) in
+    rw levels
+    (unless-events (callFault (suc left) (find n t) chain n ts) p chain (find n t)
+    (λ d. drawBody (drawCall left t deeper (ts ++ net)) deeper (ts ++ net) (d .body))
+    (λ d. bodyMoments (callMoments left t deeper (ts ++ net)) t deeper (ts ++ net) (d .body))
+    (found-or-fault (suc left) (find n t) chain n ts)
+    (λ d. body-events (drawCall left t deeper (ts ++ net)) (callMoments left t deeper (ts ++ net))
+    (λ q m us. call-events left t deeper (ts ++ net) q m us one-more) t deeper (ts ++ net) (d .body)))
+
+deed-events : (t : Table) (d : Deed) → happens t d ≡ events (deedMoments t d)
+unfolding happens deedMoments eventOf
+deed-events t (output s) =
+    step-events (drawCall 32 t [] []) (callMoments 32 t [] []) (λ p n ts. call-events 32 t [] [] p n ts refl) t [] [] (s .place) (s .what)
+deed-events t (define d) = refl
+deed-events t (remove n) = refl
+
+-- all that happens, in order, is what the moments lead to
+pub story-events : (t : Table) (ds : List Deed) → story t ds ≡ events (moments t ds)
+unfolding story moments
+story-events t [] = refl
+story-events t (d ∷ ds) =
+    ap₂ {C = List Event} (λ (x y : List Event). x ++ y) (deed-events t d) (story-events (tableAfter t d) ds)
+    ∙ sym (events-++ (deedMoments t d) (moments (tableAfter t d) ds))
