@@ -1,5 +1,6 @@
 -- The limits of 01, each from both sides: what still passes, and what one more does. Laws and not rows, since a text that reaches most of
--- them is too long to compute; so a definition whose limit is one off is refused here, whatever its size.
+-- them is too long to compute; so a definition whose limit is one off is refused here, whatever its size. The numbers are written out, so that
+-- specs/Limits.antt is held to them, too.
 -- Assumes nothing.
 use mathlib.Core.Path.{_≡_, refl, subst}
 use mathlib.Core.Bool.{Bool, true, false, _&&_}
@@ -12,8 +13,9 @@ use lib.ListN.{length}
 use borrow.Author.Tests.{lt-ltb, le-ltb, le-leb, lt-leb}
 use Rattle.grammar.specs.Steps.{verdictOf}
 use Rattle.grammar.proofs.Verdicts.{Bytes}
-use Rattle.definition.specs.Words.{if_then_else_, any, bytesOf}
-use Rattle.definition.specs.Commands.{Number, Shape, Turn, draw, call}
+use Rattle.definition.specs.Words.{if_then_else_, Placed, any, bytesOf}
+use Rattle.definition.specs.Rules.{textTooLong, tooManyDefinitions, tooManyCalls, tooManyShapes, flatFileTooLong, refuse}
+use Rattle.definition.specs.Commands.{Number, Shape, Turn, Command, draw, call}
 use Rattle.definition.specs.Faults.{beyond, partsOf, tooMany}
 use Rattle.definition.specs.Table.{Definition, Table, enter}
 use Rattle.definition.specs.Drawing.{Chain, Drawn, Event, called, drew, entered, refused, define, happens}
@@ -56,7 +58,7 @@ pub table-reached : (t : Table) (d : Definition) → length (enter d t) ≤ 512 
 unfolding happens
 table-reached t d h = rw (le-ltb 512 (length (enter d t)) h)
 
-pub table-passed : (t : Table) (d : Definition) → 512 < length (enter d t) → happens t (define d) ≡ refused 10 (d .place) [] ∷ []
+pub table-passed : (t : Table) (d : Definition) → 512 < length (enter d t) → happens t (define d) ≡ refused (refuse tooManyDefinitions (d .place)) [] ∷ []
 unfolding happens
 table-passed t d h = rw (lt-ltb 512 (length (enter d t)) h)
 
@@ -67,7 +69,7 @@ module _ (c : Counts) where
   unfolding counted
   calls-reached p chain d h = rw (lt-ltb (c .calls) 1048576 h)
 
-  pub calls-passed : (p : ℕ) (chain : Chain) (d : Definition) → 1048576 ≤ c .calls → counted c (called p chain d) ≡ stopped 15 p chain
+  pub calls-passed : (p : ℕ) (chain : Chain) (d : Definition) → 1048576 ≤ c .calls → counted c (called p chain d) ≡ stopped (refuse tooManyCalls p) chain
   unfolding counted
   calls-passed p chain d h = rw (le-ltb (c .calls) 1048576 h)
 
@@ -75,25 +77,25 @@ module _ (c : Counts) where
   unfolding counted
   shapes-reached d h = rw (lt-ltb (c .shapes) 1048576 h)
 
-  pub shapes-passed : (d : Drawn) → 1048576 ≤ c .shapes → counted c (drew d) ≡ stopped 17 (d .place) (d .chain)
+  pub shapes-passed : (d : Drawn) → 1048576 ≤ c .shapes → counted c (drew d) ≡ stopped (refuse tooManyShapes (d .place)) (d .chain)
   unfolding counted
   shapes-passed d h = rw (le-ltb (c .shapes) 1048576 h)
 
 -- 18: a flat file of 16,777,216 bytes, in a room that holds it
-module _ (c : Counts) (es : List Event) (room : ℕ) where
-  pub file-reached : length (flat (shapesOf es)) ≤ room → length (flat (shapesOf es)) ≤ 16777216 → fitted (finished c) es room ≡ accepted c es
+module _ (c : Counts) (cs : List (Placed Command)) (es : List Event) (room : ℕ) where
+  pub file-reached : length (flat (shapesOf es)) ≤ room → length (flat (shapesOf es)) ≤ 16777216 → fitted (finished c) cs es room ≡ accepted cs c es
   unfolding fitted
   file-reached h g = rw (le-leb (length (flat (shapesOf es))) room h) (rw (le-leb (length (flat (shapesOf es))) 16777216 g))
 
-  pub room-passed : room < length (flat (shapesOf es)) → fitted (finished c) es room ≡ rejected 18 0 []
+  pub room-passed : room < length (flat (shapesOf es)) → fitted (finished c) cs es room ≡ rejected (refuse flatFileTooLong 0) []
   unfolding fitted
   room-passed h = rw (lt-leb (length (flat (shapesOf es))) room h)
 
-  pub file-passed : 16777216 < length (flat (shapesOf es)) → fitted (finished c) es room ≡ rejected 18 0 []
+  pub file-passed : 16777216 < length (flat (shapesOf es)) → fitted (finished c) cs es room ≡ rejected (refuse flatFileTooLong 0) []
   unfolding fitted
   file-passed h = rw (lt-leb (length (flat (shapesOf es))) 16777216 h) (neither (leb (length (flat (shapesOf es))) room))
     where
-      neither : (b : Bool) → (if b && false then accepted c es else rejected 18 0 []) ≡ rejected 18 0 []
+      neither : (b : Bool) → (if b && false then accepted cs c es else rejected (refuse flatFileTooLong 0) []) ≡ rejected (refuse flatFileTooLong 0) []
       neither true = refl
       neither false = refl
 
@@ -105,7 +107,7 @@ text-reached t room b h = subst (Answers t room) judged-so (right t room b)
     judged-so : answerOf t room ≡ verdict (verdictOf 0 0 0 t) t room
     judged-so = rw (le-ltb 16777216 (length t) h)
 
-pub text-passed : (t : List ℕ) (room : ℕ) {o : Outcome} → 16777216 < length t → Answers t room o → o ≡ rejected 1 0 []
+pub text-passed : (t : List ℕ) (room : ℕ) {o : Outcome} → 16777216 < length t → Answers t room o → o ≡ rejected (refuse textTooLong 0) []
 text-passed t room h (too-long g) = refl
 text-passed t room h (not-cif g x y) = absurd (omega (arith, h, g))
 text-passed t room h (read g m) = absurd (omega (arith, h, g))
@@ -114,7 +116,7 @@ text-passed t room h (read g m) = absurd (omega (arith, h, g))
 pub list-reached : (t : List ℕ) {o : Outcome} → length t ≤ 32768 → Answers t 32768 o → Lists t (listing o)
 list-reached t h a = within h a
 
-pub list-passed : (t : List ℕ) {p : List ℕ} → 32768 < length t → Lists t p → p ≡ listing (rejected 1 0 [])
+pub list-passed : (t : List ℕ) {p : List ℕ} → 32768 < length t → Lists t p → p ≡ listing (rejected (refuse textTooLong 0) [])
 list-passed t h (over g) = refl
 list-passed t h (within g a) = absurd (omega (arith, h, g))
 

@@ -16,26 +16,28 @@ use Rattle.grammar.proofs.Markings.{marking-is, one-marking}
 use Rattle.grammar.proofs.Verdicts.{Bytes, judged}
 use Rattle.grammar.proofs.Unique
 use Rattle.grammar.proofs.Unique.{one-length}
+use Rattle.definition.specs.Limits.{mostBytes}
 use Rattle.definition.specs.Words.{if_then_else_}
+use Rattle.definition.specs.Rules.{textTooLong, notInGrammar, refuse}
 use Rattle.definition.specs.declared.Answer.{Answer}
 use Rattle.definition.specs.Answer.{Outcome, rejected, given-back, roomAfter, outcomeOf, Answers, too-long, not-cif, read, Promised}
 use Rattle.definition.specs.Computed.{verdict, answerOf}
 
-by-verdict : (t : List ℕ) (room : ℕ) → Bytes t → length t ≤ 16777216 → (v : Verdict) → Viable.Judged t v → Answers t room (verdict v t room)
+by-verdict : (t : List ℕ) (room : ℕ) → Bytes t → length t ≤ mostBytes → (v : Verdict) → Viable.Judged t v → Answers t room (verdict v t room)
 unfolding verdict
 by-verdict t room b h InGrammar g =
     subst (λ (m : List Letter). Answers t room (outcomeOf m room)) (marking-is (g .1)) (read h (g .1))
 by-verdict t room b h (StuckAt n) g = not-cif h (g .0) (g .1)
 
-by-length : (t : List ℕ) (room : ℕ) → Bytes t → (c : Bool) → ltb 16777216 (length t) ≡ c
-    → Answers t room (if c then rejected 1 0 [] else verdict (verdictOf 0 0 0 t) t room)
-by-length t room b true e = too-long (ltb→lt 16777216 (length t) (subst T (sym e) tt))
+by-length : (t : List ℕ) (room : ℕ) → Bytes t → (c : Bool) → ltb mostBytes (length t) ≡ c
+    → Answers t room (if c then rejected (refuse textTooLong 0) [] else verdict (verdictOf 0 0 0 t) t room)
+by-length t room b true e = too-long (ltb→lt mostBytes (length t) (subst T (sym e) tt))
 by-length t room b false e =
-    by-verdict t room b (nltb→le 16777216 (length t) (subst (λ (c : Bool). T (not c)) (sym e) tt)) (verdictOf 0 0 0 t) (judged t b)
+    by-verdict t room b (nltb→le mostBytes (length t) (subst (λ (c : Bool). T (not c)) (sym e) tt)) (verdictOf 0 0 0 t) (judged t b)
 
 pub right : (t : List ℕ) (room : ℕ) → Bytes t → Answers t room (answerOf t room)
 unfolding answerOf
-right t room b = by-length t room b (ltb 16777216 (length t)) refl
+right t room b = by-length t room b (ltb mostBytes (length t)) refl
 
 -- two outcomes that are allowed are one, whatever the text is
 pub unique : {t : List ℕ} {room : ℕ} {o p : Outcome} → Answers t room o → Answers t room p → o ≡ p
@@ -43,7 +45,7 @@ unique (too-long h) (too-long k) = refl
 unique (too-long h) (not-cif k g l) = absurd (omega arith)
 unique (too-long h) (read k m) = absurd (omega arith)
 unique (not-cif h g l) (too-long k) = absurd (omega arith)
-unique (not-cif h g l) (not-cif k e m) = ap (λ (n : ℕ). rejected 2 n []) (one-length l m)
+unique (not-cif h g l) (not-cif k e m) = ap (λ (n : ℕ). rejected (refuse notInGrammar n) []) (one-length l m)
 unique (not-cif h g l) (read {m} k e) = absurd (g (m, e))
 unique (read h m) (too-long k) = absurd (omega arith)
 unique (read {m} h e) (not-cif k g l) = absurd (g (m, e))

@@ -26,7 +26,7 @@ use Rattle.definition.specs.Standing.{after, scaled, whole, scaledShape,
 use Rattle.definition.specs.Faults.{beyond, partsOf, shifts, bearings, distances, numbersOf, zeroScale, least, emptyShape, degenerate, layerless, tooMany, atNumbers, faults, allFaults, firstFault}
 use Rattle.definition.specs.Turns.{negative, heading, rotated, act, aim, inOrder, moved, offAxes}
 use Rattle.definition.specs.Table.{find, enter, forget}
-use Rattle.definition.specs.Drawing.{stepOf, retained, deedOf, deeds, drawShape, drawStep, drawBody, callFault, unless, drawCall, happens, tableAfter, story}
+use Rattle.definition.specs.Drawing.{stepOf, retained, deedOf, deeds, drawShape, drawStep, drawBody, passageTo, passageOf, through, drawCall, happens, tableAfter, story}
 use Rattle.definition.specs.Counts.{counted, goOn, ending, shapesOf}
 use Rattle.definition.specs.Flat.{digits, decimal, spaced, letterOf, said, lines, flat}
 use Rattle.definition.specs.Answer.{flatFile, given-back, fitted, drawn, outcomeOf}
@@ -129,7 +129,7 @@ every test (r ∷ rs) = test r && every test rs
 
 -- the test of rows, and that of printouts; what both compute through is named here once
 unfoldable pub all-hold : List Row → Bool
-unfolding row-holds print-holds every small flatMap has dec kinds table kindOf entryOf nextOf modeAfter markOf roleOf marked verdictOf any those first same bytesOf worth numbers paired next named turnAt turns commandAt commands after scaled whole scaledShape scaledTurn beyond partsOf shifts bearings distances numbersOf zeroScale least emptyShape degenerate layerless tooMany atNumbers faults allFaults firstFault negative heading rotated act aim inOrder moved offAxes find enter forget stepOf retained deedOf deeds drawShape drawStep drawBody callFault unless drawCall happens tableAfter story counted goOn ending shapesOf digits decimal spaced letterOf said lines flat flatFile given-back fitted drawn outcomeOf fields shapeLines extreme windowLine listing verdict answerOf
+unfolding row-holds print-holds every small flatMap has dec kinds table kindOf entryOf nextOf modeAfter markOf roleOf marked verdictOf any those first same bytesOf worth numbers paired next named turnAt turns commandAt commands after scaled whole scaledShape scaledTurn beyond partsOf shifts bearings distances numbersOf zeroScale least emptyShape degenerate layerless tooMany atNumbers faults allFaults firstFault negative heading rotated act aim inOrder moved offAxes find enter forget stepOf retained deedOf deeds drawShape drawStep drawBody passageTo passageOf through drawCall happens tableAfter story counted goOn ending shapesOf digits decimal spaced letterOf said lines flat flatFile given-back fitted drawn outcomeOf fields shapeLines extreme windowLine listing verdict answerOf
 all-hold rs = every row-holds rs
 
 unfoldable pub all-print : List Printout → Bool

@@ -11,29 +11,32 @@ use Rattle.grammar.specs.Notation.{Letter}
 use Rattle.grammar.specs.Viable.{Marked}
 use Rattle.grammar.specs.Viable.{Grammatical, LongestViable}
 use Rattle.definition.specs.declared.Answer.{Answer}
+use Rattle.definition.specs.declared.Refusal.{Refusal}
+use Rattle.definition.specs.Limits.{mostBytes}
 use Rattle.definition.specs.Words.{if_then_else_, Placed}
+use Rattle.definition.specs.Rules.{textTooLong, notInGrammar, flatFileTooLong, refuse}
 use Rattle.definition.specs.Commands.{Command, commands}
 use Rattle.definition.specs.Standing.{outside}
-use Rattle.definition.specs.Faults.{Refusal, firstFault}
+use Rattle.definition.specs.Faults.{firstFault}
 use Rattle.definition.specs.Drawing.{Chain, Event, deeds, story}
 use Rattle.definition.specs.Counts.{Counts, counts, End, finished, stopped, ending, shapesOf}
 use Rattle.definition.specs.Flat.{flat}
 
-pub data Outcome : Type 0 where  -- how a reading comes out: drawn, with the counts and all that happened; or refused, with the calls open there
-  accepted : Counts → List Event → Outcome
-  rejected : (number place : ℕ) → Chain → Outcome
+pub data Outcome : Type 0 where  -- how a reading comes out: its commands are drawn, with the counts and all that happened; or refused, with the calls open there
+  accepted : List (Placed Command) → Counts → List Event → Outcome
+  rejected : Refusal → Chain → Outcome
 
 -- 01, "What the reader takes and gives": on success the number and place are 0; on refusal the length and all counts are 0
 unfoldable pub flatFile : Outcome → List ℕ
-flatFile (accepted c es) = flat (shapesOf es)
-flatFile (rejected n p chain) = []
+flatFile (accepted cs c es) = flat (shapesOf es)
+flatFile (rejected r chain) = []
 
 abbrev pub answer : (number place length : ℕ) → Counts → Answer
 answer n p l c = record { number = n; place = p; length = l; shapes = c .shapes; calls = c .calls; redefinitions = c .redefinitions }
 
 unfoldable pub given-back : Outcome → Answer
-given-back (accepted c es) = answer 0 0 (length (flat (shapesOf es))) c
-given-back (rejected n p chain) = answer n p 0 (counts 0 0 0)
+given-back (accepted cs c es) = answer 0 0 (length (flat (shapesOf es))) c
+given-back (rejected r chain) = answer (r .number) (r .place) 0 (counts 0 0 0)
 
 abbrev pub roomAfter : Outcome → List ℕ → List ℕ  -- the first bytes of the room hold the flat file, and the rest of the room is unchanged
 roomAfter o room = flatFile o ++ drop (length (flatFile o)) room
@@ -41,24 +44,25 @@ roomAfter o room = flatFile o ++ drop (length (flatFile o)) room
 abbrev pub drawingOf : List (Placed Command) → List Event  -- the drawing of commands
 drawingOf cs = story [] (deeds (outside []) cs)
 
-unfoldable pub fitted : End → List Event → ℕ → Outcome  -- 01, refusal 18: flat file longer than the room or than 16,777,216
-fitted (stopped n p chain) es room = rejected n p chain
-fitted (finished c) es room =
-    if leb (length (flat (shapesOf es))) room && leb (length (flat (shapesOf es))) 16777216 then accepted c es else rejected 18 0 []
+unfoldable pub fitted : End → List (Placed Command) → List Event → ℕ → Outcome  -- 01, refusal 18: flat file longer than the room or than 16,777,216
+fitted (stopped r chain) cs es room = rejected r chain
+fitted (finished c) cs es room =
+    if leb (length (flat (shapesOf es))) room && leb (length (flat (shapesOf es))) mostBytes then accepted cs c es
+    else rejected (refuse flatFileTooLong 0) []
 
 -- 01, order: 3 to 9 for all commands, then 10 to 17 in the order of drawing, then 18
 unfoldable pub drawn : Option Refusal → List (Placed Command) → ℕ → Outcome
-drawn (some r) cs room = rejected (r .what) (r .place) []
-drawn none cs room = fitted (ending (counts 0 0 0) (drawingOf cs)) (drawingOf cs) room
+drawn (some r) cs room = rejected r []
+drawn none cs room = fitted (ending (counts 0 0 0) (drawingOf cs)) cs (drawingOf cs) room
 
 unfoldable pub outcomeOf : List Letter → ℕ → Outcome
 outcomeOf m room = drawn (firstFault (commands 0 m)) (commands 0 m) room
 
 -- what may come of a text t and a room of the length said: 1; then 2, which knows grammar only; then what the text's commands say
 pub data Answers (t : List ℕ) (room : ℕ) : Outcome → Type 0 where
-  too-long : 16777216 < length t → Answers t room (rejected 1 0 [])
-  not-cif : {n : ℕ} → length t ≤ 16777216 → (Grammatical t → ⊥) → LongestViable t n → Answers t room (rejected 2 n [])
-  read : {m : List Letter} → length t ≤ 16777216 → Marked t m → Answers t room (outcomeOf m room)
+  too-long : mostBytes < length t → Answers t room (rejected (refuse textTooLong 0) [])
+  not-cif : {n : ℕ} → length t ≤ mostBytes → (Grammatical t → ⊥) → LongestViable t n → Answers t room (rejected (refuse notInGrammar n) [])
+  read : {m : List Letter} → length t ≤ mostBytes → Marked t m → Answers t room (outcomeOf m room)
 
 -- the contract of a reader that gives back r of the text t, and leaves the room so
 pub record Promised (t room : List ℕ) (r : Answer) (left : List ℕ) : Type 0 where

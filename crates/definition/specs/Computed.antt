@@ -7,12 +7,14 @@ use lib.ListN.{length}
 use Rattle.grammar.specs.Steps.{marked, verdictOf}
 use Rattle.grammar.specs.declared.Verdict.{Verdict}
 use Rattle.grammar.specs.declared.Verdict.the-variants.{InGrammar, StuckAt}
+use Rattle.definition.specs.Limits.{mostBytes}
 use Rattle.definition.specs.Words.{if_then_else_}
+use Rattle.definition.specs.Rules.{textTooLong, notInGrammar, refuse}
 use Rattle.definition.specs.Answer.{Outcome, rejected, outcomeOf}
 
 unfoldable pub verdict : Verdict → List ℕ → ℕ → Outcome
 verdict InGrammar t room = outcomeOf (marked 0 0 t) room
-verdict (StuckAt n) t room = rejected 2 n []
+verdict (StuckAt n) t room = rejected (refuse notInGrammar n) []
 
 unfoldable pub answerOf : List ℕ → ℕ → Outcome
-answerOf t room = if ltb 16777216 (length t) then rejected 1 0 [] else verdict (verdictOf 0 0 0 t) t room
+answerOf t room = if ltb mostBytes (length t) then rejected (refuse textTooLong 0) [] else verdict (verdictOf 0 0 0 t) t room

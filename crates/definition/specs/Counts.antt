@@ -3,7 +3,10 @@ use mathlib.Core.Bool.{Bool, true, false}
 use mathlib.Core.List.{List, [], _∷_}
 use Prim.Native.Nat.{ℕ, _+_}
 use lib.Dec.{ltb}
+use Rattle.definition.specs.declared.Refusal.{Refusal}
+use Rattle.definition.specs.Limits.{mostCalls, mostShapes}
 use Rattle.definition.specs.Words.{if_then_else_, none?}
+use Rattle.definition.specs.Rules.{tooManyCalls, tooManyShapes, refuse}
 use Rattle.definition.specs.Table.{find}
 use Rattle.definition.specs.Drawing.{Chain, Drawn, Event, called, drew, entered, removed, refused}
 
@@ -17,21 +20,21 @@ counts c s r = record { calls = c; shapes = s; redefinitions = r }
 
 pub data End : Type 0 where  -- how it ends: with counts, or by a refusal and the calls open there
   finished : Counts → End
-  stopped : (number place : ℕ) → Chain → End
+  stopped : Refusal → Chain → End
 
 unfoldable pub counted : Counts → Event → End  -- one event counted. 01, refusals 15 and 17: call 1,048,577 and shape 1,048,577
 counted c (called p chain d) =
-    if ltb (c .calls) 1048576 then finished (counts (c .calls + 1) (c .shapes) (c .redefinitions)) else stopped 15 p chain
+    if ltb (c .calls) mostCalls then finished (counts (c .calls + 1) (c .shapes) (c .redefinitions)) else stopped (refuse tooManyCalls p) chain
 counted c (drew d) =
-    if ltb (c .shapes) 1048576 then finished (counts (c .calls) (c .shapes + 1) (c .redefinitions)) else stopped 17 (d .place) (d .chain)
+    if ltb (c .shapes) mostShapes then finished (counts (c .calls) (c .shapes + 1) (c .redefinitions)) else stopped (refuse tooManyShapes (d .place)) (d .chain)
 counted c (entered d before) =
     finished (counts (c .calls) (c .shapes) (if none? (find (d .symbol) before) then c .redefinitions else c .redefinitions + 1))
 counted c (removed n before) = finished c
-counted c (refused n p chain) = stopped n p chain
+counted c (refused r chain) = stopped r chain
 
 unfoldable pub goOn : End → (Counts → End) → End
 goOn (finished c) f = f c
-goOn (stopped n p chain) f = stopped n p chain
+goOn (stopped r chain) f = stopped r chain
 
 unfoldable pub ending : Counts → List Event → End  -- the first refusal ends it
 ending c [] = finished c
@@ -43,4 +46,4 @@ shapesOf (drew d ∷ es) = d ∷ shapesOf es
 shapesOf (called p chain d ∷ es) = shapesOf es
 shapesOf (entered d before ∷ es) = shapesOf es
 shapesOf (removed n before ∷ es) = shapesOf es
-shapesOf (refused n p chain ∷ es) = shapesOf es
+shapesOf (refused r chain ∷ es) = shapesOf es

@@ -7,7 +7,10 @@ use Prim.Native.Nat.{ℕ, zero, suc, _+_}
 use lib.Dec.{ltb, eqb}
 use lib.IntN.{ℤ, natAbs}
 use lib.ListN.{length}
-use Rattle.definition.specs.Words.{if_then_else_, Placed, at, any, none?}
+use Rattle.definition.specs.declared.Refusal.{Refusal}
+use Rattle.definition.specs.Limits.{mostDefinitions, deepest}
+use Rattle.definition.specs.Words.{if_then_else_, Placed, at, any}
+use Rattle.definition.specs.Rules.{Rule, tooManyDefinitions, offTheAxes, undefinedSymbol, beingDrawn, tooDeep, outOfRange, refuse}
 use Rattle.definition.specs.Commands.{Shape, Turn, Command, draw, layer, call, start, finish, delete, nothing}
 use Rattle.definition.specs.Standing.{Standing, after, scaledShape, scaledTurn}
 use Rattle.definition.specs.Faults.{beyond, both}
@@ -67,12 +70,12 @@ pub data Event : Type 0 where
   drew : Drawn → Event
   entered : Definition → (before : Table) → Event
   removed : (symbol : Placed ℕ) → (before : Table) → Event
-  refused : (number place : ℕ) → Chain → Event
+  refused : Refusal → Chain → Event
 
 unfoldable pub drawShape : Chain → List (Turn ℤ) → ℕ → List ℕ → Shape ℤ → Event  -- 01, refusal 16: a final point beyond 16,777,215
 drawShape chain net p l k =
     let m = moved net k in
-    if any beyond (both (m .points)) then refused 16 p chain
+    if any beyond (both (m .points)) then refused (refuse outOfRange p) chain
     else drew (record { place = p; chain = chain; net = net; layer-of = l; itself = m })
 
 -- 01: a body draws its calls, by the function given, and its shapes, in written order
@@ -85,31 +88,33 @@ unfoldable pub drawBody : (ℕ → ℕ → List (Turn ℤ) → List Event) → C
 drawBody drawCall chain net [] = []
 drawBody drawCall chain net (s ∷ ss) = drawStep drawCall chain net (s .place) (s .what) ++ drawBody drawCall chain net ss
 
--- 01, refusals 11 to 14: an R off the axes; an undefined symbol; a symbol already being drawn; depth 33, where no level is left
-unfoldable pub callFault : (left : ℕ) → Option Definition → Chain → (symbol : ℕ) → List (Turn ℤ) → Option ℕ
-callFault left found chain n ts =
-    if offAxes ts then some 11
-    else if none? found then some 12
-    else if any (λ c. eqb (c .what) n) chain then some 13
-    else if eqb left 0 then some 14 else none
+pub data Passage : Type 0 where  -- a call is barred by a rule, or it leads to a definition
+  barred : Rule → Passage
+  leads : Definition → Passage
 
--- the refusal, if there is one, or else what the definition leads to
-unfoldable pub unless : Option ℕ → ℕ → Chain → Option Definition → (Definition → List Event) → List Event
-unless (some number) p chain found go = refused number p chain ∷ []
-unless none p chain none go = []
-unless none p chain (some d) go = called p chain d ∷ go d
+-- 01, refusals 11 to 14: an R off the axes; an undefined symbol; a symbol already being drawn; depth 33, where no level is left
+unfoldable pub passageTo : Option Definition → (left : ℕ) → Chain → (symbol : ℕ) → Passage
+passageTo none left chain n = barred undefinedSymbol
+passageTo (some d) left chain n = if any (λ c. eqb (c .what) n) chain then barred beingDrawn else if eqb left 0 then barred tooDeep else leads d
+
+unfoldable pub passageOf : (left : ℕ) → Table → Chain → (symbol : ℕ) → List (Turn ℤ) → Passage
+passageOf left t chain n ts = if offAxes ts then barred offTheAxes else passageTo (find n t) left chain n
+
+unfoldable pub through : Passage → ℕ → Chain → (Definition → List Event) → List Event  -- the refusal, or else what the definition leads to
+through (barred r) p chain go = refused (refuse r p) chain ∷ []
+through (leads d) p chain go = called p chain d ∷ go d
 
 -- 01: and a call draws its body. An executable call has depth 1 and 32 levels left; the inner call's list acts before the outer's
 unfoldable pub drawCall : (left : ℕ) → Table → Chain → List (Turn ℤ) → ℕ → ℕ → List (Turn ℤ) → List Event
-drawCall zero t chain net p n ts = unless (callFault 0 (find n t) chain n ts) p chain (find n t) (λ d. [])
+drawCall zero t chain net p n ts = through (passageOf 0 t chain n ts) p chain (λ d. [])
 drawCall (suc left) t chain net p n ts =
     let deeper : Chain = chain ++ (at p n ∷ []) in
-    unless (callFault (suc left) (find n t) chain n ts) p chain (find n t)
+    through (passageOf (suc left) t chain n ts) p chain
     (λ d. drawBody (drawCall left t deeper (ts ++ net)) deeper (ts ++ net) (d .body))
 
 unfoldable pub happens : Table → Deed → List Event  -- 7.1.2.4: what happens at a deed. 01, refusal 10: 513 live definitions
-happens t (output s) = drawStep (drawCall 32 t [] []) [] [] (s .place) (s .what)
-happens t (define d) = (if ltb 512 (length (enter d t)) then refused 10 (d .place) [] else entered d t) ∷ []
+happens t (output s) = drawStep (drawCall deepest t [] []) [] [] (s .place) (s .what)
+happens t (define d) = (if ltb mostDefinitions (length (enter d t)) then refused (refuse tooManyDefinitions (d .place)) [] else entered d t) ∷ []
 happens t (remove n) = removed n t ∷ []
 
 unfoldable pub tableAfter : Table → Deed → Table

@@ -1,5 +1,6 @@
 pub mod Limits
 pub mod Words
+pub mod Rules
 pub mod Commands
 pub mod Standing
 pub mod Faults

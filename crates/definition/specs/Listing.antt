@@ -6,6 +6,7 @@ use lib.IntN.{ℤ, pos}
 use lib.ListN.{length}
 use lib.Signed.{leZ}
 use Rattle.definition.specs.Words.{if_then_else_, Point, bytesOf}
+use Rattle.definition.specs.Rules.{textTooLong, refuse}
 use Rattle.definition.specs.Drawing.{Drawn}
 use Rattle.definition.specs.Counts.{shapesOf}
 use Rattle.definition.specs.Flat.{decimal, spaced, letterOf, numbersOfShape}
@@ -35,12 +36,12 @@ windowLine (p ∷ ps) =
     bytesOf "window" ++ fields (decimal (lowest (p .x) xs) ∷ decimal (lowest (p .y) ys) ∷ decimal (highest (p .x) xs) ∷ decimal (highest (p .y) ys) ∷ [])
 
 unfoldable pub listing : Outcome → List ℕ
-listing (accepted c es) =
+listing (accepted cs c es) =
     shapeLines 1 (shapesOf es)
     ++ (bytesOf "total" ++ (fields (decimal (pos (c .shapes)) ∷ decimal (pos (c .calls)) ∷ decimal (pos (c .redefinitions)) ∷ [])
     ++ windowLine (flatMap (λ d. d .itself .points) (shapesOf es))))
-listing (rejected n p chain) = bytesOf "refused" ++ fields (decimal (pos n) ∷ decimal (pos p) ∷ [])
+listing (rejected r chain) = bytesOf "refused" ++ fields (decimal (pos (r .number)) ∷ decimal (pos (r .place)) ∷ [])
 
 pub data Lists (t : List ℕ) : List ℕ → Type 0 where  -- it takes at most 32,768 bytes, a longer text is refusal 1, and its room is 32,768 bytes
-  over : 32768 < length t → Lists t (listing (rejected 1 0 []))
+  over : 32768 < length t → Lists t (listing (rejected (refuse textTooLong 0) []))
   within : {o : Outcome} → length t ≤ 32768 → Answers t 32768 o → Lists t (listing o)

@@ -11,12 +11,15 @@ use lib.Dec.{ltb, eqb}
 use lib.IntN.{ℤ, pos, negℤ, natAbs}
 use lib.ListN.{length, getD, drop, length-map, List·getD-map}
 use Rattle.grammar.specs.Notation.{Letter, head, second, turn, axis, sign, lead, stop, 'B', 'C', 'D', 'L', 'P', 'R', 'S', 'T', 'W', 'X'}
+use Rattle.definition.specs.declared.Refusal.{Refusal}
+use Rattle.definition.specs.Limits.{mostPoints, mostTurns}
+use Rattle.definition.specs.Rules.{Rule, numberTooLarge, zeroFactor, notWhole, scaledTooLarge, degenerateCommand, noLayer, tooManyParts, refuse}
 use Rattle.definition.specs.Words.{if_then_else_, Placed, at, Point, point, those, any, first}
 use Rattle.definition.specs.Commands.{Number, box, flash, wire, polygon, Shape, shapeOf, Turn, translate, mirrorX, mirrorY, rotate}
 use Rattle.definition.specs.Commands.{Command, draw, layer, call, start, finish, delete, nothing, _plays_, _is_}
 use Rattle.definition.specs.Commands.{worth, numbers, nth, paired, next, turnAt, turns, commandAt, commands}
 use Rattle.definition.specs.Standing.{Standing, after, given, scaled, whole, scaledPoint, scaledShape, scaledTurn, outside}
-use Rattle.definition.specs.Faults.{Parts, parts, partsOf, shifts, bearings, both, distances, numbersOf, zeroScale, degenerate, layerless, tooMany, Refusal, atNumbers, atCommand, faults, allFaults, zero?, beyond, nowhere, emptyShape, firstFault}
+use Rattle.definition.specs.Faults.{Parts, parts, partsOf, shifts, bearings, both, distances, numbersOf, zeroScale, degenerate, layerless, tooMany, atNumbers, atCommand, faults, allFaults, zero?, beyond, nowhere, emptyShape, firstFault}
 use Rattle.definition.specs.Table.{shape, instance}
 use Rattle.definition.specs.Drawing.{stepOf}
 use Rattle.laws.proofs.Lists.Joined.{standing}
@@ -213,8 +216,11 @@ both-shift k ps = record { maps = go ps }
     go [] = refl
     go (p ∷ ps) = ap (λ (x : List Number). shift k (p .x) ∷ shift k (p .y) ∷ x) (go ps)
 
+abbrev pub shiftRefusal : ℕ → Refusal → Refusal
+shiftRefusal k r = record { number = r .number; place = k + r .place }
+
 -- a test of numbers finds the same ones
-atNumbers-shift : (n k : ℕ) (fails : ℤ → Bool) (ds : List Number) → atNumbers n fails (map (shift k) ds) ≡ map (shift k) (atNumbers n fails ds)
+atNumbers-shift : (n : Rule) (k : ℕ) (fails : ℤ → Bool) (ds : List Number) → atNumbers n fails (map (shift k) ds) ≡ map (shiftRefusal k) (atNumbers n fails ds)
 unfolding atNumbers those
 atNumbers-shift n k fails [] = refl
 atNumbers-shift n k fails (d ∷ ds) = go (fails (d .what)) (atNumbers-shift n k fails ds)
@@ -222,13 +228,13 @@ atNumbers-shift n k fails (d ∷ ds) = go (fails (d .what)) (atNumbers-shift n k
     found : List Number → List Number
     found l = those (λ d. fails (d .what)) l
 
-    go : (b : Bool) → map (λ (d : Number). at (d .place) n) (found (map (shift k) ds)) ≡ map (shift k) (map (λ (d : Number). at (d .place) n) (found ds))
-        → map (λ (d : Number). at (d .place) n) (if b then shift k d ∷ found (map (shift k) ds) else found (map (shift k) ds))
-        ≡ map (shift k) (map (λ (d : Number). at (d .place) n) (if b then d ∷ found ds else found ds))
-    go true h = ap (λ (x : List Refusal). at (k + d .place) n ∷ x) h
+    go : (b : Bool) → map (λ (d : Number). refuse n (d .place)) (found (map (shift k) ds)) ≡ map (shiftRefusal k) (map (λ (d : Number). refuse n (d .place)) (found ds))
+        → map (λ (d : Number). refuse n (d .place)) (if b then shift k d ∷ found (map (shift k) ds) else found (map (shift k) ds))
+        ≡ map (shiftRefusal k) (map (λ (d : Number). refuse n (d .place)) (if b then d ∷ found ds else found ds))
+    go true h = ap (λ (x : List Refusal). refuse n (k + d .place) ∷ x) h
     go false h = h
 
-atCommand-shift : (n k : ℕ) (b : Bool) (p : ℕ) → atCommand n b (k + p) ≡ map (shift k) (atCommand n b p)
+atCommand-shift : (n : Rule) (k : ℕ) (b : Bool) (p : ℕ) → atCommand n b (k + p) ≡ map (shiftRefusal k) (atCommand n b p)
 atCommand-shift n k true p = refl
 atCommand-shift n k false p = refl
 
@@ -319,38 +325,38 @@ module _ (k : ℕ) (s : Standing) (c : Command) where
   tooMany-shift =
       rw (partsOf-shift k c)
       (ap₂ {C = Bool} (λ (x y : Bool). x || y)
-      (any-map (λ (w : Shape Number). ltb 1024 (length (w .points))) (shiftShape k) (λ w. ap (ltb 1024) (length-map (w .points) (shiftPoint k))) (partsOf c .shapes))
-      (ap (ltb 32) (length-map (partsOf c .turns) (shiftTurn k))))
+      (any-map (λ (w : Shape Number). ltb mostPoints (length (w .points))) (shiftShape k) (λ w. ap (ltb mostPoints) (length-map (w .points) (shiftPoint k))) (partsOf c .shapes))
+      (ap (ltb mostTurns) (length-map (partsOf c .turns) (shiftTurn k))))
 
-pub faults-shift : (k : ℕ) (s : Standing) (c : Placed Command) → faults s (shifted k c) ≡ map (shift k) (faults s c)
+pub faults-shift : (k : ℕ) (s : Standing) (c : Placed Command) → faults s (shifted k c) ≡ map (shiftRefusal k) (faults s c)
 unfolding faults
 faults-shift k s c =
     let w = c .what in
-    and-then (number 3 beyond (numbersOf w) _ (numbersOf-shift k w))
-    (and-then (command 4 (zeroScale w) _ (zeroScale-shift k s w))
-    (and-then (number 5 (λ d. not (whole s d)) (distances w) _ (distances-shift k w))
-    (and-then (number 6 (λ d. beyond (scaled s d)) (distances w) _ (distances-shift k w))
-    (and-then (command 7 (degenerate s w) _ (degenerate-shift k s w))
-    (and-then (command 8 (layerless s w) _ (layerless-shift k s w)) (command 9 (tooMany w) _ (tooMany-shift k s w))))))) .maps
+    and-then (number numberTooLarge beyond (numbersOf w) _ (numbersOf-shift k w))
+    (and-then (command zeroFactor (zeroScale w) _ (zeroScale-shift k s w))
+    (and-then (number notWhole (λ d. not (whole s d)) (distances w) _ (distances-shift k w))
+    (and-then (number scaledTooLarge (λ d. beyond (scaled s d)) (distances w) _ (distances-shift k w))
+    (and-then (command degenerateCommand (degenerate s w) _ (degenerate-shift k s w))
+    (and-then (command noLayer (layerless s w) _ (layerless-shift k s w)) (command tooManyParts (tooMany w) _ (tooMany-shift k s w))))))) .maps
   where
-    number : (n : ℕ) (fails : ℤ → Bool) (ds ds′ : List Number) → ds′ ≡ map (shift k) ds → Maps (shift k) (atNumbers n fails ds) (atNumbers n fails ds′)
+    number : (n : Rule) (fails : ℤ → Bool) (ds ds′ : List Number) → ds′ ≡ map (shift k) ds → Maps (shiftRefusal k) (atNumbers n fails ds) (atNumbers n fails ds′)
     number n fails ds ds′ e = record { maps = ap (atNumbers n fails) e ∙ atNumbers-shift n k fails ds }
 
-    command : (n : ℕ) (b b′ : Bool) → b′ ≡ b → Maps (shift k) (atCommand n b (c .place)) (atCommand n b′ (k + c .place))
+    command : (n : Rule) (b b′ : Bool) → b′ ≡ b → Maps (shiftRefusal k) (atCommand n b (c .place)) (atCommand n b′ (k + c .place))
     command n b b′ e = record { maps = ap (λ (x : Bool). atCommand n x (k + c .place)) e ∙ atCommand-shift n k b (c .place) }
 
-pub allFaults-shift : (k : ℕ) (s : Standing) (cs : List (Placed Command)) → allFaults s (map (shifted k) cs) ≡ map (shift k) (allFaults s cs)
+pub allFaults-shift : (k : ℕ) (s : Standing) (cs : List (Placed Command)) → allFaults s (map (shifted k) cs) ≡ map (shiftRefusal k) (allFaults s cs)
 unfolding allFaults
 allFaults-shift k s [] = refl
 allFaults-shift k s (c ∷ cs) =
     ap₂ {C = List Refusal} (λ (x y : List Refusal). x ++ y) (faults-shift k s c)
     (ap (λ (x : Standing). allFaults x (map (shifted k) cs)) (after-shift k (c .what) s) ∙ allFaults-shift k (after (c .what) s) cs)
-    ∙ sym (map-append (shift k) (faults s c) (allFaults (after (c .what) s) cs))
+    ∙ sym (map-append (shiftRefusal k) (faults s c) (allFaults (after (c .what) s) cs))
 
-pub firstFault-shift : (k : ℕ) (cs : List (Placed Command)) → firstFault (map (shifted k) cs) ≡ Option·map (shift k) (firstFault cs)
+pub firstFault-shift : (k : ℕ) (cs : List (Placed Command)) → firstFault (map (shifted k) cs) ≡ Option·map (shiftRefusal k) (firstFault cs)
 unfolding firstFault
 firstFault-shift k cs = ap first (allFaults-shift k (outside []) cs) ∙ go (allFaults (outside []) cs)
   where
-    go : (rs : List Refusal) → first (map (shift k) rs) ≡ Option·map (shift k) (first rs)
+    go : (rs : List Refusal) → first (map (shiftRefusal k) rs) ≡ Option·map (shiftRefusal k) (first rs)
     go [] = unfold first in refl
     go (r ∷ rs) = unfold first in refl

@@ -2,13 +2,16 @@
 -- further on, where f adds k, draws the same shapes, and its flat file is the same.
 -- Assumes nothing.
 use mathlib.Core.Path.{_≡_, refl, sym, ap, ap₂, _∙_}
-use mathlib.Core.Bool.{Bool}
+use mathlib.Core.Bool.{Bool, true, false}
 use mathlib.Core.List.{List, [], _∷_, _++_, map, map-map, map-append}
 use mathlib.Core.Option.{Option, none, some, Option·map}
 use Prim.Native.Nat.{ℕ, zero, suc, _+_}
 use lib.Dec.{ltb, eqb}
 use lib.IntN.{ℤ, natAbs}
 use lib.ListN.{length, length-map}
+use Rattle.definition.specs.declared.Refusal.{Refusal}
+use Rattle.definition.specs.Limits.{mostDefinitions, deepest, mostCalls, mostShapes}
+use Rattle.definition.specs.Rules.{tooManyDefinitions, offTheAxes, beingDrawn, tooDeep, refuse}
 use Rattle.definition.specs.Words.{if_then_else_, Placed, at, any, none?, those}
 use Rattle.definition.specs.Commands.{Shape, Turn, Command, draw, layer, call, start, finish, delete, nothing}
 use Rattle.definition.specs.Standing.{Standing, after}
@@ -16,7 +19,7 @@ use Rattle.definition.specs.Faults.{beyond, both}
 use Rattle.definition.specs.Turns.{moved, offAxes}
 use Rattle.definition.specs.Table.{Step, shape, instance, setting, Definition, Table, find, enter, forget}
 use Rattle.definition.specs.Drawing.{stepOf, retained, Deed, output, define, remove, deedOf, deeds, Chain, Drawn, Event, called, drew, entered, removed, refused}
-use Rattle.definition.specs.Drawing.{drawShape, drawStep, drawBody, callFault, unless, drawCall, happens, tableAfter, story}
+use Rattle.definition.specs.Drawing.{drawShape, drawStep, drawBody, Passage, barred, leads, passageTo, passageOf, through, drawCall, happens, tableAfter, story}
 use Rattle.definition.specs.Counts.{Counts, End, finished, stopped, counted, goOn, ending, shapesOf}
 use Rattle.definition.specs.Flat.{said, lines}
 use Rattle.laws.proofs.Lists.Joined.{tableThen}
@@ -37,12 +40,15 @@ module _ (f : ℕ → ℕ) where
   abbrev pub relocateDrawn : Drawn → Drawn
   relocateDrawn d = record { place = f (d .place); chain = map relocate (d .chain); net = d .net; layer-of = d .layer-of; itself = d .itself }
 
+  abbrev pub relocateRefusal : Refusal → Refusal
+  relocateRefusal r = record { number = r .number; place = f (r .place) }
+
   unfoldable pub relocateEvent : Event → Event
   relocateEvent (called p chain d) = called (f p) (map relocate chain) (relocateDefinition d)
   relocateEvent (drew d) = drew (relocateDrawn d)
   relocateEvent (entered d before) = entered (relocateDefinition d) (map relocateDefinition before)
   relocateEvent (removed n before) = removed (relocate n) (map relocateDefinition before)
-  relocateEvent (refused n p chain) = refused n (f p) (map relocate chain)
+  relocateEvent (refused r chain) = refused (relocateRefusal r) (map relocate chain)
 
   -- ---- the table
 
@@ -99,28 +105,45 @@ module _ (f : ℕ → ℕ) where
   none-relocated none = refl
   none-relocated (some d) = refl
 
-  fault-relocated : (left : ℕ) (found : Option Definition) (chain : Chain) (n : ℕ) (ts : List (Turn ℤ))
-      → callFault left (Option·map relocateDefinition found) (map relocate chain) n ts ≡ callFault left found chain n ts
-  unfolding callFault
-  fault-relocated left found chain n ts =
-      ap₂ {C = Option ℕ} (λ (x y : Bool). if offAxes ts then some 11 else if x then some 12 else if y then some 13 else if eqb left 0 then some 14 else none)
-      (none-relocated found) (any-map (λ (c : Placed ℕ). eqb (c .what) n) relocate (λ c. refl) chain)
+  abbrev relocatePassage : Passage → Passage
+  relocatePassage (barred r) = barred r
+  relocatePassage (leads d) = leads (relocateDefinition d)
 
-  unless-relocated : (o : Option ℕ) (p : ℕ) (chain : Chain) (found : Option Definition) (g h : Definition → List Event)
+  passage-relocated : (left : ℕ) (t : Table) (chain : Chain) (n : ℕ) (ts : List (Turn ℤ))
+      → passageOf left (map relocateDefinition t) (map relocate chain) n ts ≡ relocatePassage (passageOf left t chain n ts)
+  unfolding passageOf passageTo
+  passage-relocated left t chain n ts = rw (find-relocated n t) (go (offAxes ts) (find n t))
+    where
+      chosen-so : (x y : Bool) (d : Definition)
+          → (if x then barred beingDrawn else if y then barred tooDeep else leads (relocateDefinition d))
+          ≡ relocatePassage (if x then barred beingDrawn else if y then barred tooDeep else leads d)
+      chosen-so true y d = refl
+      chosen-so false true d = refl
+      chosen-so false false d = refl
+
+      go : (a : Bool) (found : Option Definition)
+          → (if a then barred offTheAxes else passageTo (Option·map relocateDefinition found) left (map relocate chain) n)
+          ≡ relocatePassage (if a then barred offTheAxes else passageTo found left chain n)
+      go true found = refl
+      go false none = refl
+      go false (some d) =
+          ap (λ (x : Bool). if x then barred beingDrawn else if eqb left 0 then barred tooDeep else leads (relocateDefinition d))
+          (any-map (λ (c : Placed ℕ). eqb (c .what) n) relocate (λ c. refl) chain)
+          ∙ chosen-so (any (λ c. eqb (c .what) n) chain) (eqb left 0) d
+
+  through-relocated : (o : Passage) (p : ℕ) (chain : Chain) (g h : Definition → List Event)
       → ((d : Definition) → h (relocateDefinition d) ≡ map relocateEvent (g d))
-      → unless o (f p) (map relocate chain) (Option·map relocateDefinition found) h ≡ map relocateEvent (unless o p chain found g)
-  unfolding unless relocateEvent
-  unless-relocated (some number) p chain found g h e = refl
-  unless-relocated none p chain none g h e = refl
-  unless-relocated none p chain (some d) g h e = ap (λ (x : List Event). called (f p) (map relocate chain) (relocateDefinition d) ∷ x) (e d)
+      → through (relocatePassage o) (f p) (map relocate chain) h ≡ map relocateEvent (through o p chain g)
+  unfolding through relocateEvent
+  through-relocated (barred r) p chain g h e = refl
+  through-relocated (leads d) p chain g h e = ap (λ (x : List Event). called (f p) (map relocate chain) (relocateDefinition d) ∷ x) (e d)
 
   module _ (t : Table) where
     -- what a call leads to, by what its body leads to
     call-by : (left p n : ℕ) (chain : Chain) (ts : List (Turn ℤ)) (g h : Definition → List Event) → ((d : Definition) → h (relocateDefinition d) ≡ map relocateEvent (g d))
-        → unless (callFault left (find n (map relocateDefinition t)) (map relocate chain) n ts) (f p) (map relocate chain) (find n (map relocateDefinition t)) h
-        ≡ map relocateEvent (unless (callFault left (find n t) chain n ts) p chain (find n t) g)
-    call-by left p n chain ts g h e =
-        rw (find-relocated n t, fault-relocated left (find n t) chain n ts) (unless-relocated (callFault left (find n t) chain n ts) p chain (find n t) g h e)
+        → through (passageOf left (map relocateDefinition t) (map relocate chain) n ts) (f p) (map relocate chain) h
+        ≡ map relocateEvent (through (passageOf left t chain n ts) p chain g)
+    call-by left p n chain ts g h e = rw (passage-relocated left t chain n ts) (through-relocated (passageOf left t chain n ts) p chain g h e)
 
     call-relocated : (left : ℕ) (chain : Chain) (net : List (Turn ℤ)) → Alike (drawCall left t chain net) (drawCall left (map relocateDefinition t) (map relocate chain) net)
     unfolding drawCall
@@ -138,12 +161,12 @@ module _ (f : ℕ → ℕ) where
     pub happens-relocated : (d : Deed) → happens (map relocateDefinition t) (relocateDeed d) ≡ map relocateEvent (happens t d)
     unfolding happens relocateDeed relocateEvent
     happens-relocated (output s) =
-        step-relocated (drawCall 32 t [] []) (drawCall 32 (map relocateDefinition t) [] []) (call-relocated 32 [] []) [] [] (s .place) (s .what)
+        step-relocated (drawCall deepest t [] []) (drawCall deepest (map relocateDefinition t) [] []) (call-relocated deepest [] []) [] [] (s .place) (s .what)
     happens-relocated (define d) =
         ap (λ (e : Event). e ∷ [])
-        (ap (λ (n : ℕ). if ltb 512 n then refused 10 (f (d .place)) [] else entered (relocateDefinition d) (map relocateDefinition t))
+        (ap (λ (n : ℕ). if ltb mostDefinitions n then refused (refuse tooManyDefinitions (f (d .place))) [] else entered (relocateDefinition d) (map relocateDefinition t))
         (ap length (enter-relocated d t) ∙ length-map (enter d t) relocateDefinition)
-        ∙ chosen relocateEvent (ltb 512 (length (enter d t))) refl refl)
+        ∙ chosen relocateEvent (ltb mostDefinitions (length (enter d t))) refl refl)
     happens-relocated (remove n) = refl
 
   pub story-relocated : (t : Table) (ds : List Deed) → story (map relocateDefinition t) (map relocateDeed ds) ≡ map relocateEvent (story t ds)
@@ -163,22 +186,22 @@ module _ (f : ℕ → ℕ) where
 
   unfoldable pub relocateEnd : End → End
   relocateEnd (finished c) = finished c
-  relocateEnd (stopped n p chain) = stopped n (f p) (map relocate chain)
+  relocateEnd (stopped r chain) = stopped (relocateRefusal r) (map relocate chain)
 
   counted-relocated : (c : Counts) (e : Event) → counted c (relocateEvent e) ≡ relocateEnd (counted c e)
   unfolding counted relocateEvent relocateEnd
-  counted-relocated c (called p chain d) = chosen relocateEnd (ltb (c .calls) 1048576) refl refl
-  counted-relocated c (drew d) = chosen relocateEnd (ltb (c .shapes) 1048576) refl refl
+  counted-relocated c (called p chain d) = chosen relocateEnd (ltb (c .calls) mostCalls) refl refl
+  counted-relocated c (drew d) = chosen relocateEnd (ltb (c .shapes) mostShapes) refl refl
   counted-relocated c (entered d before) =
       ap (λ (b : Bool). finished (record { calls = c .calls; shapes = c .shapes; redefinitions = if b then c .redefinitions else c .redefinitions + 1 }))
       (ap (λ (o : Option Definition). none? o) (find-relocated (d .symbol) before) ∙ none-relocated (find (d .symbol) before))
   counted-relocated c (removed n before) = refl
-  counted-relocated c (refused n p chain) = refl
+  counted-relocated c (refused r chain) = refl
 
   goOn-relocated : (e : End) (g h : Counts → End) → ((c : Counts) → h c ≡ relocateEnd (g c)) → goOn (relocateEnd e) h ≡ relocateEnd (goOn e g)
   unfolding goOn relocateEnd
   goOn-relocated (finished c) g h k = k c
-  goOn-relocated (stopped n p chain) g h k = refl
+  goOn-relocated (stopped r chain) g h k = refl
 
   pub ending-relocated : (c : Counts) (es : List Event) → ending c (map relocateEvent es) ≡ relocateEnd (ending c es)
   unfolding ending
@@ -194,7 +217,7 @@ module _ (f : ℕ → ℕ) where
   shapes-relocated (called p chain d ∷ es) = shapes-relocated es
   shapes-relocated (entered d before ∷ es) = shapes-relocated es
   shapes-relocated (removed n before ∷ es) = shapes-relocated es
-  shapes-relocated (refused n p chain ∷ es) = shapes-relocated es
+  shapes-relocated (refused r chain ∷ es) = shapes-relocated es
 
   pub lines-relocated : (before : List ℕ) (ds : List Drawn) → lines before (map relocateDrawn ds) ≡ lines before ds
   unfolding lines said

@@ -20,14 +20,15 @@ use Rattle.grammar.proofs.Tests.{or-cases}
 use Rattle.definition.specs.Words.{Placed, at, any, those}
 use Rattle.definition.specs.Commands.{Command, nothing, _is_, commandAt, commands}
 use Rattle.definition.specs.Standing.{Standing, outside, after}
-use Rattle.definition.specs.Faults.{Refusal, partsOf, distances, numbersOf, atNumbers, zeroScale, degenerate, layerless, tooMany, faults, allFaults}
+use Rattle.definition.specs.declared.Refusal.{Refusal}
+use Rattle.definition.specs.Faults.{partsOf, distances, numbersOf, atNumbers, zeroScale, degenerate, layerless, tooMany, faults, allFaults}
 use Rattle.definition.specs.Drawing.{Deed, deedOf, deeds, Event, story}
 use Rattle.definition.specs.Answer.{drawingOf}
 use Rattle.laws.proofs.Lists.Range.{All}
 use Rattle.laws.proofs.FlatFile.Again.{bytes-++}
 use Rattle.laws.proofs.Lists.Joined.{standing, tableThen, standing-outside, allFaults-++, deeds-++, story-++, commands-++}
 use Rattle.laws.proofs.Commands.Ordered.{Quiet, everywhere, match-all, role-of, byte-of, true-of, all-quiet, itemOf, other, two-bits, insideThen, opens, Ordered, ordered, ordered-behind, standing-inside, quiet-not, quiet-commands, head-commands}
-use Rattle.joining.proofs.Places.{shift, shifted, commands-shift, allFaults-shift}
+use Rattle.joining.proofs.Places.{shiftRefusal, shifted, commands-shift, allFaults-shift}
 use Rattle.joining.proofs.Relocated.{relocateDeed, deeds-shift}
 
 -- commands with their semicolons
@@ -279,7 +280,7 @@ module _ {t : List ℕ} (u : List Letter) (l : Letter) (w : List Letter) (k : Ma
         (ap (λ (p : ℕ). commands p m) (omega arith) ∙ commands-shift (length u) 0 m)
 
     pub faults-joined : (o : List ℕ) → allFaults (outside o) (commands 0 (u ++ m))
-        ≡ allFaults (outside o) (commands 0 u) ++ map (shift (length u)) (allFaults (outside (layer-then o)) (commands 0 m))
+        ≡ allFaults (outside o) (commands 0 u) ++ map (shiftRefusal (length u)) (allFaults (outside (layer-then o)) (commands 0 m))
     faults-joined o =
         ap (allFaults (outside o)) commands-joined
         ∙ (allFaults-++ (outside o) (commands 0 u) (map (shifted (length u)) (commands 0 m))

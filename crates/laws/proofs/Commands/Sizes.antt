@@ -6,12 +6,14 @@ use mathlib.Core.List.{List, [], _∷_, _++_, map, flatMap, nil≢cons}
 use mathlib.Core.Option.{Option, none, some}
 use Prim.Native.Nat.{ℕ, zero, suc}
 use lib.IntN.{ℤ, pos, negsuc, negℤ, natAbs}
+use Rattle.definition.specs.declared.Refusal.{Refusal}
+use Rattle.definition.specs.Rules.{Rule, numberTooLarge, zeroFactor, notWhole, scaledTooLarge}
 use Rattle.definition.specs.Words.{if_then_else_, at, Point, those, first}
 use Rattle.definition.specs.Commands.{Shape, Turn, Number, translate, mirrorX, mirrorY, rotate}
 use Rattle.definition.specs.Commands.{Command, draw, layer, call, start, finish, delete, nothing}
 use Rattle.definition.specs.Standing.{Standing, scaled, whole, given, scaledShape}
-use Rattle.definition.specs.Faults.{Refusal, beyond, both, partsOf, distances, numbersOf, atNumbers, atCommand, zeroScale, faults}
-use Rattle.definition.specs.Turns.{Heading, +x, +y, -x, -y, askew, heading, rotated, act, aim, inOrder, moved}
+use Rattle.definition.specs.Faults.{beyond, both, partsOf, distances, numbersOf, atNumbers, atCommand, zeroScale, faults}
+use Rattle.definition.specs.Turns.{Heading, +x, +y, -x, -y, heading, rotated, act, aim, inOrder, moved}
 use Rattle.definition.specs.Table.{Step, shape, instance, setting}
 use Rattle.definition.specs.Drawing.{stepOf}
 use Rattle.laws.proofs.Lists.Range.{All}
@@ -73,9 +75,9 @@ FitStep (setting l) = Unit {0}
 
 -- ---- commands without a fault
 
-pub at-numbers : (n : ℕ) (t : ℤ → Bool) (ds : List Number) → atNumbers n t ds ≡ [] → All (λ d. t (d .what) ≡ false) ds
+pub at-numbers : (r : Rule) (t : ℤ → Bool) (ds : List Number) → atNumbers r t ds ≡ [] → All (λ d. t (d .what) ≡ false) ds
 unfolding atNumbers
-at-numbers n t ds e = none-pass (λ d. t (d .what)) ds (nil-map _ _ e)
+at-numbers r t ds e = none-pass (λ d. t (d .what)) ds (nil-map _ _ e)
 
 points-of : (ds : List (Point Number)) → All (λ d. beyond (d .what) ≡ false) (both ds) → All (λ p. Fits₂ (given p)) ds
 unfolding All
@@ -87,11 +89,11 @@ unfolding faults stepOf All FitStep scaledShape distances numbersOf partsOf flat
 fit-step s p (draw k) e =
     let n = numbersOf (draw k) in
     let d = distances (draw k) in
-    let e₁ = nil-right (atNumbers 3 beyond n) _ e in
-    let e₂ = nil-right (atCommand 4 (zeroScale (draw k)) p) _ e₁ in
-    let e₃ = nil-right (atNumbers 5 (λ z. not (whole s z)) d) _ e₂ in
-    let six = at-numbers 6 (λ z. beyond (scaled s z)) d (nil-left (atNumbers 6 (λ z. beyond (scaled s z)) d) _ e₃) in
-    let three = at-numbers 3 beyond n (nil-left (atNumbers 3 beyond n) _ e) in
+    let e₁ = nil-right (atNumbers numberTooLarge beyond n) _ e in
+    let e₂ = nil-right (atCommand zeroFactor (zeroScale (draw k)) p) _ e₁ in
+    let e₃ = nil-right (atNumbers notWhole (λ z. not (whole s z)) d) _ e₂ in
+    let six = at-numbers scaledTooLarge (λ z. beyond (scaled s z)) d (nil-left (atNumbers scaledTooLarge (λ z. beyond (scaled s z)) d) _ e₃) in
+    let three = at-numbers numberTooLarge beyond n (nil-left (atNumbers numberTooLarge beyond n) _ e) in
     let sb = k .sizes ++ both (k .points) in
     let sbd = k .sizes ++ (both (k .points) ++ both (k .directions)) in (
       (
@@ -120,13 +122,13 @@ fit-neg : (z : ℤ) → Fits z → Fits (negℤ z)
 unfolding beyond
 fit-neg z h = rw (abs-neg z) h
 
-fit-rotated : (h : Heading) (p : Point ℤ) → Fits₂ p → Fits₂ (rotated h p)
+fit-rotated : (h : Option Heading) (p : Point ℤ) → Fits₂ p → Fits₂ (rotated h p)
 unfolding rotated
-fit-rotated +x p x = x
-fit-rotated +y p x = (fit-neg (p .y) (x .1), x .0)
-fit-rotated -x p x = (fit-neg (p .x) (x .0), fit-neg (p .y) (x .1))
-fit-rotated -y p x = (x .1, fit-neg (p .x) (x .0))
-fit-rotated askew p x = x
+fit-rotated (some +x) p x = x
+fit-rotated (some +y) p x = (fit-neg (p .y) (x .1), x .0)
+fit-rotated (some -x) p x = (fit-neg (p .x) (x .0), fit-neg (p .y) (x .1))
+fit-rotated (some -y) p x = (x .1, fit-neg (p .x) (x .0))
+fit-rotated none p x = x
 
 fit-aim : (t : Turn ℤ) (p : Point ℤ) → Fits₂ p → Fits₂ (aim t p)
 unfolding aim act

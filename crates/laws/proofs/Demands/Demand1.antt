@@ -10,6 +10,8 @@ use Rattle.grammar.specs.Notation.{Letter}
 use Rattle.grammar.specs.Viable.{Marked}
 use Rattle.grammar.proofs.Verdicts.{Bytes}
 use Rattle.definition.specs.Words.{Placed}
+use Rattle.definition.specs.declared.Refusal.{Refusal}
+use Rattle.definition.specs.Rules.{Rule, textTooLong, notInGrammar, flatFileTooLong, refuse}
 use Rattle.definition.specs.Commands.{Command, commands}
 use Rattle.definition.specs.Drawing.{Chain, Event}
 use Rattle.definition.specs.Counts.{Counts, shapesOf, stopped}
@@ -20,8 +22,9 @@ use Rattle.definition.specs.Computed.{answerOf}
 use Rattle.laws.proofs.Lists.Range.{All}
 use Rattle.definition.proofs.Right.{right}
 use Rattle.laws.proofs.Story.EventPlaces.{Refuses, stopped-at}
-use Rattle.laws.proofs.Rules.FaultRules.{Written, all-so, commands-written, rule-number, break-place}
-use Rattle.laws.proofs.Rules.Outcomes.{Way, by-length, by-grammar, by-rule, by-drawing, by-flat-file, endOf, refusal, acceptance}
+use Rattle.laws.proofs.Rules.FaultRules.{Written, all-so, commands-written, break-place}
+use Rattle.laws.proofs.Rules.Outcomes.{Way, by-length, by-grammar, by-command, by-drawing, by-flat-file, endOf, refusal-rule, acceptance}
+use Rattle.laws.proofs.Rules.Order.{number-from-1}
 
 -- every text of bytes comes out in some way, whatever the room's length; so a promise can be kept for it
 pub some-outcome : (t : List ℕ) (room : ℕ) → Bytes t → (outcome : Outcome) × Answers t room outcome
@@ -34,53 +37,67 @@ some-answer t room b =
 
 -- ---- where a refusal stands
 
--- 01: numbers 1 to 18; places count bytes of the text from 0, and only 2 may stand at its end
-pub record Located (t : List ℕ) (n p : ℕ) (chain : Chain) : Type 0 where
-  pub first-number : 1 ≤ n
-  pub last-number : n ≤ 18
-  pub reached : p ≤ length t
-  pub inside : (n ≡ 1 → ⊥) → (n ≡ 2 → ⊥) → (n ≡ 18 → ⊥) → p < length t
+-- 01: every refusal is by a rule; places count bytes of the text from 0, and only one by the grammar may stand at its end
+pub record Located (t : List ℕ) (r : Refusal) (chain : Chain) : Type 0 where
+  pub rule : Rule
+  pub is : r ≡ refuse rule (r .place)
+  pub first-number : 1 ≤ r .number
+  pub reached : r .place ≤ length t
+  pub inside : (rule ≡ textTooLong → ⊥) → (rule ≡ notInGrammar → ⊥) → (rule ≡ flatFileTooLong → ⊥) → r .place < length t
   pub calls-inside : All (λ (c : Placed ℕ). c .place < length t) chain
 
--- a drawing is stopped by a number of 10 to 17, at a place in the text, under calls in the text
-pub stopped-within : {t : List ℕ} {m : List Letter} → Marked t m → {n p : ℕ} {chain : Chain} → endOf m ≡ stopped n p chain → Refuses (λ (q : ℕ). q < length t) n p chain
+-- a drawing is stopped by a rule of 10 to 17, at a place in the text, under calls in the text
+pub stopped-within : {t : List ℕ} {m : List Letter} → Marked t m → {r : Refusal} {chain : Chain} → endOf m ≡ stopped r chain → Refuses (λ (q : ℕ). q < length t) r chain
 stopped-within {t} {m} k e =
     stopped-at (λ (q : ℕ). q < length t) (commands 0 m)
     (all-so (Written (length t)) (λ (c : Placed Command). c .place < length t) (λ c w. w .stand .within) (commands 0 m) (commands-written k)) e
 
-way-located : {t : List ℕ} {room n p : ℕ} {chain : Chain} → Way t room n p chain → Located t n p chain
-unfolding All
-way-located (by-length h) = record { first-number = omega arith; last-number = omega arith; reached = omega arith; inside = λ a b c. absurd (a refl); calls-inside = tt }
-way-located (by-grammar h g l) = record { first-number = omega arith; last-number = omega arith; reached = l .within; inside = λ a b c. absurd (b refl); calls-inside = tt }
-way-located (by-rule h k b) =
-    let n = rule-number (b .breaks) in
-    let p = break-place k b in
-    record { first-number = omega (arith, n .0); last-number = omega (arith, n .1); reached = omega arith; inside = λ x y z. p; calls-inside = tt }
-way-located (by-drawing q e) =
-    let r = stopped-within (q .marked) e in
-    record { first-number = omega arith; last-number = omega arith; reached = omega arith; inside = λ x y z. r .place; calls-inside = r .open-calls }
-way-located (by-flat-file q e l) = record { first-number = omega arith; last-number = omega arith; reached = omega arith; inside = λ a b c. absurd (c refl); calls-inside = tt }
+record Reaches (t : List ℕ) (rule : Rule) (p : ℕ) (chain : Chain) : Type 0 where
+  reached : p ≤ length t
+  inside : (rule ≡ textTooLong → ⊥) → (rule ≡ notInGrammar → ⊥) → (rule ≡ flatFileTooLong → ⊥) → p < length t
+  calls-inside : All (λ (c : Placed ℕ). c .place < length t) chain
 
-pub located : {t : List ℕ} {room n p : ℕ} {chain : Chain} → Answers t room (rejected n p chain) → Located t n p chain
-located a = way-located (refusal .0 a)
+way-reaches : {t : List ℕ} {room : ℕ} {r : Rule} {p : ℕ} {chain : Chain} → Way t room r p chain → Reaches t r p chain
+unfolding All
+way-reaches (by-length h) = record { reached = omega arith; inside = λ a b c. absurd (a refl); calls-inside = tt }
+way-reaches (by-grammar h g l) = record { reached = l .within; inside = λ a b c. absurd (b refl); calls-inside = tt }
+way-reaches (by-command h k b) = let p = break-place k b in record { reached = omega arith; inside = λ x y z. p; calls-inside = tt }
+way-reaches (by-drawing q e) =
+    let r = stopped-within (q .marked) e in
+    let p = r .place in
+    record { reached = omega arith; inside = λ x y z. p; calls-inside = r .open-calls }
+way-reaches (by-flat-file q e l) = record { reached = omega arith; inside = λ a b c. absurd (c refl); calls-inside = tt }
+
+pub located : {t : List ℕ} {room : ℕ} {r : Refusal} {chain : Chain} → Answers t room (rejected r chain) → Located t r chain
+located {r = r} a =
+    let (q, e, w) = refusal-rule a in
+    let there = way-reaches w in
+    record {
+      rule = q;
+      is = e;
+      first-number = subst (λ (n : ℕ). 1 ≤ n) (sym (ap (λ (x : Refusal). x .number) e)) (number-from-1 q);
+      reached = there .reached;
+      inside = there .inside;
+      calls-inside = there .calls-inside;
+    }
 
 -- ---- what is given back
 
 -- 01: on refusal the length and all counts are 0 and the room is unchanged
-pub record RefusalHolds (room : List ℕ) (r : Answer) (left : List ℕ) (n p : ℕ) : Type 0 where
-  pub number : r .number ≡ n
-  pub place : r .place ≡ p
+pub record RefusalHolds (room : List ℕ) (r : Answer) (left : List ℕ) (by : Refusal) : Type 0 where
+  pub number : r .number ≡ by .number
+  pub place : r .place ≡ by .place
   pub no-length : r .length ≡ 0
   pub no-shapes : r .shapes ≡ 0
   pub no-calls : r .calls ≡ 0
   pub no-redefinitions : r .redefinitions ≡ 0
   pub room-kept : left ≡ room
 
-pub refusal-holds : {t room : List ℕ} {r : Answer} {left : List ℕ} (h : Promised t room r left) {n p : ℕ} {chain : Chain} → h .outcome ≡ rejected n p chain
-    → RefusalHolds room r left n p × Located t n p chain
+pub refusal-holds : {t room : List ℕ} {r : Answer} {left : List ℕ} (h : Promised t room r left) {by : Refusal} {chain : Chain} → h .outcome ≡ rejected by chain
+    → RefusalHolds room r left by × Located t by chain
 unfolding given-back flatFile
-refusal-holds {t} {room} {r} {left} h {n} {p} {chain} e =
-    let g : r ≡ given-back (rejected n p chain) = h .given ∙ ap (λ (o : Outcome). given-back o) e in (
+refusal-holds {t} {room} {r} {left} h {by} {chain} e =
+    let g : r ≡ given-back (rejected by chain) = h .given ∙ ap (λ (o : Outcome). given-back o) e in (
       record {
         number = ap (λ (a : Answer). a .number) g;
         place = ap (λ (a : Answer). a .place) g;
@@ -104,11 +121,11 @@ pub record SuccessHolds (room : List ℕ) (r : Answer) (left : List ℕ) (c : Co
   pub room-holds : left ≡ flat-file ++ drop (length flat-file) room
   pub fits : length flat-file ≤ length room
 
-pub success-holds : {t room : List ℕ} {r : Answer} {left : List ℕ} (h : Promised t room r left) {c : Counts} {es : List Event} → h .outcome ≡ accepted c es
+pub success-holds : {t room : List ℕ} {r : Answer} {left : List ℕ} (h : Promised t room r left) {cs : List (Placed Command)} {c : Counts} {es : List Event} → h .outcome ≡ accepted cs c es
     → SuccessHolds room r left c (flat (shapesOf es))
 unfolding given-back flatFile
-success-holds {t} {room} {r} {left} h {c} {es} e =
-    let g : r ≡ given-back (accepted c es) = h .given ∙ ap (λ (o : Outcome). given-back o) e in
+success-holds {t} {room} {r} {left} h {cs} {c} {es} e =
+    let g : r ≡ given-back (accepted cs c es) = h .given ∙ ap (λ (o : Outcome). given-back o) e in
     let a = acceptance .0 (subst (Answers t (length room)) e (h .answers)) in
     record {
       no-number = ap (λ (x : Answer). x .number) g;

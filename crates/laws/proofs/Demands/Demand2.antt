@@ -1,7 +1,7 @@
--- Demand 2: a text is accepted, and refused with each number at each place, exactly when document 01's table and its order of refusals say so.
+-- Demand 2: a text is accepted, and refused by each rule at each place, exactly when document 01's table and its order of refusals say so.
 -- The rules stand in FaultRules (3 to 9) and DrawingRules (10 to 17), each as its row states it.
 -- Assumes nothing.
-use mathlib.Core.Path.{_≡_, refl, subst, sym}
+use mathlib.Core.Path.{_≡_, refl, ap, subst, sym}
 use mathlib.Core.List.{List, []}
 use mathlib.Core.Logic.{_↔_}
 use Prim.Native.Nat.{ℕ, _≤_, _<_}
@@ -9,13 +9,16 @@ use native.Mathlib.Omega.{arith}
 use lib.ListN.{length}
 use Rattle.grammar.specs.Notation.{Letter}
 use Rattle.grammar.specs.Viable.{Marked, Grammatical, LongestViable}
-use Rattle.definition.specs.Commands.{commands}
+use Rattle.definition.specs.Limits.{mostBytes}
+use Rattle.definition.specs.Words.{Placed}
+use Rattle.definition.specs.Rules.{Rule, textTooLong, notInGrammar, flatFileTooLong, refuse, rank}
+use Rattle.definition.specs.Commands.{Command, commands}
 use Rattle.definition.specs.Drawing.{Chain, Event}
 use Rattle.definition.specs.Counts.{Counts, finished, stopped}
 use Rattle.definition.specs.Answer.{accepted, rejected, Answers}
-use Rattle.laws.proofs.Rules.FaultRules.{FirstBreak, rule-number}
-use Rattle.laws.proofs.Rules.Outcomes.{Passed, endOf, flatLength, TooLong, Way, by-length, by-grammar, by-rule, by-drawing, by-flat-file, Accepting, refusal, acceptance}
-use Rattle.laws.proofs.Story.EventPlaces.{ByDrawing}
+use Rattle.laws.proofs.Rules.FaultRules.{FirstBreak, rule-ranked}
+use Rattle.laws.proofs.Rules.Outcomes.{Passed, endOf, flatLength, TooLong, Way, by-length, by-grammar, by-command, by-drawing, by-flat-file, Accepting, refusal, acceptance}
+use Rattle.laws.proofs.Rules.Order.{Between, ByCommand, ByDrawing, one-rule}
 use Rattle.laws.proofs.Demands.Demand1.{stopped-within}
 use Rattle.definition.specs.Drawing.{deeds}
 use Rattle.definition.specs.Counts.{counts}
@@ -23,106 +26,126 @@ use Rattle.definition.specs.Standing.{outside}
 use Rattle.laws.proofs.Story.Moments.{moments}
 use Rattle.laws.proofs.Rules.DrawingRules.{FirstStop, drawing-stops}
 
--- the text is refused by this number at this place, whatever calls are open there
-abbrev pub Refused : List ℕ → (room number place : ℕ) → Type 0
-Refused t room n p = (chain : Chain) × Answers t room (rejected n p chain)
+-- the text is refused by this rule at this place, whatever calls are open there
+abbrev pub Refused : List ℕ → (room : ℕ) → Rule → (place : ℕ) → Type 0
+Refused t room r p = (chain : Chain) × Answers t room (rejected (refuse r p) chain)
 
 -- In the records below the roles are the text's own: it has only one marking (`one-marking` of the grammar's proofs).
 -- 3 to 9: the text is in the grammar, and this is the first rule that its commands break
-pub record RuleBroken (t : List ℕ) (n p : ℕ) : Type 0 where
+pub record CommandsBreak (t : List ℕ) (r : Rule) (p : ℕ) : Type 0 where
   pub roles : List Letter
-  pub within : length t ≤ 16777216
+  pub within : length t ≤ mostBytes
   pub marked : Marked t roles
-  pub broken : FirstBreak (commands 0 roles) n p
+  pub broken : FirstBreak (commands 0 roles) r p
 
 -- 10 to 17: nothing broken, and this is the first rule that a moment of the drawing breaks
-pub record DrawingStopped (t : List ℕ) (n p : ℕ) (chain : Chain) : Type 0 where
+pub record DrawingStopped (t : List ℕ) (r : Rule) (p : ℕ) (chain : Chain) : Type 0 where
   pub roles : List Letter
   pub passed : Passed t roles
-  pub stops : FirstStop (counts 0 0 0) (moments [] (deeds (outside []) (commands 0 roles))) n p chain
+  pub stops : FirstStop (counts 0 0 0) (moments [] (deeds (outside []) (commands 0 roles))) r p chain
 
 -- 18: nothing broken, the drawing finishes, and its flat file is too long
-pub record FlatFileTooLong (t : List ℕ) (room : ℕ) : Type 0 where
+pub record FileTooLong (t : List ℕ) (room : ℕ) : Type 0 where
   pub roles : List Letter
   pub passed : Passed t roles
   pub finished-with : Counts
   pub finishes : endOf roles ≡ finished finished-with
   pub too-long : TooLong (flatLength roles) room
 
--- ---- each way, by its number
+-- ---- each way, by its rule
 
--- the numbers that stop a drawing
-drawing-number : {t : List ℕ} {m : List Letter} → Passed t m → {n p : ℕ} {chain : Chain} → endOf m ≡ stopped n p chain → ByDrawing n
-drawing-number q e = stopped-within (q .marked) e .number
+-- the rules that stop a drawing
+drawing-ranked : {t : List ℕ} {m : List Letter} → Passed t m → {r : Rule} {p : ℕ} {chain : Chain} → endOf m ≡ stopped (refuse r p) chain → ByDrawing r
+drawing-ranked q {r} e = let s = stopped-within (q .marked) e in subst ByDrawing (one-rule (s .rule) r (sym (s .is))) (s .by-drawing)
 
 -- how a drawing stops is the first rule broken
-stopping : (m : List Letter) {n p : ℕ} {chain : Chain} → (endOf m ≡ stopped n p chain) ↔ FirstStop (counts 0 0 0) (moments [] (deeds (outside []) (commands 0 m))) n p chain
-stopping m {n} {p} {chain} = drawing-stops [] (deeds (outside []) (commands 0 m)) n p chain
+stopping : (m : List Letter) {r : Rule} {p : ℕ} {chain : Chain} → (endOf m ≡ stopped (refuse r p) chain) ↔ FirstStop (counts 0 0 0) (moments [] (deeds (outside []) (commands 0 m))) r p chain
+stopping m {r} {p} {chain} = drawing-stops [] (deeds (outside []) (commands 0 m)) r p chain
+
+-- a rule of one stretch of the order is not of another
+apart : {a b x y r : Rule} {A : Type 0} → Between a b r → Between x y r → rank b < rank x → A
+apart i j h = absurd (let l = i .most in let m = j .least in omega arith)
+
+at-itself : (r : Rule) → Between r r r
+at-itself r = record { least = omega arith; most = omega arith }
 
 module _ {t : List ℕ} {room : ℕ} where
-  way-1 : {n p : ℕ} {chain : Chain} → Way t room n p chain → n ≡ 1 → (p ≡ 0) × (16777216 < length t)
-  way-1 (by-length h) e = (refl, h)
-  way-1 (by-grammar h g l) e = absurd (omega arith)
-  way-1 (by-rule h k b) e = absurd (omega (arith, rule-number (b .breaks) .0))
-  way-1 (by-drawing q s) e = absurd (omega (arith, drawing-number q s .least))
-  way-1 (by-flat-file q f l) e = absurd (omega arith)
+  way-long : {p : ℕ} {chain : Chain} → Way t room textTooLong p chain → (p ≡ 0) × (mostBytes < length t)
+  way-long w = go w refl
+    where
+      go : {r : Rule} {p : ℕ} {chain : Chain} → Way t room r p chain → textTooLong ≡ r → (p ≡ 0) × (mostBytes < length t)
+      go (by-length h) e = (refl, h)
+      go (by-grammar h g l) e = absurd (omega (arith, ap rank e))
+      go (by-command h k b) e = apart (at-itself textTooLong) (subst ByCommand (sym e) (rule-ranked (b .breaks))) (omega arith)
+      go (by-drawing q s) e = apart (at-itself textTooLong) (subst ByDrawing (sym e) (drawing-ranked q s)) (omega arith)
+      go (by-flat-file q f l) e = absurd (omega (arith, ap rank e))
 
-  way-2 : {n p : ℕ} {chain : Chain} → Way t room n p chain → n ≡ 2 → (length t ≤ 16777216) × (Grammatical t → ⊥) × LongestViable t p
-  way-2 (by-length h) e = absurd (omega arith)
-  way-2 (by-grammar h g l) e = (h, g, l)
-  way-2 (by-rule h k b) e = absurd (omega (arith, rule-number (b .breaks) .0))
-  way-2 (by-drawing q s) e = absurd (omega (arith, drawing-number q s .least))
-  way-2 (by-flat-file q f l) e = absurd (omega arith)
+  way-strange : {p : ℕ} {chain : Chain} → Way t room notInGrammar p chain → (length t ≤ mostBytes) × (Grammatical t → ⊥) × LongestViable t p
+  way-strange w = go w refl
+    where
+      go : {r : Rule} {p : ℕ} {chain : Chain} → Way t room r p chain → notInGrammar ≡ r → (length t ≤ mostBytes) × (Grammatical t → ⊥) × LongestViable t p
+      go (by-length h) e = absurd (omega (arith, ap rank e))
+      go (by-grammar h g l) e = (h, g, l)
+      go (by-command h k b) e = apart (at-itself notInGrammar) (subst ByCommand (sym e) (rule-ranked (b .breaks))) (omega arith)
+      go (by-drawing q s) e = apart (at-itself notInGrammar) (subst ByDrawing (sym e) (drawing-ranked q s)) (omega arith)
+      go (by-flat-file q f l) e = absurd (omega (arith, ap rank e))
 
-  way-3-to-9 : {n p : ℕ} {chain : Chain} → Way t room n p chain → 3 ≤ n → n ≤ 9 → RuleBroken t n p
-  way-3-to-9 (by-length h) a b = absurd (omega arith)
-  way-3-to-9 (by-grammar h g l) a b = absurd (omega arith)
-  way-3-to-9 (by-rule {m} h k f) a b = record { roles = m; within = h; marked = k; broken = f }
-  way-3-to-9 (by-drawing q s) a b = absurd (omega (arith, drawing-number q s .least))
-  way-3-to-9 (by-flat-file q f l) a b = absurd (omega arith)
+  way-command : {r : Rule} {p : ℕ} {chain : Chain} → ByCommand r → Way t room r p chain → CommandsBreak t r p
+  way-command i (by-length h) = apart (at-itself textTooLong) i (omega arith)
+  way-command i (by-grammar h g l) = apart (at-itself notInGrammar) i (omega arith)
+  way-command i (by-command {m} h k f) = record { roles = m; within = h; marked = k; broken = f }
+  way-command i (by-drawing q s) = apart i (drawing-ranked q s) (omega arith)
+  way-command i (by-flat-file q f l) = apart i (at-itself flatFileTooLong) (omega arith)
 
-  way-10-to-17 : {n p : ℕ} {chain : Chain} → Way t room n p chain → 10 ≤ n → n ≤ 17 → DrawingStopped t n p chain
-  way-10-to-17 (by-length h) a b = absurd (omega arith)
-  way-10-to-17 (by-grammar h g l) a b = absurd (omega arith)
-  way-10-to-17 (by-rule h k f) a b = absurd (omega (arith, rule-number (f .breaks) .1))
-  way-10-to-17 (by-drawing {m} q s) a b = record { roles = m; passed = q; stops = stopping m .0 s }
-  way-10-to-17 (by-flat-file q f l) a b = absurd (omega arith)
+  way-drawing : {r : Rule} {p : ℕ} {chain : Chain} → ByDrawing r → Way t room r p chain → DrawingStopped t r p chain
+  way-drawing i (by-length h) = apart (at-itself textTooLong) i (omega arith)
+  way-drawing i (by-grammar h g l) = apart (at-itself notInGrammar) i (omega arith)
+  way-drawing i (by-command h k f) = apart (rule-ranked (f .breaks)) i (omega arith)
+  way-drawing i (by-drawing {m} q s) = record { roles = m; passed = q; stops = stopping m .0 s }
+  way-drawing i (by-flat-file q f l) = apart i (at-itself flatFileTooLong) (omega arith)
 
-  way-18 : {n p : ℕ} {chain : Chain} → Way t room n p chain → n ≡ 18 → (p ≡ 0) × FlatFileTooLong t room
-  way-18 (by-length h) e = absurd (omega arith)
-  way-18 (by-grammar h g l) e = absurd (omega arith)
-  way-18 (by-rule h k b) e = absurd (omega (arith, rule-number (b .breaks) .1))
-  way-18 (by-drawing q s) e = absurd (omega (arith, drawing-number q s .most))
-  way-18 (by-flat-file {m} {c} q f l) e = (refl, record { roles = m; passed = q; finished-with = c; finishes = f; too-long = l })
+  way-file : {p : ℕ} {chain : Chain} → Way t room flatFileTooLong p chain → (p ≡ 0) × FileTooLong t room
+  way-file w = go w refl
+    where
+      go : {r : Rule} {p : ℕ} {chain : Chain} → Way t room r p chain → flatFileTooLong ≡ r → (p ≡ 0) × FileTooLong t room
+      go (by-length h) e = absurd (omega (arith, ap rank e))
+      go (by-grammar h g l) e = absurd (omega (arith, ap rank e))
+      go (by-command h k b) e = apart (subst ByCommand (sym e) (rule-ranked (b .breaks))) (at-itself flatFileTooLong) (omega arith)
+      go (by-drawing q s) e = apart (subst ByDrawing (sym e) (drawing-ranked q s)) (at-itself flatFileTooLong) (omega arith)
+      go (by-flat-file {m} {c} q f l) e = (refl, record { roles = m; passed = q; finished-with = c; finishes = f; too-long = l })
 
 -- ---- the table
 
 -- 01: 1, text over 16,777,216 bytes; at 0
-pub refused-1 : {t : List ℕ} {room p : ℕ} → Refused t room 1 p ↔ ((p ≡ 0) × (16777216 < length t))
-refused-1 {t} {room} {p} = (λ r. way-1 (refusal .0 (r .1)) refl, λ h. ([], subst (λ (q : ℕ). Answers t room (rejected 1 q [])) (sym (h .0)) (refusal .1 (by-length (h .1)))))
+pub refused-by-length : {t : List ℕ} {room p : ℕ} → Refused t room textTooLong p ↔ ((p ≡ 0) × (mostBytes < length t))
+refused-by-length {t} {room} {p} = (
+  λ r. way-long (refusal textTooLong p (r .0) .0 (r .1)),
+  λ h. ([], subst (λ (q : ℕ). Answers t room (rejected (refuse textTooLong q) [])) (sym (h .0)) (refusal textTooLong 0 [] .1 (by-length (h .1)))),
+)
 
 -- 01: 2, not in the grammar; at the length of the longest prefix that some continuation completes to a grammatical text
-pub refused-2 : {t : List ℕ} {room p : ℕ} → Refused t room 2 p ↔ ((length t ≤ 16777216) × (Grammatical t → ⊥) × LongestViable t p)
-refused-2 {t} {room} {p} = (λ r. way-2 (refusal .0 (r .1)) refl, λ h. ([], refusal .1 (by-grammar (h .0) (h .1) (h .2))))
+pub refused-by-grammar : {t : List ℕ} {room p : ℕ} → Refused t room notInGrammar p ↔ ((length t ≤ mostBytes) × (Grammatical t → ⊥) × LongestViable t p)
+refused-by-grammar {t} {room} {p} = (λ r. way-strange (refusal notInGrammar p (r .0) .0 (r .1)), λ h. ([], refusal notInGrammar p [] .1 (by-grammar (h .0) (h .1) (h .2))))
 
 -- 01: then 3 to 9 for all commands in text order, within a command by number, within a number by place
-pub refused-3-to-9 : {t : List ℕ} {room n p : ℕ} → 3 ≤ n → n ≤ 9 → Refused t room n p ↔ RuleBroken t n p
-refused-3-to-9 a b = (λ r. way-3-to-9 (refusal .0 (r .1)) a b, λ h. ([], refusal .1 (by-rule (h .within) (h .marked) (h .broken))))
+pub refused-by-command : {t : List ℕ} {room : ℕ} {r : Rule} {p : ℕ} → ByCommand r → Refused t room r p ↔ CommandsBreak t r p
+refused-by-command {t} {room} {r} {p} i = (λ a. way-command i (refusal r p (a .0) .0 (a .1)), λ h. ([], refusal r p [] .1 (by-command (h .within) (h .marked) (h .broken))))
 
--- 01: then 10 to 17 in the order of drawing, at one command by number. A drawing is stopped by these numbers only
-pub refused-10-to-17 : {t : List ℕ} {room n p : ℕ} {chain : Chain} → 10 ≤ n → n ≤ 17 → Answers t room (rejected n p chain) ↔ DrawingStopped t n p chain
-refused-10-to-17 a b = (λ r. way-10-to-17 (refusal .0 r) a b, λ h. refusal .1 (by-drawing (h .passed) (stopping (h .roles) .1 (h .stops))))
+-- 01: then 10 to 17 in the order of drawing, at one command by number. A drawing is stopped by these rules only
+pub refused-by-drawing : {t : List ℕ} {room : ℕ} {r : Rule} {p : ℕ} {chain : Chain} → ByDrawing r
+    → Answers t room (rejected (refuse r p) chain) ↔ DrawingStopped t r p chain
+refused-by-drawing {t} {room} {r} {p} {chain} i = (λ a. way-drawing i (refusal r p chain .0 a), λ h. refusal r p chain .1 (by-drawing (h .passed) (stopping (h .roles) .1 (h .stops))))
 
-pub stopped-number : {t : List ℕ} {n p : ℕ} {chain : Chain} → DrawingStopped t n p chain → ByDrawing n
-stopped-number h = drawing-number (h .passed) (stopping (h .roles) .1 (h .stops))
+pub stopped-rule : {t : List ℕ} {r : Rule} {p : ℕ} {chain : Chain} → DrawingStopped t r p chain → ByDrawing r
+stopped-rule h = drawing-ranked (h .passed) (stopping (h .roles) .1 (h .stops))
 
 -- 01: then 18, flat file longer than the room or than 16,777,216; at 0
-pub refused-18 : {t : List ℕ} {room p : ℕ} → Refused t room 18 p ↔ ((p ≡ 0) × FlatFileTooLong t room)
-refused-18 {t} {room} {p} = (
-  λ r. way-18 (refusal .0 (r .1)) refl,
-  λ h. ([], subst (λ (q : ℕ). Answers t room (rejected 18 q [])) (sym (h .0)) (refusal .1 (by-flat-file (h .1 .passed) (h .1 .finishes) (h .1 .too-long)))),
+pub refused-by-flat-file : {t : List ℕ} {room p : ℕ} → Refused t room flatFileTooLong p ↔ ((p ≡ 0) × FileTooLong t room)
+refused-by-flat-file {t} {room} {p} = (
+  λ r. way-file (refusal flatFileTooLong p (r .0) .0 (r .1)),
+  λ h. ([], subst (λ (q : ℕ). Answers t room (rejected (refuse flatFileTooLong q) [])) (sym (h .0)) (refusal flatFileTooLong 0 [] .1 (by-flat-file (h .1 .passed) (h .1 .finishes) (h .1 .too-long)))),
 )
 
 -- 01: accepted otherwise: nothing broken, the drawing finishes with these counts, and the flat file fits
-pub accepted-exactly : {t : List ℕ} {room : ℕ} {c : Counts} {es : List Event} → Answers t room (accepted c es) ↔ Accepting t room c es
+pub accepted-exactly : {t : List ℕ} {room : ℕ} {cs : List (Placed Command)} {c : Counts} {es : List Event} → Answers t room (accepted cs c es) ↔ Accepting t room cs c es
 accepted-exactly = acceptance

@@ -14,6 +14,7 @@ use Rattle.grammar.specs.Viable.{bytes, Marked}
 use Rattle.grammar.specs.Tables.{letter}
 use Rattle.grammar.proofs.Markings.{one-marking}
 use Rattle.definition.specs.declared.Answer.{Answer}
+use Rattle.definition.specs.Limits.{mostBytes}
 use Rattle.definition.specs.Words.{if_then_else_, Placed, at, same}
 use Rattle.definition.specs.Commands.{Kind, box, flash, wire, polygon, Command, draw, layer, call, start, finish, delete, nothing, commandAt, commands, _plays_}
 use Rattle.definition.specs.Drawing.{Drawn, Event, drew}
@@ -167,11 +168,11 @@ pub record Demand3 (room : ℕ) (c : Counts) (ds : List Drawn) : Type 0 where
   pub only-openings : OnlyOpenings letters
   pub only-shapes : OnlyShapes (length (flat ds)) (commands 0 letters)
   -- the room held it
-  pub short : length (flat ds) ≤ 16777216
+  pub short : length (flat ds) ≤ mostBytes
   pub fitted : length (flat ds) ≤ room
   -- every room that holds it accepts it: no calls and no redefinitions, and as many shapes as were drawn
   pub events : List Event
-  pub accepts : (room′ : ℕ) → length (flat ds) ≤ room′ → Answers (flat ds) room′ (accepted (counts 0 (c .shapes) 0) events)
+  pub accepts : (room′ : ℕ) → length (flat ds) ≤ room′ → Answers (flat ds) room′ (accepted (commands 0 letters) (counts 0 (c .shapes) 0) events)
   pub all-counted : c .shapes ≡ length ds
   -- nothing but shapes is drawn: the same, on the same layers, with the same numbers, in the same order
   pub nothing-else : events ≡ map drew (shapesOf events)
@@ -184,8 +185,8 @@ pub record Demand3 (room : ℕ) (c : Counts) (ds : List Drawn) : Type 0 where
   pub settled : (before left : List ℕ) (r : Answer) → length (flat ds) ≤ length before → Promised (flat ds) before r left
       → (r ≡ answer 0 0 (length (flat ds)) (counts 0 (c .shapes) 0)) × (left ≡ flat ds ++ drop (length (flat ds)) before)
 
-pub demand3 : {t : List ℕ} {room : ℕ} {c : Counts} {es : List Event} → Answers t room (accepted c es) → Demand3 room c (shapesOf es)
-demand3 {t} {room} {c} {es} k = record {
+pub demand3 : {t : List ℕ} {room : ℕ} {cs : List (Placed Command)} {c : Counts} {es : List Event} → Answers t room (accepted cs c es) → Demand3 room c (shapesOf es)
+demand3 {t} {room} {cs} {c} {es} k = record {
   letters = flatLetters (shapesOf es);
   grammatical = again .grammatical;
   one-way = λ m h. one-marking h (again .grammatical);
@@ -212,13 +213,13 @@ demand3 {t} {room} {c} {es} k = record {
     counted : c .shapes ≡ length (shapesOf es)
     counted = let n = shapes-counted (counts 0 0 0) es c (omega arith) (text .as-read .ended) in omega (arith, n .is)
 
-    accepts : (room′ : ℕ) → length (flat (shapesOf es)) ≤ room′ → Answers (flat (shapesOf es)) room′ (accepted (counts 0 (c .shapes) 0) (again .events))
-    accepts room′ h = subst (λ (n : ℕ). Answers (flat (shapesOf es)) room′ (accepted (counts 0 n 0) (again .events))) (sym counted) (again .answers room′ h)
+    accepts : (room′ : ℕ) → length (flat (shapesOf es)) ≤ room′ → Answers (flat (shapesOf es)) room′ (accepted (commands 0 (flatLetters (shapesOf es))) (counts 0 (c .shapes) 0) (again .events))
+    accepts room′ h = subst (λ (n : ℕ). Answers (flat (shapesOf es)) room′ (accepted (commands 0 (flatLetters (shapesOf es))) (counts 0 n 0) (again .events))) (sym counted) (again .answers room′ h)
 
     promised : (before : List ℕ) → length (flat (shapesOf es)) ≤ length before
         → Promised (flat (shapesOf es)) before (answer 0 0 (length (flat (shapesOf es))) (counts 0 (c .shapes) 0)) (flat (shapesOf es) ++ drop (length (flat (shapesOf es))) before)
     promised before h = record {
-      outcome = accepted (counts 0 (c .shapes) 0) (again .events);
+      outcome = accepted (commands 0 (flatLetters (shapesOf es))) (counts 0 (c .shapes) 0) (again .events);
       answers = accepts (length before) h;
       given = unfold given-back in ap (λ (w : List ℕ). answer 0 0 (length w) (counts 0 (c .shapes) 0)) (sym (again .same-bytes));
       kept = unfold flatFile in ap (λ (w : List ℕ). w ++ drop (length w) before) (sym (again .same-bytes));
@@ -226,10 +227,10 @@ demand3 {t} {room} {c} {es} k = record {
 
 -- two readings in a row: what the first leaves at the start of its room, if it accepts, the second leaves at the start of its own, and the rest of that
 -- room unchanged
-pub twice : {t room left room′ left′ : List ℕ} {r r′ : Answer} {c : Counts} {es : List Event} (p : Promised t room r left) → p .outcome ≡ accepted c es
+pub twice : {t room left room′ left′ : List ℕ} {r r′ : Answer} {cs : List (Placed Command)} {c : Counts} {es : List Event} (p : Promised t room r left) → p .outcome ≡ accepted cs c es
     → r .length ≤ length room′ → Promised (take (r .length) left) room′ r′ left′
     → (take (r .length) left′ ≡ take (r .length) left) × (drop (r .length) left′ ≡ drop (r .length) room′)
-twice {t} {room} {left} {room′} {left′} {r} {r′} {c} {es} p e h q =
+twice {t} {room} {left} {room′} {left′} {r} {r′} {cs} {c} {es} p e h q =
     let F = flat (shapesOf es) in
     let d : Demand3 (length room) c (shapesOf es) = demand3 (subst (Answers t (length room)) e (p .answers)) in
     let back : r ≡ answer 0 0 (length F) c = unfold given-back in (p .given ∙ ap given-back e) in

@@ -11,10 +11,13 @@ use lib.IntN.{ℤ, natAbs}
 use lib.ListN.{length}
 use Rattle.grammar.specs.Notation.{Letter, dec, has, stop, skip}
 use Rattle.grammar.specs.Tables.{letter}
+use Rattle.definition.specs.declared.Refusal.{Refusal}
+use Rattle.definition.specs.Limits.{mostPoints}
+use Rattle.definition.specs.Rules.{Rule, numberTooLarge, notWhole, scaledTooLarge}
 use Rattle.definition.specs.Words.{if_then_else_, Placed, at, Point, any, those, same}
 use Rattle.definition.specs.Commands.{Shape, Number, Command, draw, layer, commandAt, commands}
 use Rattle.definition.specs.Standing.{outside, after, given, scaled, whole, scaledShape}
-use Rattle.definition.specs.Faults.{Refusal, beyond, both, emptyShape, partsOf, distances, numbersOf, atNumbers, zeroScale, degenerate, layerless, tooMany, faults, allFaults}
+use Rattle.definition.specs.Faults.{beyond, both, emptyShape, partsOf, distances, numbersOf, atNumbers, zeroScale, degenerate, layerless, tooMany, faults, allFaults}
 use Rattle.definition.specs.Flat.{letterOf, numbersOfShape}
 use Rattle.definition.specs.Drawing.{Drawn}
 use Rattle.laws.proofs.Lists.Range.{All}
@@ -24,10 +27,10 @@ use Rattle.laws.proofs.FlatFile.Shapes.{valued, shape-read, read-outsid
 use Rattle.laws.proofs.FlatFile.Reread.{InRange, Sayable, names, lineLetters, lastLetters, saidLetters, linesLetters, flatLetters, line-commands, names-headless, spaced-headless, layer-read, none-beyond, range-left, range-right}
 use Rattle.laws.proofs.FlatFile.Said.{Good, range-++, or-first, or-second, length-map}
 
-none-listed : (n : ℕ) (t : ℤ → Bool) (ds : List Number) → any t (values ds) ≡ false → atNumbers n t ds ≡ []
+none-listed : (r : Rule) (t : ℤ → Bool) (ds : List Number) → any t (values ds) ≡ false → atNumbers r t ds ≡ []
 unfolding atNumbers those any
-none-listed n t [] e = refl
-none-listed n t (d ∷ ds) e = rw (or-first (t (d .what)) _ e) (none-listed n t ds (or-second (t (d .what)) _ e))
+none-listed r t [] e = refl
+none-listed r t (d ∷ ds) e = rw (or-first (t (d .what)) _ e) (none-listed r t ds (or-second (t (d .what)) _ e))
 
 values-++ : (a b : List Number) → values (a ++ b) ≡ values a ++ values b
 values-++ [] b = refl
@@ -77,17 +80,17 @@ faults-draw n l w g h =
     let a = values (w .sizes) in
     let b = both (map given (w .points)) in
     let near : InRange (a ++ b) = range-++ a b (range-left a _ h) (range-left b (both (map given (w .directions))) (range-right a _ h)) in
-    let three : atNumbers 3 beyond (numbersOf (draw w)) ≡ [] =
-    none-listed 3 beyond (numbersOf (draw w)) (ap (λ (zs : List ℤ). any beyond zs) (numbers-drawn w) ∙ none-beyond (numbersOfShape (valued w)) h) in
-    let five : atNumbers 5 (λ z. not (whole (outside l) z)) (distances (draw w)) ≡ [] =
-    none-listed 5 (λ z. not (whole (outside l) z)) (distances (draw w)) (any-never (λ z. not (whole (outside l) z)) (whole-outside l) (values (distances (draw w)))) in
-    let six : atNumbers 6 (λ z. beyond (scaled (outside l) z)) (distances (draw w)) ≡ [] =
-    none-listed 6 (λ z. beyond (scaled (outside l) z)) (distances (draw w))
+    let three : atNumbers numberTooLarge beyond (numbersOf (draw w)) ≡ [] =
+    none-listed numberTooLarge beyond (numbersOf (draw w)) (ap (λ (zs : List ℤ). any beyond zs) (numbers-drawn w) ∙ none-beyond (numbersOfShape (valued w)) h) in
+    let five : atNumbers notWhole (λ z. not (whole (outside l) z)) (distances (draw w)) ≡ [] =
+    none-listed notWhole (λ z. not (whole (outside l) z)) (distances (draw w)) (any-never (λ z. not (whole (outside l) z)) (whole-outside l) (values (distances (draw w)))) in
+    let six : atNumbers scaledTooLarge (λ z. beyond (scaled (outside l) z)) (distances (draw w)) ≡ [] =
+    none-listed scaledTooLarge (λ z. beyond (scaled (outside l) z)) (distances (draw w))
     (any-same (λ z. beyond (scaled (outside l) z)) beyond (λ z. ap beyond (scaled-outside l z)) (values (distances (draw w)))
     ∙ ap (λ (zs : List ℤ). any beyond zs) (distances-drawn w) ∙ none-beyond (a ++ b) near) in
     let seven : emptyShape (scaledShape (outside l) w) ≡ false = ap (λ (k : Shape ℤ). emptyShape k) (read-outside l w) ∙ g .full in
     let eight : eqb (length l) 0 ≡ false = g .some-name in
-    let nine : ltb 1024 (length (w .points)) ≡ false = ap (λ (k : ℕ). ltb 1024 k) (sym (length-map given (w .points))) ∙ g .few in
+    let nine : ltb mostPoints (length (w .points)) ≡ false = ap (λ (k : ℕ). ltb mostPoints k) (sym (length-map given (w .points))) ∙ g .few in
     rw (three, five, six, seven, eight, nine)
 
 -- no fault from here on

@@ -10,6 +10,7 @@ use lib.IntN.{ℤ, pos, negsuc, natAbs}
 use lib.ListN.{length, length-append}
 use Rattle.grammar.specs.Notation.{Letter}
 use Rattle.grammar.specs.Viable.{Marked}
+use Rattle.definition.specs.Limits.{largest, mostPoints, mostShapes}
 use Rattle.definition.specs.Words.{if_then_else_, Point, same}
 use Rattle.definition.specs.Commands.{Shape, commands}
 use Rattle.definition.specs.Faults.{both, firstFault}
@@ -46,7 +47,7 @@ pub decimal-length : (z : ℤ) → Near z → length (decimal z) ≤ 9
 unfolding decimal
 decimal-length (pos n) h = let q : length (shortest n) ≤ 8 = shortest-length n 8 (omega arith) (omega (arith, h)) in omega (arith, q)
 decimal-length (negsuc n) h =
-    let h′ : suc n ≤ 16777215 = h in
+    let h′ : suc n ≤ largest = h in
     let q : length (shortest (suc n)) ≤ 8 = shortest-length (suc n) 8 (omega arith) (omega (arith, h′)) in
     omega (arith, q)
 
@@ -81,7 +82,7 @@ both-length [] = refl
 both-length (p ∷ ps) = let q : length (both ps) ≡ 2 * length ps = both-length ps in omega (arith, q)
 
 -- a wire of 1,024 points has the most: its width and theirs
-pub numbers-length : (k : Shape ℤ) → Formed k → length (k .points) ≤ 1024 → length (numbersOfShape k) ≤ 2049
+pub numbers-length : (k : Shape ℤ) → Formed k → length (k .points) ≤ mostPoints → length (numbersOfShape k) ≤ 2049
 numbers-length k (a-box a b c d) h = omega arith
 numbers-length k (a-flash a c) h = omega arith
 numbers-length k (a-wire a ps) h = let q = both-length ps in simp length-append (omega (arith, q, h))
@@ -133,7 +134,7 @@ unfolding flat
 flat-length ds h = let q = lines-length [] ds h in simp length-append (omega (arith, q))
 
 -- below 2 ^ 40, which is 1,099,511,627,776
-pub flat-limit : (ds : List Drawn) → All Sound ds → length ds ≤ 1048576 → length (flat ds) ≤ 21495808002
+pub flat-limit : (ds : List Drawn) → All Sound ds → length ds ≤ mostShapes → length (flat ds) ≤ 21495808002
 flat-limit ds h n = let q = flat-length ds h in omega (arith, q, n)
 
 -- so too where refusal 18 is still to be decided

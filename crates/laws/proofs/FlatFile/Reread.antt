@@ -12,6 +12,8 @@ use lib.Dec.{T, ltb}
 use Rattle.grammar.specs.Notation.{Letter, dec, has, skip, head, name, stop}
 use Rattle.grammar.specs.Viable.{bytes}
 use Rattle.grammar.specs.Tables.{letter}
+use Rattle.definition.specs.Limits.{largest, mostShapes}
+use Rattle.definition.specs.Rules.{outOfRange, refuse}
 use Rattle.definition.specs.Words.{if_then_else_, Placed, at, Point, same, any}
 use Rattle.definition.specs.Commands.{Shape, Turn, Number, Command, draw, layer, named, commandAt, commands, _plays_}
 use Rattle.definition.specs.Standing.{outside, after, scaledShape}
@@ -150,7 +152,7 @@ plain d = (d .layer-of, d .itself)
 
 unfoldable pub InRange : List ℤ → Type 0
 InRange [] = Unit {0}
-InRange (z ∷ zs) = (natAbs z ≤ 16777215) × InRange zs
+InRange (z ∷ zs) = (natAbs z ≤ largest) × InRange zs
 
 -- what the flat file needs of a shape
 pub record Sayable (d : Drawn) : Type 0 where
@@ -170,7 +172,7 @@ range-left (z ∷ a) b h = (h .0, range-left a b (h .1))
 pub none-beyond : (zs : List ℤ) → InRange zs → any beyond zs ≡ false
 unfolding any InRange beyond
 none-beyond [] h = refl
-none-beyond (z ∷ zs) h = rw (le-ltb 16777215 (natAbs z) (h .0)) (none-beyond zs (h .1))
+none-beyond (z ∷ zs) h = rw (le-ltb largest (natAbs z) (h .0)) (none-beyond zs (h .1))
 
 points-beyond : (k : Shape ℤ) → InRange (numbersOfShape k) → any beyond (both (k .points)) ≡ false
 points-beyond k h = none-beyond (both (k .points)) (range-left (both (k .points)) (both (k .directions)) (range-right (k .sizes) (both (k .points) ++ both (k .directions)) h))
@@ -188,7 +190,7 @@ drew-plain n l k = drew (record { place = n; chain = []; net = []; layer-of = l;
 
 drawn-plain : (n : ℕ) (l : List ℕ) (k : Shape ℤ) → InRange (numbersOfShape k) → drawShape [] [] n l k ≡ drew-plain n l k
 unfolding drawShape
-drawn-plain n l k h = ap (λ (x : Shape ℤ). if any beyond (both (x .points)) then refused 16 n [] else drew-plain n l x) (unmoved k) ∙ rw (points-beyond k h)
+drawn-plain n l k h = ap (λ (x : Shape ℤ). if any beyond (both (x .points)) then refused (refuse outOfRange n) [] else drew-plain n l x) (unmoved k) ∙ rw (points-beyond k h)
 
 -- what happens at letters, read from place n on where the layer stands
 abbrev pub again : Table → List ℕ → ℕ → List Letter → List Event
@@ -275,11 +277,11 @@ drawn-shapes [] = refl
 drawn-shapes (d ∷ ds) = ap (λ (x : List Drawn). d ∷ x) (drawn-shapes ds)
 
 -- it ends with that many shapes
-pub drawn-ending : (n : ℕ) (ds : List Drawn) → n + length ds ≤ 1048576 → ending (counts 0 n 0) (map drew ds) ≡ finished (counts 0 (n + length ds) 0)
+pub drawn-ending : (n : ℕ) (ds : List Drawn) → n + length ds ≤ mostShapes → ending (counts 0 n 0) (map drew ds) ≡ finished (counts 0 (n + length ds) 0)
 unfolding ending counted goOn
 drawn-ending n [] h = ap (λ (k : ℕ). finished (counts 0 k 0)) (omega arith)
 drawn-ending n (d ∷ ds) h =
-    let room : ltb n 1048576 ≡ true = lt-ltb n 1048576 (omega (arith, h)) in
+    let room : ltb n mostShapes ≡ true = lt-ltb n mostShapes (omega (arith, h)) in
     rw room (drawn-ending (n + 1) ds (omega (arith, h)) ∙ ap (λ (k : ℕ). finished (counts 0 k 0)) (omega arith))
 
 -- and shapes that say the same have the same flat file

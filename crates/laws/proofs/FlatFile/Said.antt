@@ -3,7 +3,7 @@
 use mathlib.Core.Path.{_≡_, refl, sym, ap, ap₂, _∙_, subst}
 use mathlib.Core.Bool.{Bool, true, false, not, _&&_, _||_}
 use mathlib.Core.List.{List, [], _∷_, _++_, map, nil≢cons}
-use mathlib.Core.Option.{none}
+use mathlib.Core.Option.{Option, none, some}
 use Prim.Native.Nat.{ℕ, suc, _≤_, _<_}
 use native.Mathlib.Omega.{arith}
 use borrow.Author.Tests.{ltb-false, eqb-false}
@@ -12,12 +12,14 @@ use lib.IntN.{ℤ, negℤ, natAbs}
 use lib.ListN.{length}
 use Rattle.grammar.specs.Notation.{Letter, Match}
 use Rattle.grammar.specs.Productions.{cifFile}
+use Rattle.definition.specs.Limits.{largest, mostPoints}
+use Rattle.definition.specs.Rules.{Rule, numberTooLarge, zeroFactor, notWhole, scaledTooLarge, degenerateCommand, noLayer, tooManyParts}
 use Rattle.definition.specs.Words.{at, Point, any}
 use Rattle.definition.specs.Commands.{Kind, box, flash, wire, polygon, Shape, Turn, Number, translate, mirrorX, mirrorY, rotate}
 use Rattle.definition.specs.Commands.{Command, draw, layer, call, start, finish, delete, nothing, commands}
 use Rattle.definition.specs.Standing.{Standing, outside, after, scaled, whole, scaledPoint, scaledShape}
 use Rattle.definition.specs.Faults.{beyond, both, zero?, nowhere, least, emptyShape, partsOf, distances, numbersOf, atNumbers, atCommand, zeroScale, degenerate, layerless, tooMany, faults, allFaults, firstFault}
-use Rattle.definition.specs.Turns.{Heading, +x, +y, -x, -y, askew, heading, rotated, act, aim, inOrder, moved}
+use Rattle.definition.specs.Turns.{Heading, +x, +y, -x, -y, heading, rotated, act, aim, inOrder, moved}
 use Rattle.definition.specs.Drawing.{stepOf, Drawn}
 use Rattle.definition.specs.Counts.{shapesOf}
 use Rattle.definition.specs.Answer.{drawingOf}
@@ -37,7 +39,7 @@ pub record Good (l : List ℕ) (k : Shape ℤ) : Type 0 where
   pub formed : Formed k
   pub fit : Fit k
   pub full : emptyShape k ≡ false
-  pub few : ltb 1024 (length (k .points)) ≡ false
+  pub few : ltb mostPoints (length (k .points)) ≡ false
   pub some-name : eqb (length l) 0 ≡ false
   pub a-name : Name l
 
@@ -59,13 +61,13 @@ and-comm false false = refl
 zero-neg : (z : ℤ) → zero? (negℤ z) ≡ zero? z
 zero-neg z = ap (λ (n : ℕ). eqb n 0) (abs-neg z)
 
-nowhere-rotated : (h : Heading) (p : Point ℤ) → nowhere (rotated h p) ≡ nowhere p
+nowhere-rotated : (h : Option Heading) (p : Point ℤ) → nowhere (rotated h p) ≡ nowhere p
 unfolding rotated
-nowhere-rotated +x p = refl
-nowhere-rotated +y p = ap (λ (b : Bool). b && zero? (p .x)) (zero-neg (p .y)) ∙ and-comm (zero? (p .y)) (zero? (p .x))
-nowhere-rotated -x p = ap₂ (λ (a b : Bool). a && b) (zero-neg (p .x)) (zero-neg (p .y))
-nowhere-rotated -y p = ap (λ (b : Bool). zero? (p .y) && b) (zero-neg (p .x)) ∙ and-comm (zero? (p .y)) (zero? (p .x))
-nowhere-rotated askew p = refl
+nowhere-rotated (some +x) p = refl
+nowhere-rotated (some +y) p = ap (λ (b : Bool). b && zero? (p .x)) (zero-neg (p .y)) ∙ and-comm (zero? (p .y)) (zero? (p .x))
+nowhere-rotated (some -x) p = ap₂ (λ (a b : Bool). a && b) (zero-neg (p .x)) (zero-neg (p .y))
+nowhere-rotated (some -y) p = ap (λ (b : Bool). zero? (p .y) && b) (zero-neg (p .x)) ∙ and-comm (zero? (p .y)) (zero? (p .x))
+nowhere-rotated none p = refl
 
 nowhere-aim : (t : Turn ℤ) (p : Point ℤ) → nowhere (aim t p) ≡ nowhere p
 unfolding aim act
@@ -103,12 +105,12 @@ good-moved ts l k g = record {
   a-name = g .a-name;
 }
   where
-    same-length : ltb 1024 (length (moved ts k .points)) ≡ ltb 1024 (length (k .points))
-    same-length = unfold moved in ap (λ (n : ℕ). ltb 1024 n) (length-map (inOrder act ts) (k .points))
+    same-length : ltb mostPoints (length (moved ts k .points)) ≡ ltb mostPoints (length (k .points))
+    same-length = unfold moved in ap (λ (n : ℕ). ltb mostPoints n) (length-map (inOrder act ts) (k .points))
 
 -- ---- commands without a fault
 
-not-at : (n p : ℕ) (b : Bool) → atCommand n b p ≡ [] → b ≡ false
+not-at : (r : Rule) (p : ℕ) (b : Bool) → atCommand r b p ≡ [] → b ≡ false
 not-at n p true e = absurd (nil≢cons (sym e))
 not-at n p false e = refl
 
@@ -144,15 +146,15 @@ stands s nothing x y = x
 good-step : (s : Standing) (p : ℕ) (c : Command) → Stands s → Made c → faults s (at p c) ≡ [] → All (Kept.StepP Good) (stepOf s c)
 unfolding stepOf All Made Kept.StepP FitStep faults degenerate layerless tooMany partsOf any
 good-step s p (draw w) x y e =
-    let e₁ = nil-right (atNumbers 3 beyond (numbersOf (draw w))) _ e in
-    let e₂ = nil-right (atCommand 4 (zeroScale (draw w)) p) _ e₁ in
-    let e₃ = nil-right (atNumbers 5 (λ z. not (whole s z)) (distances (draw w))) _ e₂ in
-    let e₄ = nil-right (atNumbers 6 (λ z. beyond (scaled s z)) (distances (draw w))) _ e₃ in
-    let e₅ = nil-right (atCommand 7 (degenerate s (draw w)) p) _ e₄ in
-    let e₆ = nil-right (atCommand 8 (layerless s (draw w)) p) _ e₅ in
-    let seven : degenerate s (draw w) ≡ false = not-at 7 p _ (nil-left (atCommand 7 (degenerate s (draw w)) p) _ e₄) in
-    let eight : layerless s (draw w) ≡ false = not-at 8 p _ (nil-left (atCommand 8 (layerless s (draw w)) p) _ e₅) in
-    let nine : tooMany (draw w) ≡ false = not-at 9 p _ e₆ in (
+    let e₁ = nil-right (atNumbers numberTooLarge beyond (numbersOf (draw w))) _ e in
+    let e₂ = nil-right (atCommand zeroFactor (zeroScale (draw w)) p) _ e₁ in
+    let e₃ = nil-right (atNumbers notWhole (λ z. not (whole s z)) (distances (draw w))) _ e₂ in
+    let e₄ = nil-right (atNumbers scaledTooLarge (λ z. beyond (scaled s z)) (distances (draw w))) _ e₃ in
+    let e₅ = nil-right (atCommand degenerateCommand (degenerate s (draw w)) p) _ e₄ in
+    let e₆ = nil-right (atCommand noLayer (layerless s (draw w)) p) _ e₅ in
+    let seven : degenerate s (draw w) ≡ false = not-at degenerateCommand p _ (nil-left (atCommand degenerateCommand (degenerate s (draw w)) p) _ e₄) in
+    let eight : layerless s (draw w) ≡ false = not-at noLayer p _ (nil-left (atCommand noLayer (layerless s (draw w)) p) _ e₅) in
+    let nine : tooMany (draw w) ≡ false = not-at tooManyParts p _ e₆ in (
       record {
         formed = formed-scaled s w y;
         fit = fit-step s p (draw w) e .0;
@@ -164,10 +166,10 @@ good-step s p (draw w) x y e =
       tt,
     )
   where
-    few-of : tooMany (draw w) ≡ false → ltb 1024 (length (scaledShape s w .points)) ≡ false
+    few-of : tooMany (draw w) ≡ false → ltb mostPoints (length (scaledShape s w .points)) ≡ false
     few-of z =
-        let q : ltb 1024 (length (scaledShape s w .points)) ≡ ltb 1024 (length (w .points)) = unfold scaledShape in ap (λ (n : ℕ). ltb 1024 n) (length-map (scaledPoint s) (w .points)) in
-        q ∙ or-first (ltb 1024 (length (w .points))) _ (or-first (ltb 1024 (length (w .points)) || false) _ z)
+        let q : ltb mostPoints (length (scaledShape s w .points)) ≡ ltb mostPoints (length (w .points)) = unfold scaledShape in ap (λ (n : ℕ). ltb mostPoints n) (length-map (scaledPoint s) (w .points)) in
+        q ∙ or-first (ltb mostPoints (length (w .points))) _ (or-first (ltb mostPoints (length (w .points)) || false) _ z)
 good-step s p (call n ts) x y e = (tt, tt)
 good-step s p (layer l) x y e = (tt, tt)
 good-step s p (start n a b) x y e = tt
@@ -183,9 +185,9 @@ all-good m k e =
     Kept.kept Good Good (λ ts l k g e. good-moved ts l k g) Stands Made stands good-step (outside []) (commands 0 m) (record { now-name = no-name; outer-name = no-name }) (all-made k)
     (no-fault (allFaults (outside []) (commands 0 m)) e)
 
-pub near : (z : ℤ) → beyond z ≡ false → natAbs z ≤ 16777215
+pub near : (z : ℤ) → beyond z ≡ false → natAbs z ≤ largest
 unfolding beyond
-near z e = ltb-false 16777215 (natAbs z) e
+near z e = ltb-false largest (natAbs z) e
 
 sizes-near : (zs : List ℤ) → All Fits zs → InRange zs
 unfolding All InRange

@@ -13,8 +13,9 @@ use lib.IntN.{ℤ, pos, natAbs}
 use lib.ListN.{length}
 use Rattle.grammar.specs.Notation.{Letter}
 use Rattle.grammar.specs.Viable.{Marked}
-use Rattle.definition.specs.Words.{Point, any}
-use Rattle.definition.specs.Commands.{Shape, commands}
+use Rattle.definition.specs.Limits.{largest, mostPoints}
+use Rattle.definition.specs.Words.{Placed, Point, any}
+use Rattle.definition.specs.Commands.{Shape, Command, commands}
 use Rattle.definition.specs.Faults.{beyond, both, zero?, nowhere, least, emptyShape, firstFault}
 use Rattle.definition.specs.Drawing.{Drawn, Event}
 use Rattle.definition.specs.Counts.{Counts, shapesOf}
@@ -27,7 +28,7 @@ use Rattle.laws.proofs.FlatFile.Said.{Good, or-first, or-second, all-bo
 use Rattle.laws.proofs.FlatFile.Flattened.{reading, all-sayable}
 
 abbrev pub Near : ℤ → Type 0
-Near z = natAbs z ≤ 16777215
+Near z = natAbs z ≤ largest
 
 abbrev pub NearPoint : Point ℤ → Type 0
 NearPoint p = Near (p .x) × Near (p .y)
@@ -37,7 +38,7 @@ pub record Size (z : ℤ) : Type 0 where
   pub value : ℕ
   pub unsigned : z ≡ pos value
   pub some : 0 < value
-  pub near : value ≤ 16777215
+  pub near : value ≤ largest
 
 -- a direction of a box: not (0, 0)
 pub record Direction (d : Point ℤ) : Type 0 where
@@ -50,7 +51,7 @@ pub record Sound (d : Drawn) : Type 0 where
   pub points : All NearPoint (d .itself .points)
   pub directions : All Direction (d .itself .directions)
   pub enough-points : least (d .itself .kind) ≤ length (d .itself .points)  -- 3 for a polygon, or else 1
-  pub few-points : length (d .itself .points) ≤ 1024
+  pub few-points : length (d .itself .points) ≤ mostPoints
   pub some-name : 0 < length (d .layer-of)
   pub short-name : length (d .layer-of) ≤ 4
   pub name-chars : All NameChar (d .layer-of)  -- digits and upper-case letters
@@ -82,7 +83,7 @@ unsigned-sizes k (a-polygon ps) = tt
 a-size : (z : ℤ) → Unsigned z → Fits z × (zero? z ≡ false) → Size z
 unfolding Unsigned
 a-size z (n, e) (f, g) =
-    let h : natAbs z ≤ 16777215 = near z f in
+    let h : natAbs z ≤ largest = near z f in
     let q : ¬ (natAbs z ≡ 0) = eqb-false (natAbs z) 0 g in
     let v : natAbs z ≡ n = ap natAbs e in
     record { value = n; unsigned = e; some = omega arith; near = omega arith }
@@ -109,7 +110,7 @@ sound-by d (g, w) =
       directions = all-both Fits₂ (λ p. nowhere p ≡ false) Direction a-direction (k .directions) (g .fit .1)
           (none-of nowhere (k .directions) (or-second (any zero? (k .sizes)) _ (or-first _ _ full)));
       enough-points = ltb-false (length (k .points)) (least (k .kind)) (or-second (any zero? (k .sizes) || any nowhere (k .directions)) _ full);
-      few-points = ltb-false 1024 (length (k .points)) (g .few);
+      few-points = ltb-false mostPoints (length (k .points)) (g .few);
       some-name = s .some-name;
       short-name = s .short-name;
       name-chars = s .name-chars;
@@ -120,6 +121,6 @@ pub sound-drawing : {t : List ℕ} {m : List Letter} → Marked t m → firstFau
 sound-drawing {t} {m} k e = all-to _ Sound sound-by (shapesOf (drawingOf (commands 0 m))) (all-sayable k e)
 
 -- every shape that an accepted text draws is sound
-pub all-sound : {t : List ℕ} {room : ℕ} {c : Counts} {es : List Event} → Answers t room (accepted c es) → All Sound (shapesOf es)
+pub all-sound : {t : List ℕ} {room : ℕ} {cs : List (Placed Command)} {c : Counts} {es : List Event} → Answers t room (accepted cs c es) → All Sound (shapesOf es)
 all-sound k =
     let r = reading k in subst (λ (y : List Event). All Sound (shapesOf y)) (sym (r .as-read .is-story)) (sound-drawing (r .marked) (r .as-read .no-fault))

@@ -11,7 +11,8 @@ use Rattle.grammar.specs.Notation.{Role, Letter, dec, Role-discrete, head, seco
 use Rattle.definition.specs.Words.{if_then_else_, Placed, at, Point}
 use Rattle.definition.specs.Commands.{Turn, Command, start, worth, numbers, named, next, turnAt, turns, commandAt, commands, _plays_}
 use Rattle.definition.specs.Standing.{Standing, outside, after}
-use Rattle.definition.specs.Faults.{Refusal, faults, allFaults}
+use Rattle.definition.specs.declared.Refusal.{Refusal}
+use Rattle.definition.specs.Faults.{faults, allFaults}
 use Rattle.definition.specs.Turns.{inOrder}
 use Rattle.definition.specs.Table.{Step, Table}
 use Rattle.definition.specs.Drawing.{stepOf, retained, Deed, deedOf, deeds, Chain, Event, drawStep, drawBody, happens, tableAfter, story, Drawn}
@@ -49,12 +50,12 @@ story-++ t (d ∷ a) b =
 goOn-goOn : (e : End) (f g : Counts → End) → goOn e (λ c. goOn (f c) g) ≡ goOn (goOn e f) g
 unfolding goOn
 goOn-goOn (finished c) f g = refl
-goOn-goOn (stopped n p chain) f g = refl
+goOn-goOn (stopped r chain) f g = refl
 
 goOn-ap : (e : End) (f g : Counts → End) → ((c : Counts) → f c ≡ g c) → goOn e f ≡ goOn e g
 unfolding goOn
 goOn-ap (finished c) f g h = h c
-goOn-ap (stopped n p chain) f g h = refl
+goOn-ap (stopped r chain) f g h = refl
 
 -- a drawing that finished goes on from its counts
 pub ending-++ : (c : Counts) (a b : List Event) → ending c (a ++ b) ≡ goOn (ending c a) (λ c′. ending c′ b)
@@ -71,7 +72,7 @@ shapesOf-++ (drew d ∷ a) b = ap (λ (x : List Drawn). d ∷ x) (shapesOf-++ a 
 shapesOf-++ (called p chain d ∷ a) b = shapesOf-++ a b
 shapesOf-++ (entered d before ∷ a) b = shapesOf-++ a b
 shapesOf-++ (removed n before ∷ a) b = shapesOf-++ a b
-shapesOf-++ (refused n p chain ∷ a) b = shapesOf-++ a b
+shapesOf-++ (refused r chain ∷ a) b = shapesOf-++ a b
 
 -- what stands after a list of commands
 unfoldable pub standing : Standing → List (Placed Command) → Standing

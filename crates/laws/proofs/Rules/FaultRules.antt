@@ -15,13 +15,17 @@ use lib.IntN.{ℤ, pos, negsuc, natAbs}
 use lib.ListN.{length}
 use Rattle.grammar.specs.Notation.{Letter}
 use Rattle.grammar.specs.Viable.{bytes, Marked}
+use Rattle.definition.specs.declared.Refusal.{Refusal}
+use Rattle.definition.specs.Limits.{largest, mostPoints, mostTurns}
+use Rattle.definition.specs.Rules.{Rule, numberTooLarge, zeroFactor, notWhole, scaledTooLarge, degenerateCommand, noLayer, tooManyParts, refuse, order, rankIn, rank, Earlier}
 use Rattle.definition.specs.Words.{if_then_else_, Placed, at, Point, any, those, first}
 use Rattle.definition.specs.Commands.{Number, Kind, box, flash, wire, polygon, Shape, Turn, translate, mirrorX, mirrorY, rotate}
 use Rattle.definition.specs.Commands.{Command, draw, layer, call, start, finish, delete, nothing, commands}
 use Rattle.definition.specs.Standing.{Standing, outside, after, scaled, whole, given, scaledPoint, scaledShape}
 use Rattle.definition.specs.Faults.{beyond, zero?, partsOf, bearings, distances, numbersOf, zeroScale, nowhere, least, emptyShape, degenerate, layerless, tooMany}
-use Rattle.definition.specs.Faults.{Refusal, atNumbers, atCommand, faults, allFaults, firstFault}
+use Rattle.definition.specs.Faults.{atNumbers, atCommand, faults, allFaults, firstFault}
 use Rattle.laws.proofs.Lists.Range.{All, all-++}
+use Rattle.laws.proofs.Rules.Order.{ByCommand, one-rank, one-rule}
 use Rattle.laws.proofs.Commands.Sizes.{abs-neg, nil-left, nil-right, all-right, no-fault, all-left}
 use Rattle.laws.proofs.FlatFile.Said.{length-map, all-both}
 use Rattle.laws.proofs.Commands.NumberPlaces.{Rising, done, idle, stands, Small, Null, Stands, commands-stand}
@@ -42,25 +46,25 @@ pub record Nowhere (q : Point Number) : Type 0 where
   pub no-y : natAbs (q .y .what) ≡ 0
 
 -- 01, "Numbers a refusal carries": the command c breaks, where s stands, the rule of this row at this place
-pub data Breaks (s : Standing) (c : Placed Command) : (number place : ℕ) → Type 0 where
+pub data Breaks (s : Standing) (c : Placed Command) : Rule → (place : ℕ) → Type 0 where
   -- a number beyond 16,777,215; its minus sign or first digit
-  number-beyond : (d : Number) → d ∈ numbersOf (c .what) → 16777215 < natAbs (d .what) → Breaks s c 3 (d .place)
+  number-beyond : (d : Number) → d ∈ numbersOf (c .what) → largest < natAbs (d .what) → Breaks s c numberTooLarge (d .place)
   -- a or b is 0; the DS
-  zero-factor : (symbol a b : Number) → c .what ≡ start symbol a b → (natAbs (a .what) ≡ 0) ⊎ (natAbs (b .what) ≡ 0) → Breaks s c 4 (c .place)
+  zero-factor : (symbol a b : Number) → c .what ≡ start symbol a b → (natAbs (a .what) ≡ 0) ⊎ (natAbs (b .what) ≡ 0) → Breaks s c zeroFactor (c .place)
   -- scaled distance not whole; that number
-  not-whole : (d : Number) → d ∈ distances (c .what) → (s .a * natAbs (d .what) % s .b ≡ 0 → ⊥) → Breaks s c 5 (d .place)
+  not-whole : (d : Number) → d ∈ distances (c .what) → (s .a * natAbs (d .what) % s .b ≡ 0 → ⊥) → Breaks s c notWhole (d .place)
   -- scaled distance beyond 16,777,215; that number
-  scaled-beyond : (d : Number) → d ∈ distances (c .what) → 16777215 < Scaled s d → Breaks s c 6 (d .place)
+  scaled-beyond : (d : Number) → d ∈ distances (c .what) → largest < Scaled s d → Breaks s c scaledTooLarge (d .place)
   -- zero length, width or diameter; direction (0, 0) of a box or an R; polygon under 3 points; the command
-  zero-size : (k : Shape Number) (d : Number) → c .what ≡ draw k → d ∈ k .sizes → Scaled s d ≡ 0 → Breaks s c 7 (c .place)
-  zero-direction : (k : Shape Number) (q : Point Number) → c .what ≡ draw k → q ∈ k .directions → Nowhere q → Breaks s c 7 (c .place)
-  zero-turn : (symbol : Number) (ts : List (Turn Number)) (q : Point Number) → c .what ≡ call symbol ts → rotate q ∈ ts → Nowhere q → Breaks s c 7 (c .place)
-  few-points : (k : Shape Number) → c .what ≡ draw k → k .kind ≡ polygon → length (k .points) < 3 → Breaks s c 7 (c .place)
+  zero-size : (k : Shape Number) (d : Number) → c .what ≡ draw k → d ∈ k .sizes → Scaled s d ≡ 0 → Breaks s c degenerateCommand (c .place)
+  zero-direction : (k : Shape Number) (q : Point Number) → c .what ≡ draw k → q ∈ k .directions → Nowhere q → Breaks s c degenerateCommand (c .place)
+  zero-turn : (symbol : Number) (ts : List (Turn Number)) (q : Point Number) → c .what ≡ call symbol ts → rotate q ∈ ts → Nowhere q → Breaks s c degenerateCommand (c .place)
+  few-points : (k : Shape Number) → c .what ≡ draw k → k .kind ≡ polygon → length (k .points) < 3 → Breaks s c degenerateCommand (c .place)
   -- shape with no layer set; the command
-  no-layer : (k : Shape Number) → c .what ≡ draw k → s .layer-set ≡ [] → Breaks s c 8 (c .place)
+  no-layer : (k : Shape Number) → c .what ≡ draw k → s .layer-set ≡ [] → Breaks s c noLayer (c .place)
   -- over 1,024 points or 32 transformations; the command
-  many-points : (k : Shape Number) → c .what ≡ draw k → 1024 < length (k .points) → Breaks s c 9 (c .place)
-  many-turns : (symbol : Number) (ts : List (Turn Number)) → c .what ≡ call symbol ts → 32 < length ts → Breaks s c 9 (c .place)
+  many-points : (k : Shape Number) → c .what ≡ draw k → mostPoints < length (k .points) → Breaks s c tooManyParts (c .place)
+  many-turns : (symbol : Number) (ts : List (Turn Number)) → c .what ≡ call symbol ts → mostTurns < length ts → Breaks s c tooManyParts (c .place)
 
 -- what stands behind commands
 abbrev pub standing : Standing → List (Placed Command) → Standing
@@ -71,22 +75,22 @@ standing s (c ∷ cs) = standing (after (c .what) s) cs
 abbrev pub UnbrokenFrom : Standing → List (Placed Command) → Type 0
 UnbrokenFrom s cs =
     (before : List (Placed Command)) (c : Placed Command) (behind : List (Placed Command)) → cs ≡ before ++ (c ∷ behind)
-    → (number place : ℕ) → Breaks (standing s before) c number place → ⊥
+    → (r : Rule) (place : ℕ) → Breaks (standing s before) c r place → ⊥
 
 -- 01, order: for all commands in text order, within a command by number, within a number by place
-pub record FirstBreakFrom (s : Standing) (cs : List (Placed Command)) (number place : ℕ) : Type 0 where
+pub record FirstBreakFrom (s : Standing) (cs : List (Placed Command)) (rule : Rule) (place : ℕ) : Type 0 where
   pub before : List (Placed Command)
   pub command : Placed Command
   pub behind : List (Placed Command)
   pub split : cs ≡ before ++ (command ∷ behind)
-  pub breaks : Breaks (standing s before) command number place
+  pub breaks : Breaks (standing s before) command rule place
   pub none-before : UnbrokenFrom s before
-  pub none-lower : (n p : ℕ) → n < number → Breaks (standing s before) command n p → ⊥
-  pub none-nearer : (p : ℕ) → p < place → Breaks (standing s before) command number p → ⊥
+  pub none-earlier : (r : Rule) (p : ℕ) → Earlier r rule → Breaks (standing s before) command r p → ⊥
+  pub none-nearer : (p : ℕ) → p < place → Breaks (standing s before) command rule p → ⊥
 
 -- a text's commands begin outside definitions, with no layer set
-abbrev pub FirstBreak : List (Placed Command) → (number place : ℕ) → Type 0
-FirstBreak cs number place = FirstBreakFrom (outside []) cs number place
+abbrev pub FirstBreak : List (Placed Command) → Rule → (place : ℕ) → Type 0
+FirstBreak cs rule place = FirstBreakFrom (outside []) cs rule place
 
 abbrev pub Unbroken : List (Placed Command) → Type 0
 Unbroken cs = UnbrokenFrom (outside []) cs
@@ -134,26 +138,26 @@ module _ {A : Type 0} where
   all-member P (List·Memᴰ·head e) x = subst P (sym e) (x .0)
   all-member P (List·Memᴰ·tail m) x = all-member P m (x .1)
 
--- ---- refusals of one number
+-- ---- refusals by one rule
 
 -- the refusal for a number that fails; and the numbers that the refusals are for
-number-refused : (n : ℕ) (t : ℤ → Bool) {d : Number} {ds : List Number} → d ∈ ds → t (d .what) ≡ true → at (d .place) n ∈ atNumbers n t ds
+number-refused : (r : Rule) (t : ℤ → Bool) {d : Number} {ds : List Number} → d ∈ ds → t (d .what) ≡ true → refuse r (d .place) ∈ atNumbers r t ds
 unfolding atNumbers those
-number-refused n t {d} (List·Memᴰ·head {x} {xs} e) h = rw (ap (λ (y : Number). t (y .what)) (sym e) ∙ h) (List·Memᴰ·head (ap (λ (y : Number). at (y .place) n) e))
-number-refused n t {d} (List·Memᴰ·tail {x} {xs} m) h = go (t (x .what)) (number-refused n t m h)
+number-refused r t {d} (List·Memᴰ·head {x} {xs} e) h = rw (ap (λ (y : Number). t (y .what)) (sym e) ∙ h) (List·Memᴰ·head (ap (λ (y : Number). refuse r (y .place)) e))
+number-refused r t {d} (List·Memᴰ·tail {x} {xs} m) h = go (t (x .what)) (number-refused r t m h)
   where
-    go : (b : Bool) → at (d .place) n ∈ map (λ y. at (y .place) n) (those (λ y. t (y .what)) xs)
-        → at (d .place) n ∈ map (λ y. at (y .place) n) (if b then x ∷ those (λ y. t (y .what)) xs else those (λ y. t (y .what)) xs)
+    go : (b : Bool) → refuse r (d .place) ∈ map (λ y. refuse r (y .place)) (those (λ y. t (y .what)) xs)
+        → refuse r (d .place) ∈ map (λ y. refuse r (y .place)) (if b then x ∷ those (λ y. t (y .what)) xs else those (λ y. t (y .what)) xs)
     go true i = List·Memᴰ·tail i
     go false i = i
 
-record Failing (t : ℤ → Bool) (ds : List Number) (n : ℕ) (r : Refusal) : Type 0 where
+record Failing (t : ℤ → Bool) (ds : List Number) (n : Rule) (r : Refusal) : Type 0 where
   number : Number
   among : number ∈ ds
   fails : t (number .what) ≡ true
-  same : r ≡ at (number .place) n
+  same : r ≡ refuse n (number .place)
 
-refused-number : (n : ℕ) (t : ℤ → Bool) (ds : List Number) {r : Refusal} → r ∈ atNumbers n t ds → Failing t ds n r
+refused-number : (n : Rule) (t : ℤ → Bool) (ds : List Number) {r : Refusal} → r ∈ atNumbers n t ds → Failing t ds n r
 unfolding atNumbers those
 refused-number n t [] m = absurd (List·Memᴰ·not-nil m)
 refused-number n t (x ∷ ds) {r} m = go (t (x .what)) refl (λ m′. refused-number n t ds m′) m
@@ -161,20 +165,20 @@ refused-number n t (x ∷ ds) {r} m = go (t (x .what)) refl (λ m′. refused-nu
     further : Failing t ds n r → Failing t (x ∷ ds) n r
     further f = record { number = f .number; among = List·Memᴰ·tail (f .among); fails = f .fails; same = f .same }
 
-    split : t (x .what) ≡ true → (r ∈ atNumbers n t ds → Failing t ds n r) → (r ≡ at (x .place) n) ⊎ (r ∈ atNumbers n t ds) → Failing t (x ∷ ds) n r
+    split : t (x .what) ≡ true → (r ∈ atNumbers n t ds → Failing t ds n r) → (r ≡ refuse n (x .place)) ⊎ (r ∈ atNumbers n t ds) → Failing t (x ∷ ds) n r
     split e f (inl h) = record { number = x; among = List·Memᴰ·head refl; fails = e; same = h }
     split e f (inr h) = further (f h)
 
     go : (b : Bool) → t (x .what) ≡ b → (r ∈ atNumbers n t ds → Failing t ds n r)
-        → r ∈ map (λ y. at (y .place) n) (if b then x ∷ those (λ y. t (y .what)) ds else those (λ y. t (y .what)) ds) → Failing t (x ∷ ds) n r
+        → r ∈ map (λ y. refuse n (y .place)) (if b then x ∷ those (λ y. t (y .what)) ds else those (λ y. t (y .what)) ds) → Failing t (x ∷ ds) n r
     go true e f i = split e f (List·Memᴰ·cases-cons i)
     go false e f i = further (f i)
 
-command-refused : (n p : ℕ) (b : Bool) → b ≡ true → at p n ∈ atCommand n b p
+command-refused : (n : Rule) (p : ℕ) (b : Bool) → b ≡ true → refuse n p ∈ atCommand n b p
 command-refused n p true e = List·Memᴰ·head refl
 command-refused n p false e = false≢true e
 
-refused-command : (n p : ℕ) (b : Bool) {r : Refusal} → r ∈ atCommand n b p → (b ≡ true) × (r ≡ at p n)
+refused-command : (n : Rule) (p : ℕ) (b : Bool) {r : Refusal} → r ∈ atCommand n b p → (b ≡ true) × (r ≡ refuse n p)
 refused-command n p true m = (refl, List·Memᴰ·eq-of-singleton m)
 refused-command n p false m = absurd (List·Memᴰ·not-nil m)
 
@@ -220,15 +224,15 @@ empty-list (a ∷ l) e = absurd (omega arith)
 -- ---- a refusal stands for a rule broken
 
 module _ (s : Standing) (p : ℕ) where
-  zero-scale-broken : (w : Command) → zeroScale w ≡ true → Breaks s (at p w) 4 p
+  zero-scale-broken : (w : Command) → zeroScale w ≡ true → Breaks s (at p w) zeroFactor p
   unfolding zeroScale partsOf any
   zero-scale-broken (start n a b) e = go (or-true (zero? (a .what)) (zero? (b .what) || false) e)
     where
-      go : (zero? (a .what) ≡ true) ⊎ ((zero? (b .what) || false) ≡ true) → Breaks s (at p (start n a b)) 4 p
+      go : (zero? (a .what) ≡ true) ⊎ ((zero? (b .what) || false) ≡ true) → Breaks s (at p (start n a b)) zeroFactor p
       go (inl h) = zero-factor n a b refl (inl (eqb-true (natAbs (a .what)) 0 h))
       go (inr h) = last (or-true (zero? (b .what)) false h)
         where
-          last : (zero? (b .what) ≡ true) ⊎ (false ≡ true) → Breaks s (at p (start n a b)) 4 p
+          last : (zero? (b .what) ≡ true) ⊎ (false ≡ true) → Breaks s (at p (start n a b)) zeroFactor p
           last (inl i) = zero-factor n a b refl (inr (eqb-true (natAbs (b .what)) 0 i))
           last (inr i) = false≢true i
   zero-scale-broken (draw k) e = false≢true e
@@ -243,33 +247,33 @@ module _ (s : Standing) (p : ℕ) where
       let h = and-true (zero? (q .x .what)) (zero? (q .y .what)) e in
       record { no-x = eqb-true (natAbs (q .x .what)) 0 (h .0); no-y = eqb-true (natAbs (q .y .what)) 0 (h .1) }
 
-  few-broken : (k : Shape Number) → (k .kind ≡ polygon) ⊎ (0 < length (k .points)) → length (k .points) < least (k .kind) → Breaks s (at p (draw k)) 7 p
+  few-broken : (k : Shape Number) → (k .kind ≡ polygon) ⊎ (0 < length (k .points)) → length (k .points) < least (k .kind) → Breaks s (at p (draw k)) degenerateCommand p
   unfolding least
   few-broken k (inl g) h = few-points k refl g (subst (λ (x : Kind). length (k .points) < least x) g h)
   few-broken k (inr g) h = go (k .kind) refl h
     where
-      go : (x : Kind) → k .kind ≡ x → length (k .points) < least x → Breaks s (at p (draw k)) 7 p
+      go : (x : Kind) → k .kind ≡ x → length (k .points) < least x → Breaks s (at p (draw k)) degenerateCommand p
       go polygon e i = few-points k refl e i
       go box e i = absurd (omega arith)
       go flash e i = absurd (omega arith)
       go wire e i = absurd (omega arith)
 
-  empty-broken : (k : Shape Number) → (k .kind ≡ polygon) ⊎ (0 < length (k .points)) → emptyShape (scaledShape s k) ≡ true → Breaks s (at p (draw k)) 7 p
+  empty-broken : (k : Shape Number) → (k .kind ≡ polygon) ⊎ (0 < length (k .points)) → emptyShape (scaledShape s k) ≡ true → Breaks s (at p (draw k)) degenerateCommand p
   unfolding emptyShape scaledShape
   empty-broken k f e = either (or-true _ _ e)
     where
-      sized : (d : Number) × (d ∈ k .sizes) × (zero? (scaled s (d .what)) ≡ true) → Breaks s (at p (draw k)) 7 p
+      sized : (d : Number) × (d ∈ k .sizes) × (zero? (scaled s (d .what)) ≡ true) → Breaks s (at p (draw k)) degenerateCommand p
       sized r = zero-size k (r .0) refl (r .1) (sym (abs-scaled s (r .0 .what)) ∙ eqb-true (natAbs (scaled s (r .0 .what))) 0 (r .2))
 
-      aimed : (q : Point Number) × (q ∈ k .directions) × (nowhere (given q) ≡ true) → Breaks s (at p (draw k)) 7 p
+      aimed : (q : Point Number) × (q ∈ k .directions) × (nowhere (given q) ≡ true) → Breaks s (at p (draw k)) degenerateCommand p
       aimed r = zero-direction k (r .0) refl (r .1) (nowhere-at (r .0) (r .2))
 
-      number : (any zero? (map (λ d. scaled s (d .what)) (k .sizes)) ≡ true) ⊎ (any nowhere (map given (k .directions)) ≡ true) → Breaks s (at p (draw k)) 7 p
+      number : (any zero? (map (λ d. scaled s (d .what)) (k .sizes)) ≡ true) ⊎ (any nowhere (map given (k .directions)) ≡ true) → Breaks s (at p (draw k)) degenerateCommand p
       number (inl h) = sized (any-found (λ d. zero? (scaled s (d .what))) (k .sizes) (sym (any-map zero? (λ (d : Number). scaled s (d .what)) (k .sizes)) ∙ h))
       number (inr h) = aimed (any-found (λ q. nowhere (given q)) (k .directions) (sym (any-map nowhere given (k .directions)) ∙ h))
 
       either : ((any zero? (map (λ d. scaled s (d .what)) (k .sizes)) || any nowhere (map given (k .directions))) ≡ true)
-          ⊎ (ltb (length (map (scaledPoint s) (k .points))) (least (k .kind)) ≡ true) → Breaks s (at p (draw k)) 7 p
+          ⊎ (ltb (length (map (scaledPoint s) (k .points))) (least (k .kind)) ≡ true) → Breaks s (at p (draw k)) degenerateCommand p
       either (inl h) = number (or-true _ _ h)
       either (inr h) = few-broken k f (subst (λ (n : ℕ). n < least (k .kind)) (length-map (scaledPoint s) (k .points)) (ltb-true _ _ h))
 
@@ -278,45 +282,45 @@ module _ (s : Standing) (p : ℕ) where
   unfolding Pathed
   drawn-pathed f e = subst Pathed e f
 
-  degenerate-broken : (w : Command) → Pathed w → degenerate s w ≡ true → Breaks s (at p w) 7 p
+  degenerate-broken : (w : Command) → Pathed w → degenerate s w ≡ true → Breaks s (at p w) degenerateCommand p
   unfolding degenerate
   degenerate-broken w f e = go (or-true _ _ e)
     where
-      emptied : (k : Shape Number) × (k ∈ partsOf w .shapes) × (emptyShape (scaledShape s k) ≡ true) → Breaks s (at p w) 7 p
+      emptied : (k : Shape Number) × (k ∈ partsOf w .shapes) × (emptyShape (scaledShape s k) ≡ true) → Breaks s (at p w) degenerateCommand p
       emptied r =
           let d = shape-drawn w (r .1) in
-          subst (λ (x : Command). Breaks s (at p x) 7 p) (sym d) (empty-broken (r .0) (drawn-pathed f d) (r .2))
+          subst (λ (x : Command). Breaks s (at p x) degenerateCommand p) (sym d) (empty-broken (r .0) (drawn-pathed f d) (r .2))
 
-      aimed : (t : Turn Number) → t ∈ partsOf w .turns → (q : Point Number) × (q ∈ bearings t) × (nowhere (given q) ≡ true) → (partsOf w .turns ≡ []) ⊎ ((n : Number) × (w ≡ call n (partsOf w .turns))) → Breaks s (at p w) 7 p
+      aimed : (t : Turn Number) → t ∈ partsOf w .turns → (q : Point Number) × (q ∈ bearings t) × (nowhere (given q) ≡ true) → (partsOf w .turns ≡ []) ⊎ ((n : Number) × (w ≡ call n (partsOf w .turns))) → Breaks s (at p w) degenerateCommand p
       aimed t m r (inl h) = absurd (List·Memᴰ·not-nil (subst (List·Memᴰ t) h m))
       aimed t m r (inr h) = zero-turn (h .0) (partsOf w .turns) (r .0) (h .1) (Memᴰ·cast (sym (bearing-turned t (r .1))) m) (nowhere-at (r .0) (r .2))
 
-      turned : (t : Turn Number) × (t ∈ partsOf w .turns) × (any (λ d. nowhere (given d)) (bearings t) ≡ true) → Breaks s (at p w) 7 p
+      turned : (t : Turn Number) × (t ∈ partsOf w .turns) × (any (λ d. nowhere (given d)) (bearings t) ≡ true) → Breaks s (at p w) degenerateCommand p
       turned r = aimed (r .0) (r .1) (any-found _ _ (r .2)) (turns-called w)
 
-      go : (any (λ k. emptyShape (scaledShape s k)) (partsOf w .shapes) ≡ true) ⊎ (any (λ t. any (λ d. nowhere (given d)) (bearings t)) (partsOf w .turns) ≡ true) → Breaks s (at p w) 7 p
+      go : (any (λ k. emptyShape (scaledShape s k)) (partsOf w .shapes) ≡ true) ⊎ (any (λ t. any (λ d. nowhere (given d)) (bearings t)) (partsOf w .turns) ≡ true) → Breaks s (at p w) degenerateCommand p
       go (inl h) = emptied (any-found _ _ h)
       go (inr h) = turned (any-found _ _ h)
 
-  layerless-broken : (w : Command) → layerless s w ≡ true → Breaks s (at p w) 8 p
+  layerless-broken : (w : Command) → layerless s w ≡ true → Breaks s (at p w) noLayer p
   unfolding layerless
   layerless-broken w e =
       let r = any-found (λ (k : Shape Number). eqb (length (s .layer-set)) 0) (partsOf w .shapes) e in
       no-layer (r .0) (shape-drawn w (r .1)) (empty-list (s .layer-set) (eqb-true (length (s .layer-set)) 0 (r .2)))
 
-  too-many-broken : (w : Command) → tooMany w ≡ true → Breaks s (at p w) 9 p
+  too-many-broken : (w : Command) → tooMany w ≡ true → Breaks s (at p w) tooManyParts p
   unfolding tooMany
   too-many-broken w e = go (or-true _ _ e)
     where
-      long : 32 < length (partsOf w .turns) → (partsOf w .turns ≡ []) ⊎ ((n : Number) × (w ≡ call n (partsOf w .turns))) → Breaks s (at p w) 9 p
+      long : mostTurns < length (partsOf w .turns) → (partsOf w .turns ≡ []) ⊎ ((n : Number) × (w ≡ call n (partsOf w .turns))) → Breaks s (at p w) tooManyParts p
       long h (inl i) = absurd (omega (arith, ap length i))
       long h (inr i) = many-turns (i .0) (partsOf w .turns) (i .1) h
 
-      go : (any (λ (k : Shape Number). ltb 1024 (length (k .points))) (partsOf w .shapes) ≡ true) ⊎ (ltb 32 (length (partsOf w .turns)) ≡ true) → Breaks s (at p w) 9 p
+      go : (any (λ (k : Shape Number). ltb mostPoints (length (k .points))) (partsOf w .shapes) ≡ true) ⊎ (ltb mostTurns (length (partsOf w .turns)) ≡ true) → Breaks s (at p w) tooManyParts p
       go (inl h) =
-          let r = any-found (λ (k : Shape Number). ltb 1024 (length (k .points))) (partsOf w .shapes) h in
-          many-points (r .0) (shape-drawn w (r .1)) (ltb-true 1024 (length (r .0 .points)) (r .2))
-      go (inr h) = long (ltb-true 32 (length (partsOf w .turns)) h) (turns-called w)
+          let r = any-found (λ (k : Shape Number). ltb mostPoints (length (k .points))) (partsOf w .shapes) h in
+          many-points (r .0) (shape-drawn w (r .1)) (ltb-true mostPoints (length (r .0 .points)) (r .2))
+      go (inr h) = long (ltb-true mostTurns (length (partsOf w .turns)) h) (turns-called w)
 
 -- a member of two lists joined is one of the first, or of the second
 parted : {A P : Type 0} {a : A} (l : List A) {k : List A} → (a ∈ l → P) → (a ∈ k → P) → a ∈ (l ++ k) → P
@@ -328,50 +332,50 @@ parted {A} {P} {a} l {k} f g m = go (List·Memᴰ·append-cases l m)
 
 module _ (s : Standing) (c : Placed Command) where
   abbrev Broken : Refusal → Type 0
-  Broken r = Breaks s c (r .what) (r .place)
+  Broken r = (rule : Rule) × (r ≡ refuse rule (r .place)) × Breaks s c rule (r .place)
 
   broken : Pathed (c .what) → {r : Refusal} → r ∈ faults s c → Broken r
   unfolding faults beyond whole
   broken f {r} m =
-      parted (atNumbers 3 beyond (numbersOf (c .what))) (at-number 3 beyond _ (λ d i e. number-beyond d i (ltb-true 16777215 (natAbs (d .what)) e)))
-      (parted (atCommand 4 (zeroScale (c .what)) (c .place)) (at-command 4 _ (zero-scale-broken s (c .place) (c .what)))
-      (parted (atNumbers 5 (λ d. not (whole s d)) (distances (c .what)))
-      (at-number 5 (λ d. not (whole s d)) _ (λ d i e. not-whole d i (eqb-false (s .a * natAbs (d .what) % s .b) 0 (not-true (whole s (d .what)) e))))
-      (parted (atNumbers 6 (λ d. beyond (scaled s d)) (distances (c .what)))
-      (at-number 6 (λ d. beyond (scaled s d)) _ (λ d i e. scaled-beyond d i (subst (λ (n : ℕ). 16777215 < n) (abs-scaled s (d .what)) (ltb-true 16777215 (natAbs (scaled s (d .what))) e))))
-      (parted (atCommand 7 (degenerate s (c .what)) (c .place)) (at-command 7 _ (degenerate-broken s (c .place) (c .what) f))
-      (parted (atCommand 8 (layerless s (c .what)) (c .place)) (at-command 8 _ (layerless-broken s (c .place) (c .what)))
-      (at-command 9 _ (too-many-broken s (c .place) (c .what)))))))) m
+      parted (atNumbers numberTooLarge beyond (numbersOf (c .what))) (at-number numberTooLarge beyond _ (λ d i e. number-beyond d i (ltb-true largest (natAbs (d .what)) e)))
+      (parted (atCommand zeroFactor (zeroScale (c .what)) (c .place)) (at-command zeroFactor _ (zero-scale-broken s (c .place) (c .what)))
+      (parted (atNumbers notWhole (λ d. not (whole s d)) (distances (c .what)))
+      (at-number notWhole (λ d. not (whole s d)) _ (λ d i e. not-whole d i (eqb-false (s .a * natAbs (d .what) % s .b) 0 (not-true (whole s (d .what)) e))))
+      (parted (atNumbers scaledTooLarge (λ d. beyond (scaled s d)) (distances (c .what)))
+      (at-number scaledTooLarge (λ d. beyond (scaled s d)) _ (λ d i e. scaled-beyond d i (subst (λ (n : ℕ). largest < n) (abs-scaled s (d .what)) (ltb-true largest (natAbs (scaled s (d .what))) e))))
+      (parted (atCommand degenerateCommand (degenerate s (c .what)) (c .place)) (at-command degenerateCommand _ (degenerate-broken s (c .place) (c .what) f))
+      (parted (atCommand noLayer (layerless s (c .what)) (c .place)) (at-command noLayer _ (layerless-broken s (c .place) (c .what)))
+      (at-command tooManyParts _ (too-many-broken s (c .place) (c .what)))))))) m
     where
-      at-number : (n : ℕ) (t : ℤ → Bool) (ds : List Number) → ((d : Number) → d ∈ ds → t (d .what) ≡ true → Breaks s c n (d .place)) → r ∈ atNumbers n t ds → Broken r
-      at-number n t ds g i = let h = refused-number n t ds i in subst Broken (sym (h .same)) (g (h .number) (h .among) (h .fails))
+      at-number : (n : Rule) (t : ℤ → Bool) (ds : List Number) → ((d : Number) → d ∈ ds → t (d .what) ≡ true → Breaks s c n (d .place)) → r ∈ atNumbers n t ds → Broken r
+      at-number n t ds g i = let h = refused-number n t ds i in subst Broken (sym (h .same)) (n, refl, g (h .number) (h .among) (h .fails))
 
-      at-command : (n : ℕ) (b : Bool) → (b ≡ true → Breaks s c n (c .place)) → r ∈ atCommand n b (c .place) → Broken r
-      at-command n b g i = let h = refused-command n (c .place) b i in subst Broken (sym (h .1)) (g (h .0))
+      at-command : (n : Rule) (b : Bool) → (b ≡ true → Breaks s c n (c .place)) → r ∈ atCommand n b (c .place) → Broken r
+      at-command n b g i = let h = refused-command n (c .place) b i in subst Broken (sym (h .1)) (n, refl, g (h .0))
 
   -- ---- and a rule broken has its refusal
 
-  -- the refusals of each number
+  -- the refusals by each rule
   abbrev threes : List Refusal
-  threes = atNumbers 3 beyond (numbersOf (c .what))
+  threes = atNumbers numberTooLarge beyond (numbersOf (c .what))
 
   abbrev fours : List Refusal
-  fours = atCommand 4 (zeroScale (c .what)) (c .place)
+  fours = atCommand zeroFactor (zeroScale (c .what)) (c .place)
 
   abbrev fives : List Refusal
-  fives = atNumbers 5 (λ d. not (whole s d)) (distances (c .what))
+  fives = atNumbers notWhole (λ d. not (whole s d)) (distances (c .what))
 
   abbrev sixes : List Refusal
-  sixes = atNumbers 6 (λ d. beyond (scaled s d)) (distances (c .what))
+  sixes = atNumbers scaledTooLarge (λ d. beyond (scaled s d)) (distances (c .what))
 
   abbrev sevens : List Refusal
-  sevens = atCommand 7 (degenerate s (c .what)) (c .place)
+  sevens = atCommand degenerateCommand (degenerate s (c .what)) (c .place)
 
   abbrev eights : List Refusal
-  eights = atCommand 8 (layerless s (c .what)) (c .place)
+  eights = atCommand noLayer (layerless s (c .what)) (c .place)
 
   abbrev nines : List Refusal
-  nines = atCommand 9 (tooMany (c .what)) (c .place)
+  nines = atCommand tooManyParts (tooMany (c .what)) (c .place)
 
   among-threes : {r : Refusal} → r ∈ threes → r ∈ faults s c
   unfolding faults
@@ -394,16 +398,16 @@ module _ (s : Standing) (c : Placed Command) where
   unfolding faults
   behind-sixes m = Memᴰ·append-right threes (Memᴰ·append-right fours (Memᴰ·append-right fives (Memᴰ·append-right sixes m)))
 
-  among-sevens : degenerate s (c .what) ≡ true → at (c .place) 7 ∈ faults s c
-  among-sevens e = behind-sixes (Memᴰ·append-left _ (command-refused 7 (c .place) (degenerate s (c .what)) e))
+  among-sevens : degenerate s (c .what) ≡ true → refuse degenerateCommand (c .place) ∈ faults s c
+  among-sevens e = behind-sixes (Memᴰ·append-left _ (command-refused degenerateCommand (c .place) (degenerate s (c .what)) e))
 
-  among-eights : layerless s (c .what) ≡ true → at (c .place) 8 ∈ faults s c
-  among-eights e = behind-sixes (Memᴰ·append-right sevens (Memᴰ·append-left _ (command-refused 8 (c .place) (layerless s (c .what)) e)))
+  among-eights : layerless s (c .what) ≡ true → refuse noLayer (c .place) ∈ faults s c
+  among-eights e = behind-sixes (Memᴰ·append-right sevens (Memᴰ·append-left _ (command-refused noLayer (c .place) (layerless s (c .what)) e)))
 
-  among-nines : tooMany (c .what) ≡ true → at (c .place) 9 ∈ faults s c
-  among-nines e = behind-sixes (Memᴰ·append-right sevens (Memᴰ·append-right eights (command-refused 9 (c .place) (tooMany (c .what)) e)))
+  among-nines : tooMany (c .what) ≡ true → refuse tooManyParts (c .place) ∈ faults s c
+  among-nines e = behind-sixes (Memᴰ·append-right sevens (Memᴰ·append-right eights (command-refused tooManyParts (c .place) (tooMany (c .what)) e)))
 
-  empty-degenerate : (k : Shape Number) → c .what ≡ draw k → emptyShape (scaledShape s k) ≡ true → at (c .place) 7 ∈ faults s c
+  empty-degenerate : (k : Shape Number) → c .what ≡ draw k → emptyShape (scaledShape s k) ≡ true → refuse degenerateCommand (c .place) ∈ faults s c
   unfolding degenerate partsOf any
   empty-degenerate k e h = among-sevens (subst (λ (w : Command). degenerate s w ≡ true) (sym e) (or-one _ _ (inl (or-one _ _ (inl h)))))
 
@@ -420,16 +424,16 @@ module _ (s : Standing) (c : Placed Command) where
       or-one (any zero? (scaledShape s k .sizes) || any nowhere (scaledShape s k .directions)) _ (inr (lt-ltb (length (map (scaledPoint s) (k .points))) (least (k .kind))
       (subst (λ (x : Kind). length (map (scaledPoint s) (k .points)) < least x) (sym e) (omega (arith, length-map (scaledPoint s) (k .points))))))
 
-  listed : {n p : ℕ} → Breaks s c n p → at p n ∈ faults s c
+  listed : {n : Rule} {p : ℕ} → Breaks s c n p → refuse n p ∈ faults s c
   unfolding beyond whole zeroScale degenerate layerless tooMany partsOf bearings any scaledShape
-  listed (number-beyond d m h) = among-threes (number-refused 3 beyond m (lt-ltb 16777215 (natAbs (d .what)) h))
-  listed (zero-factor n a b e h) = among-fours (command-refused 4 (c .place) (zeroScale (c .what)) (subst (λ (w : Command). zeroScale w ≡ true) (sym e) (go h)))
+  listed (number-beyond d m h) = among-threes (number-refused numberTooLarge beyond m (lt-ltb largest (natAbs (d .what)) h))
+  listed (zero-factor n a b e h) = among-fours (command-refused zeroFactor (c .place) (zeroScale (c .what)) (subst (λ (w : Command). zeroScale w ≡ true) (sym e) (go h)))
     where
       go : (natAbs (a .what) ≡ 0) ⊎ (natAbs (b .what) ≡ 0) → (zero? (a .what) || (zero? (b .what) || false)) ≡ true
       go (inl i) = or-one (zero? (a .what)) _ (inl (eq-eqb (natAbs (a .what)) 0 i))
       go (inr i) = or-one (zero? (a .what)) _ (inr (or-one (zero? (b .what)) false (inl (eq-eqb (natAbs (b .what)) 0 i))))
-  listed (not-whole d m h) = among-fives (number-refused 5 (λ x. not (whole s x)) m (ap (λ (b : Bool). not b) (ne-eqb (s .a * natAbs (d .what) % s .b) 0 h)))
-  listed (scaled-beyond d m h) = among-sixes (number-refused 6 (λ x. beyond (scaled s x)) m (lt-ltb 16777215 (natAbs (scaled s (d .what))) (subst (λ (n : ℕ). 16777215 < n) (sym (abs-scaled s (d .what))) h)))
+  listed (not-whole d m h) = among-fives (number-refused notWhole (λ x. not (whole s x)) m (ap (λ (b : Bool). not b) (ne-eqb (s .a * natAbs (d .what) % s .b) 0 h)))
+  listed (scaled-beyond d m h) = among-sixes (number-refused scaledTooLarge (λ x. beyond (scaled s x)) m (lt-ltb largest (natAbs (scaled s (d .what))) (subst (λ (n : ℕ). largest < n) (sym (abs-scaled s (d .what))) h)))
   listed (zero-size k d e m h) =
       empty-degenerate k e (zero-empty k (inl (any-map zero? (λ (x : Number). scaled s (x .what)) (k .sizes) ∙ any-has (λ x. zero? (scaled s (x .what))) m (eq-eqb _ 0 (abs-scaled s (d .what) ∙ h)))))
   listed (zero-direction k q e m h) = empty-degenerate k e (zero-empty k (inr (any-map nowhere given (k .directions) ∙ any-has (λ x. nowhere (given x)) m (nowhere-test q h))))
@@ -440,59 +444,65 @@ module _ (s : Standing) (c : Placed Command) where
   listed (no-layer k e h) =
       among-eights (subst (λ (w : Command). layerless s w ≡ true) (sym e) (or-one _ _ (inl (ap (λ (l : List ℕ). eqb (length l) 0) h))))
   listed (many-points k e h) =
-      among-nines (subst (λ (w : Command). tooMany w ≡ true) (sym e) (or-one _ _ (inl (or-one _ _ (inl (lt-ltb 1024 (length (k .points)) h))))))
-  listed (many-turns n ts e h) = among-nines (subst (λ (w : Command). tooMany w ≡ true) (sym e) (lt-ltb 32 (length ts) h))
+      among-nines (subst (λ (w : Command). tooMany w ≡ true) (sym e) (or-one _ _ (inl (or-one _ _ (inl (lt-ltb mostPoints (length (k .points)) h))))))
+  listed (many-turns n ts e h) = among-nines (subst (λ (w : Command). tooMany w ≡ true) (sym e) (lt-ltb mostTurns (length ts) h))
 
--- ---- the first refusal of a command is the least, by number and then by place
+-- ---- the first refusal of a command is the least, by the order of the rules and then by place
 
-abbrev Earlier : Refusal → Refusal → Type 0
-Earlier r q = (r .what < q .what) ⊎ ((r .what ≡ q .what) × (r .place ≤ q .place))
+abbrev rankOf : Refusal → ℕ
+rankOf r = rankIn order (r .number)
+
+abbrev Before : Refusal → Refusal → Type 0
+Before r q = (rankOf r < rankOf q) ⊎ ((rankOf r ≡ rankOf q) × (r .place ≤ q .place))
 
 unfoldable Least : List Refusal → Type 0
 Least [] = Unit {0}
-Least (r ∷ l) = All (Earlier r) l
+Least (r ∷ l) = All (Before r) l
 
--- refusals of number n; and refusals above it
-record Numbered (n : ℕ) (l : List Refusal) : Type 0 where
-  number : All (λ (r : Refusal). r .what ≡ n) l
+-- refusals by the rule of rank n; and by rules after it
+record Ranked (n : ℕ) (l : List Refusal) : Type 0 where
+  ranks : All (λ (r : Refusal). rankOf r ≡ n) l
   in-order : Least l
 
-record Above (n : ℕ) (l : List Refusal) : Type 0 where
-  above : All (λ (r : Refusal). n < r .what) l
+record After (n : ℕ) (l : List Refusal) : Type 0 where
+  later : All (λ (r : Refusal). n < rankOf r) l
   in-order : Least l
 
 pub all-so : {A : Type 0} (P Q : A → Type 0) → ((a : A) → P a → Q a) → (l : List A) → All P l → All Q l
 all-so P Q f l x = all-both P P Q (λ a p q. f a p) l x x
 
-beneath : {k n : ℕ} (a : List Refusal) → k < n → Numbered n a → Above k a
-beneath {k} {n} a h x = record { above = all-so (λ (r : Refusal). r .what ≡ n) (λ (r : Refusal). k < r .what) (λ r e. omega arith) a (x .number); in-order = x .in-order }
+behind : {k n : ℕ} (a : List Refusal) → k < n → Ranked n a → After k a
+behind {k} {n} a h x = record { later = all-so (λ (r : Refusal). rankOf r ≡ n) (λ (r : Refusal). k < rankOf r) (λ r e. subst (λ (i : ℕ). k < i) (sym e) h) a (x .ranks); in-order = x .in-order }
 
-joined-order : {n : ℕ} (a b : List Refusal) → All (λ (r : Refusal). r .what ≡ n) a → Least a → Above n b → Least (a ++ b)
+joined-order : {n : ℕ} (a b : List Refusal) → All (λ (r : Refusal). rankOf r ≡ n) a → Least a → After n b → Least (a ++ b)
 unfolding Least All
 joined-order [] b x o y = y .in-order
-joined-order {n} (r ∷ a) b x o y = all-++ (Earlier r) a b o (all-so (λ (q : Refusal). n < q .what) (Earlier r) (λ q e. inl (omega (arith, x .0))) b (y .above))
+joined-order {n} (r ∷ a) b x o y = all-++ (Before r) a b o (all-so (λ (q : Refusal). n < rankOf q) (Before r) (λ q e. inl (subst (λ (i : ℕ). i < rankOf q) (sym (x .0)) e)) b (y .later))
 
-joined : {k n : ℕ} (a b : List Refusal) → k < n → Numbered n a → Above n b → Above k (a ++ b)
+joined : {k n : ℕ} (a b : List Refusal) → k < n → Ranked n a → After n b → After k (a ++ b)
 joined {k} {n} a b h x y =
     record {
-      above =
-          all-++ (λ (r : Refusal). k < r .what) a b (beneath a h x .above)
-          (all-so (λ (r : Refusal). n < r .what) (λ (r : Refusal). k < r .what) (λ r e. omega arith) b (y .above));
-      in-order = joined-order a b (x .number) (x .in-order) y;
+      later =
+          all-++ (λ (r : Refusal). k < rankOf r) a b (behind a h x .later)
+          (all-so (λ (r : Refusal). n < rankOf r) (λ (r : Refusal). k < rankOf r) (λ r e. further (rankOf r) e) b (y .later));
+      in-order = joined-order a b (x .ranks) (x .in-order) y;
     }
+  where
+    further : (i : ℕ) → n < i → k < i
+    further i g = omega arith
 
-one-refusal : (n p : ℕ) (b : Bool) → Numbered n (atCommand n b p)
+one-refusal : (n : Rule) (p : ℕ) (b : Bool) → Ranked (rank n) (atCommand n b p)
 unfolding Least All
-one-refusal n p true = record { number = (refl, tt); in-order = tt }
-one-refusal n p false = record { number = tt; in-order = tt }
+one-refusal n p true = record { ranks = (refl, tt); in-order = tt }
+one-refusal n p false = record { ranks = tt; in-order = tt }
 
 -- of numbers that rise, where idle ones never fail
-module _ (Idle : ℤ → Type 0) (n : ℕ) (t : ℤ → Bool) (passes : (z : ℤ) → Idle z → t z ≡ false) where
+module _ (Idle : ℤ → Type 0) (n : Rule) (t : ℤ → Bool) (passes : (z : ℤ) → Idle z → t z ≡ false) where
   abbrev From : ℕ → Refusal → Type 0
-  From low r = (r .what ≡ n) × (low ≤ r .place)
+  From low r = (rankOf r ≡ rank n) × (low ≤ r .place)
 
   abbrev refusals : List Number → List Refusal
-  refusals ds = map (λ d. at (d .place) n) (those (λ d. t (d .what)) ds)
+  refusals ds = map (λ d. refuse n (d .place)) (those (λ d. t (d .what)) ds)
 
   all-from : {low high : ℕ} {ds : List Number} → Rising Idle low high ds → All (From low) (refusals ds)
   unfolding those All
@@ -500,7 +510,7 @@ module _ (Idle : ℤ → Type 0) (n : ℕ) (t : ℤ → Bool) (passes : (z : ℤ
   all-from (idle {d} {ds} z r) = rw (passes (d .what) z) (all-from r)
   all-from {low} (stands {d} {ds} a b r) = go (t (d .what)) (all-so (From (suc (d .place))) (From low) (λ q e. (e .0, omega (arith, e .1))) (refusals ds) (all-from r))
     where
-      go : (b : Bool) → All (From low) (refusals ds) → All (From low) (map (λ x. at (x .place) n) (if b then d ∷ those (λ x. t (x .what)) ds else those (λ x. t (x .what)) ds))
+      go : (b : Bool) → All (From low) (refusals ds) → All (From low) (map (λ x. refuse n (x .place)) (if b then d ∷ those (λ x. t (x .what)) ds else those (λ x. t (x .what)) ds))
       go true x = ((refl, a), x)
       go false x = x
 
@@ -510,18 +520,18 @@ module _ (Idle : ℤ → Type 0) (n : ℕ) (t : ℤ → Bool) (passes : (z : ℤ
   least-first (idle {d} {ds} z r) = rw (passes (d .what) z) (least-first r)
   least-first (stands {d} {ds} a b r) = go (t (d .what)) (all-from r) (least-first r)
     where
-      go : (b : Bool) → All (From (suc (d .place))) (refusals ds) → Least (refusals ds) → Least (map (λ x. at (x .place) n) (if b then d ∷ those (λ x. t (x .what)) ds else those (λ x. t (x .what)) ds))
-      go true x y = all-so (From (suc (d .place))) (Earlier (at (d .place) n)) (λ q e. inr (sym (e .0), omega (arith, e .1))) (refusals ds) x
+      go : (b : Bool) → All (From (suc (d .place))) (refusals ds) → Least (refusals ds) → Least (map (λ x. refuse n (x .place)) (if b then d ∷ those (λ x. t (x .what)) ds else those (λ x. t (x .what)) ds))
+      go true x y = all-so (From (suc (d .place))) (Before (refuse n (d .place))) (λ q e. inr (sym (e .0), omega (arith, e .1))) (refusals ds) x
       go false x y = y
 
-  rising-refusals : {low high : ℕ} {ds : List Number} → Rising Idle low high ds → Numbered n (atNumbers n t ds)
+  rising-refusals : {low high : ℕ} {ds : List Number} → Rising Idle low high ds → Ranked (rank n) (atNumbers n t ds)
   unfolding atNumbers
-  rising-refusals {low} {high} {ds} r = record { number = all-so (From low) (λ (q : Refusal). q .what ≡ n) (λ q e. e .0) (refusals ds) (all-from r); in-order = least-first r }
+  rising-refusals {low} {high} {ds} r = record { ranks = all-so (From low) (λ (q : Refusal). rankOf q ≡ rank n) (λ q e. e .0) (refusals ds) (all-from r); in-order = least-first r }
 
 module _ (s : Standing) where
   small-within : (z : ℤ) → Small z → beyond z ≡ false
   unfolding beyond
-  small-within z h = le-ltb 16777215 (natAbs z) (omega arith)
+  small-within z h = le-ltb largest (natAbs z) (omega arith)
 
   null-rest : (z : ℤ) → Null z → s .a * natAbs z % s .b ≡ 0
   null-rest z h = ap (λ (n : ℕ). s .a * n % s .b) h ∙ ap (λ (n : ℕ). n % s .b) (mul-zero (s .a)) ∙ zero-mod (s .b)
@@ -535,17 +545,17 @@ module _ (s : Standing) where
 
   null-within : (z : ℤ) → Null z → beyond (scaled s z) ≡ false
   unfolding beyond
-  null-within z h = le-ltb 16777215 (natAbs (scaled s z)) (omega (arith, abs-scaled s z, null-scaled z h))
+  null-within z h = le-ltb largest (natAbs (scaled s z)) (omega (arith, abs-scaled s z, null-scaled z h))
 
   faults-least : (c : Placed Command) (high : ℕ) → Stands high c → Least (faults s c)
   unfolding faults
   faults-least c high h =
-      joined {k = 0} (threes s c) _ (omega arith) (rising-refusals Small 3 beyond small-within (h .numbers-rise))
-      (joined (fours s c) _ (omega arith) (one-refusal 4 (c .place) (zeroScale (c .what)))
-      (joined (fives s c) _ (omega arith) (rising-refusals Null 5 (λ d. not (whole s d)) null-whole (h .distances-rise))
-      (joined (sixes s c) _ (omega arith) (rising-refusals Null 6 (λ d. beyond (scaled s d)) null-within (h .distances-rise))
-      (joined (sevens s c) _ (omega arith) (one-refusal 7 (c .place) (degenerate s (c .what)))
-      (joined (eights s c) _ (omega arith) (one-refusal 8 (c .place) (layerless s (c .what))) (beneath (nines s c) (omega arith) (one-refusal 9 (c .place) (tooMany (c .what)))))))))
+      joined {k = 0} (threes s c) _ (omega arith) (rising-refusals Small numberTooLarge beyond small-within (h .numbers-rise))
+      (joined (fours s c) _ (omega arith) (one-refusal zeroFactor (c .place) (zeroScale (c .what)))
+      (joined (fives s c) _ (omega arith) (rising-refusals Null notWhole (λ d. not (whole s d)) null-whole (h .distances-rise))
+      (joined (sixes s c) _ (omega arith) (rising-refusals Null scaledTooLarge (λ d. beyond (scaled s d)) null-within (h .distances-rise))
+      (joined (sevens s c) _ (omega arith) (one-refusal degenerateCommand (c .place) (degenerate s (c .what)))
+      (joined (eights s c) _ (omega arith) (one-refusal noLayer (c .place) (layerless s (c .what))) (behind (nines s c) (omega arith) (one-refusal tooManyParts (c .place) (tooMany (c .what)))))))))
       .in-order
 
 -- ---- the first rule broken
@@ -579,17 +589,17 @@ nothing-listed {r = r} m e = absurd (List·Memᴰ·not-nil (subst (List·Memᴰ 
 
 module _ (s : Standing) (c : Placed Command) (high : ℕ) (w : Written high c) where
   -- the first refusal goes before every rule broken
-  first-earlier : (r : Refusal) (l : List Refusal) → faults s c ≡ r ∷ l → {n p : ℕ} → Breaks s c n p → Earlier r (at p n)
-  first-earlier r l e {n} {p} b = go (List·Memᴰ·cases-cons (subst (List·Memᴰ (at p n)) e (listed s c b)))
+  first-earlier : (r : Refusal) (l : List Refusal) → faults s c ≡ r ∷ l → {n : Rule} {p : ℕ} → Breaks s c n p → Before r (refuse n p)
+  first-earlier r l e {n} {p} b = go (List·Memᴰ·cases-cons (subst (List·Memᴰ (refuse n p)) e (listed s c b)))
     where
-      others : All (Earlier r) l
+      others : All (Before r) l
       others = unfold Least in (subst Least e (faults-least s c high (w .stand)))
 
-      go : (at p n ≡ r) ⊎ (at p n ∈ l) → Earlier r (at p n)
-      go (inl h) = inr (sym (ap (λ (q : Refusal). q .what) h), omega (arith, ap (λ (q : Refusal). q .place) h))
-      go (inr m) = all-member (Earlier r) m others
+      go : (refuse n p ≡ r) ⊎ (refuse n p ∈ l) → Before r (refuse n p)
+      go (inl h) = inr (sym (ap rankOf h), omega (arith, ap (λ (q : Refusal). q .place) h))
+      go (inr m) = all-member (Before r) m others
 
-  first-broken : (r : Refusal) (l : List Refusal) → faults s c ≡ r ∷ l → Breaks s c (r .what) (r .place)
+  first-broken : (r : Refusal) (l : List Refusal) → faults s c ≡ r ∷ l → Broken s c r
   first-broken r l e = broken s c (w .path) (subst (List·Memᴰ r) (sym e) (List·Memᴰ·head refl))
 
 unbroken-on : (s : Standing) (c : Placed Command) (cs : List (Placed Command)) → faults s c ≡ [] → UnbrokenFrom (after (c .what) s) cs → UnbrokenFrom s (c ∷ cs)
@@ -611,7 +621,7 @@ unbroken-faultless high s (c ∷ cs) x u =
   where
     own : (l : List Refusal) → faults s c ≡ l → faults s c ≡ []
     own [] e = e
-    own (r ∷ l) e = absurd (u [] c cs refl (r .what) (r .place) (first-broken s c high (x .0) r l e))
+    own (r ∷ l) e = let (rule, h, b) = first-broken s c high (x .0) r l e in absurd (u [] c cs refl rule (r .place) b)
 
 -- the faults of commands, and then of others
 faults-on : (s : Standing) (cs ds : List (Placed Command)) → allFaults s (cs ++ ds) ≡ allFaults s cs ++ allFaults (standing s cs) ds
@@ -625,53 +635,66 @@ some-same e = cc
 no-first : {A B : Type 0} {a : A} → _≡_ {A = Option A} none (some a) → B
 no-first e = let z : _≡_ {A = ℕ} 0 1 = cc in absurd (omega arith)
 
-fault-broken : (high : ℕ) (s : Standing) (cs : List (Placed Command)) → All (Written high) cs → (r : Refusal) → first (allFaults s cs) ≡ some r → FirstBreakFrom s cs (r .what) (r .place)
+-- the rule of a refusal, and that it is the first broken
+abbrev pub FirstRule : Standing → List (Placed Command) → Refusal → Type 0
+FirstRule s cs r = (rule : Rule) × (r ≡ refuse rule (r .place)) × FirstBreakFrom s cs rule (r .place)
+
+fault-broken : (high : ℕ) (s : Standing) (cs : List (Placed Command)) → All (Written high) cs → (r : Refusal) → first (allFaults s cs) ≡ some r → FirstRule s cs r
 unfolding allFaults first All
 fault-broken high s [] x r e = no-first e
 fault-broken high s (c ∷ cs) x r e = go (faults s c) refl (fault-broken high (after (c .what) s) cs (x .1) r) e
   where
-    further : faults s c ≡ [] → FirstBreakFrom (after (c .what) s) cs (r .what) (r .place) → FirstBreakFrom s (c ∷ cs) (r .what) (r .place)
-    further h f =
-        record {
-          before = c ∷ f .before;
-          command = f .command;
-          behind = f .behind;
-          split = ap (λ (l : List (Placed Command)). c ∷ l) (f .split);
-          breaks = f .breaks;
-          none-before = unbroken-on s c (f .before) h (f .none-before);
-          none-lower = f .none-lower;
-          none-nearer = f .none-nearer;
-        }
+    further : faults s c ≡ [] → FirstRule (after (c .what) s) cs r → FirstRule s (c ∷ cs) r
+    further h (rule, i, f) = (
+      rule,
+      i,
+      record {
+        before = c ∷ f .before;
+        command = f .command;
+        behind = f .behind;
+        split = ap (λ (l : List (Placed Command)). c ∷ l) (f .split);
+        breaks = f .breaks;
+        none-before = unbroken-on s c (f .before) h (f .none-before);
+        none-earlier = f .none-earlier;
+        none-nearer = f .none-nearer;
+      },
+    )
 
-    here : (l : List Refusal) → faults s c ≡ r ∷ l → FirstBreakFrom s (c ∷ cs) (r .what) (r .place)
-    here l h =
-        record {
-          before = [];
-          command = c;
-          behind = cs;
-          split = refl;
-          breaks = first-broken s c high (x .0) r l h;
-          none-before = λ before d behind g n p b. no-split before d behind g;
-          none-lower = λ n p g b. not-lower (first-earlier s c high (x .0) r l h b) g;
-          none-nearer = λ p g b. not-nearer (first-earlier s c high (x .0) r l h b) g;
-        }
+    here : (l : List Refusal) → faults s c ≡ r ∷ l → FirstRule s (c ∷ cs) r
+    here l h = by-rule (first-broken s c high (x .0) r l h)
       where
-        not-lower : {n p : ℕ} → Earlier r (at p n) → n < r .what → ⊥
-        not-lower (inl i) g = omega arith
-        not-lower (inr i) g = omega (arith, i .0)
+        not-earlier : (n : Rule) (p : ℕ) → Before r (refuse n p) → rank n < rankOf r → ⊥
+        not-earlier n p (inl i) g = omega arith
+        not-earlier n p (inr i) g = omega (arith, i .0)
 
-        not-nearer : {p : ℕ} → Earlier r (at p (r .what)) → p < r .place → ⊥
-        not-nearer (inl i) g = omega arith
-        not-nearer (inr i) g = omega (arith, i .1)
+        not-nearer : (n : Rule) (p : ℕ) → Before r (refuse n p) → rankOf r ≡ rank n → p < r .place → ⊥
+        not-nearer n p (inl i) e g = omega arith
+        not-nearer n p (inr i) e g = omega (arith, i .1)
 
-    go : (l : List Refusal) → faults s c ≡ l → (first (allFaults (after (c .what) s) cs) ≡ some r → FirstBreakFrom (after (c .what) s) cs (r .what) (r .place))
-        → first (l ++ allFaults (after (c .what) s) cs) ≡ some r → FirstBreakFrom s (c ∷ cs) (r .what) (r .place)
+        by-rule : Broken s c r → FirstRule s (c ∷ cs) r
+        by-rule (rule, i, b) = (
+          rule,
+          i,
+          record {
+            before = [];
+            command = c;
+            behind = cs;
+            split = refl;
+            breaks = b;
+            none-before = λ before d behind g n p b. no-split before d behind g;
+            none-earlier = λ n p g b. not-earlier n p (first-earlier s c high (x .0) r l h b) (subst (λ (q : Refusal). rank n < rankOf q) (sym i) g);
+            none-nearer = λ p g b. not-nearer rule p (first-earlier s c high (x .0) r l h b) (ap rankOf i) g;
+          },
+        )
+
+    go : (l : List Refusal) → faults s c ≡ l → (first (allFaults (after (c .what) s) cs) ≡ some r → FirstRule (after (c .what) s) cs r)
+        → first (l ++ allFaults (after (c .what) s) cs) ≡ some r → FirstRule s (c ∷ cs) r
     go [] h f g = further h (f g)
     go (q ∷ l) h f g = here l (h ∙ ap (λ (y : Refusal). y ∷ l) (some-same g))
 
-broken-fault : (high : ℕ) (s : Standing) (cs : List (Placed Command)) → All (Written high) cs → {number place : ℕ} → FirstBreakFrom s cs number place → first (allFaults s cs) ≡ some (at place number)
+broken-fault : (high : ℕ) (s : Standing) (cs : List (Placed Command)) → All (Written high) cs → {rule : Rule} {place : ℕ} → FirstBreakFrom s cs rule place → first (allFaults s cs) ≡ some (refuse rule place)
 unfolding allFaults first All
-broken-fault high s cs x {number} {place} f =
+broken-fault high s cs x {rule} {place} f =
     ap (λ (l : List (Placed Command)). first (allFaults s l)) (f .split)
     ∙ ap (λ (l : List Refusal). first l) (faults-on s (f .before) (f .command ∷ f .behind))
     ∙ ap (λ (l : List Refusal). first (l ++ allFaults (standing s (f .before)) (f .command ∷ f .behind))) (unbroken-faultless high s (f .before) (all-left _ (f .before) _ all) (f .none-before))
@@ -683,25 +706,30 @@ broken-fault high s cs x {number} {place} f =
     own : Written high (f .command)
     own = all-right (Written high) (f .before) (f .command ∷ f .behind) all .0
 
-    same : (r : Refusal) → Breaks (standing s (f .before)) (f .command) (r .what) (r .place) → Earlier r (at place number) → r ≡ at place number
-    same r b (inl h) = absurd (f .none-lower (r .what) (r .place) h b)
-    same r b (inr h) =
-        let nearer : r .place < place → ⊥ = λ i. f .none-nearer (r .place) i (subst (λ (n : ℕ). Breaks (standing s (f .before)) (f .command) n (r .place)) (h .0) b) in
-        ap₂ (λ (p n : ℕ). at p n) (omega (arith, h .1, nearer)) (h .0)
+    same : (r : Refusal) → Broken (standing s (f .before)) (f .command) r → Before r (refuse rule place) → r ≡ refuse rule place
+    same r (q, e, b) (inl h) = absurd (f .none-earlier q (r .place) (subst (λ (i : Refusal). rankOf i < rank rule) e h) b)
+    same r (q, e, b) (inr h) =
+        let one : q ≡ rule = one-rank q rule (sym (ap rankOf e) ∙ h .0) in
+        let nearer : r .place < place → ⊥ = λ i. f .none-nearer (r .place) i (subst (λ (n : Rule). Breaks (standing s (f .before)) (f .command) n (r .place)) one b) in
+        e ∙ ap₂ {C = Refusal} (λ (n : Rule) (p : ℕ). refuse n p) one (omega (arith, h .1, nearer))
 
     go : (l : List Refusal) → faults (standing s (f .before)) (f .command) ≡ l
-        → first (l ++ allFaults (after (f .command .what) (standing s (f .before))) (f .behind)) ≡ some (at place number)
+        → first (l ++ allFaults (after (f .command .what) (standing s (f .before))) (f .behind)) ≡ some (refuse rule place)
     go [] h = nothing-listed (listed (standing s (f .before)) (f .command) (f .breaks)) h
     go (r ∷ l) h =
         ap (λ (q : Refusal). some q)
         (same r (first-broken (standing s (f .before)) (f .command) high own r l h) (first-earlier (standing s (f .before)) (f .command) high own r l h (f .breaks)))
 
--- 01, refusals 3 to 9: the first fault of a text is the first rule that its commands break
-pub first-fault : {t : List ℕ} {m : List Letter} → Marked t m → {number place : ℕ}
-    → (firstFault (commands 0 m) ≡ some (at place number)) ↔ FirstBreak (commands 0 m) number place
+-- 01, refusals 3 to 9: the first fault of a text is by the first rule that its commands break
+pub fault-rule : {t : List ℕ} {m : List Letter} → Marked t m → {r : Refusal} → firstFault (commands 0 m) ≡ some r → FirstRule (outside []) (commands 0 m) r
 unfolding firstFault
-first-fault {t} {m} k {number} {place} = (
-  fault-broken (length t) (outside []) (commands 0 m) (commands-written k) (at place number),
+fault-rule {t} {m} k {r} e = fault-broken (length t) (outside []) (commands 0 m) (commands-written k) r e
+
+pub first-fault : {t : List ℕ} {m : List Letter} → Marked t m → {rule : Rule} {place : ℕ}
+    → (firstFault (commands 0 m) ≡ some (refuse rule place)) ↔ FirstBreak (commands 0 m) rule place
+unfolding firstFault
+first-fault {t} {m} k {rule} {place} = (
+  λ e. let (q, h, f) = fault-rule k e in subst (λ (r : Rule). FirstBreak (commands 0 m) r place) (one-rule q rule (sym h)) f,
   broken-fault (length t) (outside []) (commands 0 m) (commands-written k),
 )
 
@@ -713,20 +741,20 @@ no-first-fault {t} {m} k = (
   λ u. ap (λ (l : List Refusal). first l) (unbroken-faultless (length t) (outside []) (commands 0 m) (commands-written k) u),
 )
 
--- ---- the numbers and the places of the rules
+-- ---- the ranks and the places of the rules
 
-pub rule-number : {s : Standing} {c : Placed Command} {n p : ℕ} → Breaks s c n p → (3 ≤ n) × (n ≤ 9)
-rule-number (number-beyond d m h) = (omega arith, omega arith)
-rule-number (zero-factor n a b e h) = (omega arith, omega arith)
-rule-number (not-whole d m h) = (omega arith, omega arith)
-rule-number (scaled-beyond d m h) = (omega arith, omega arith)
-rule-number (zero-size k d e m h) = (omega arith, omega arith)
-rule-number (zero-direction k q e m h) = (omega arith, omega arith)
-rule-number (zero-turn n ts q e m h) = (omega arith, omega arith)
-rule-number (few-points k e h i) = (omega arith, omega arith)
-rule-number (no-layer k e h) = (omega arith, omega arith)
-rule-number (many-points k e h) = (omega arith, omega arith)
-rule-number (many-turns n ts e h) = (omega arith, omega arith)
+pub rule-ranked : {s : Standing} {c : Placed Command} {n : Rule} {p : ℕ} → Breaks s c n p → ByCommand n
+rule-ranked (number-beyond d m h) = record { least = omega arith; most = omega arith }
+rule-ranked (zero-factor n a b e h) = record { least = omega arith; most = omega arith }
+rule-ranked (not-whole d m h) = record { least = omega arith; most = omega arith }
+rule-ranked (scaled-beyond d m h) = record { least = omega arith; most = omega arith }
+rule-ranked (zero-size k d e m h) = record { least = omega arith; most = omega arith }
+rule-ranked (zero-direction k q e m h) = record { least = omega arith; most = omega arith }
+rule-ranked (zero-turn n ts q e m h) = record { least = omega arith; most = omega arith }
+rule-ranked (few-points k e h i) = record { least = omega arith; most = omega arith }
+rule-ranked (no-layer k e h) = record { least = omega arith; most = omega arith }
+rule-ranked (many-points k e h) = record { least = omega arith; most = omega arith }
+rule-ranked (many-turns n ts e h) = record { least = omega arith; most = omega arith }
 
 -- a number that is not idle stands where the numbers rise
 not-idle : {Idle : ℤ → Type 0} {low high : ℕ} {d : Number} {ds : List Number} → Rising Idle low high ds → d ∈ ds → (Idle (d .what) → ⊥) → d .place < high
@@ -742,7 +770,7 @@ not-idle {Idle} {low} {high} {d} (stands {d = x} {ds} a b r) m f = go (List·Mem
     go (inl e) g = subst (λ (y : Number). y .place < high) (sym e) b
     go (inr i) g = g i
 
-rule-place : {s : Standing} {c : Placed Command} {high n p : ℕ} → Stands high c → Breaks s c n p → p < high
+rule-place : {s : Standing} {c : Placed Command} {high : ℕ} {n : Rule} {p : ℕ} → Stands high c → Breaks s c n p → p < high
 rule-place {s} {c} x (number-beyond d m h) = not-idle (x .numbers-rise) m (λ z. omega arith)
 rule-place {s} {c} x (zero-factor n a b e h) = x .within
 rule-place {s} {c} x (not-whole d m h) = not-idle (x .distances-rise) m (λ z. h (null-rest s (d .what) z))
@@ -755,7 +783,7 @@ rule-place {s} {c} x (no-layer k e h) = x .within
 rule-place {s} {c} x (many-points k e h) = x .within
 rule-place {s} {c} x (many-turns n ts e h) = x .within
 
-pub break-place : {t : List ℕ} {m : List Letter} → Marked t m → {number place : ℕ} → FirstBreak (commands 0 m) number place → place < length t
+pub break-place : {t : List ℕ} {m : List Letter} → Marked t m → {rule : Rule} {place : ℕ} → FirstBreak (commands 0 m) rule place → place < length t
 unfolding All
 break-place {t} {m} k f =
     let all : All (Written (length t)) (f .before ++ (f .command ∷ f .behind)) = subst (All (Written (length t))) (f .split) (commands-written k) in

@@ -6,6 +6,9 @@ use mathlib.Core.List.{List, [], _∷_, _++_}
 use Prim.Native.Nat.{ℕ, _+_, _≤_}
 use native.Mathlib.Omega.{arith}
 use lib.ListN.{length}
+use Rattle.definition.specs.declared.Refusal.{Refusal}
+use Rattle.definition.specs.Limits.{mostCalls, mostShapes}
+use Rattle.definition.specs.Rules.{tooManyCalls, tooManyShapes, refuse}
 use Rattle.definition.specs.Words.{if_then_else_, Placed, none?}
 use Rattle.definition.specs.Table.{Definition, Table, find}
 use Rattle.definition.specs.Drawing.{Chain, Drawn, Event, called, drew, entered, removed, refused}
@@ -21,7 +24,7 @@ Allowed (called p chain d) = Unit {0}
 Allowed (drew d) = Unit {0}
 Allowed (entered d before) = Unit {0}
 Allowed (removed n before) = Unit {0}
-Allowed (refused n p chain) = ⊥
+Allowed (refused r chain) = ⊥
 
 entered-counted : (c : Counts) (d : Definition) (before : Table)
     → counted c (entered d before) ≡ finished (counts (c .calls) (c .shapes) (if none? (find (d .symbol) before) then c .redefinitions else c .redefinitions + 1))
@@ -32,7 +35,7 @@ removed-counted : (c : Counts) (n : Placed ℕ) (before : Table) → counted c (
 unfolding counted
 removed-counted c n before = refl
 
-finishes-from : (c : Counts) (es : List Event) → All Allowed es → c .calls + length (callsOf es) ≤ 1048576 → c .shapes + length (shapesOf es) ≤ 1048576
+finishes-from : (c : Counts) (es : List Event) → All Allowed es → c .calls + length (callsOf es) ≤ mostCalls → c .shapes + length (shapesOf es) ≤ mostShapes
     → (last : Counts) × (ending c es ≡ finished last)
 unfolding All Allowed ending goOn callsOf shapesOf
 finishes-from c [] x a b = (c, refl)
@@ -44,31 +47,31 @@ finishes-from c (entered d before ∷ es) x a b =
     rw (entered-counted c d before)
     (finishes-from (counts (c .calls) (c .shapes) (if none? (find (d .symbol) before) then c .redefinitions else c .redefinitions + 1)) es (x .1) a b)
 finishes-from c (removed n before ∷ es) x a b = rw (removed-counted c n before) (finishes-from c es (x .1) a b)
-finishes-from c (refused n p chain ∷ es) x a b = absurd (x .0)
+finishes-from c (refused r chain ∷ es) x a b = absurd (x .0)
 
 -- up to the limits a drawing finishes, with its counts
-pub finishes : (es : List Event) → All Allowed es → length (callsOf es) ≤ 1048576 → length (shapesOf es) ≤ 1048576
+pub finishes : (es : List Event) → All Allowed es → length (callsOf es) ≤ mostCalls → length (shapesOf es) ≤ mostShapes
     → ending (counts 0 0 0) es ≡ finished (counts (length (callsOf es)) (length (shapesOf es)) (length (redefinitionsOf es)))
 finishes es x a b =
     let (last, e) = finishes-from (counts 0 0 0) es x (omega arith) (omega arith) in
     e ∙ ap finished (drawing-counts es last e)
 
 -- and the event that comes then ends it, where it is refused at those counts
-stops-then : (before : List Event) (e : Event) (after : List Event) (number place : ℕ) (chain : Chain) → All Allowed before
-    → length (callsOf before) ≤ 1048576 → length (shapesOf before) ≤ 1048576
-    → counted (counts (length (callsOf before)) (length (shapesOf before)) (length (redefinitionsOf before))) e ≡ stopped number place chain
-    → ending (counts 0 0 0) (before ++ (e ∷ after)) ≡ stopped number place chain
+stops-then : (before : List Event) (e : Event) (after : List Event) (r : Refusal) (chain : Chain) → All Allowed before
+    → length (callsOf before) ≤ mostCalls → length (shapesOf before) ≤ mostShapes
+    → counted (counts (length (callsOf before)) (length (shapesOf before)) (length (redefinitionsOf before))) e ≡ stopped r chain
+    → ending (counts 0 0 0) (before ++ (e ∷ after)) ≡ stopped r chain
 unfolding ending goOn
-stops-then before e after number place chain x a b h =
+stops-then before e after r chain x a b h =
     ending-++ (counts 0 0 0) before (e ∷ after) ∙ ap (λ (y : End). goOn y (λ c. ending c (e ∷ after))) (finishes before x a b)
     ∙ ap (λ (y : End). goOn y (λ c. ending c after)) h
 
 pub call-1048577 : (before : List Event) (p : ℕ) (chain : Chain) (d : Definition) (after : List Event) → All Allowed before
-    → length (callsOf before) ≡ 1048576 → length (shapesOf before) ≤ 1048576 → ending (counts 0 0 0) (before ++ (called p chain d ∷ after)) ≡ stopped 15 p chain
+    → length (callsOf before) ≡ mostCalls → length (shapesOf before) ≤ mostShapes → ending (counts 0 0 0) (before ++ (called p chain d ∷ after)) ≡ stopped (refuse tooManyCalls p) chain
 call-1048577 before p chain d after x a b =
-    stops-then before (called p chain d) after 15 p chain x (omega arith) b (calls-passed _ p chain d (omega arith))
+    stops-then before (called p chain d) after (refuse tooManyCalls p) chain x (omega arith) b (calls-passed _ p chain d (omega arith))
 
 pub shape-1048577 : (before : List Event) (d : Drawn) (after : List Event) → All Allowed before
-    → length (callsOf before) ≤ 1048576 → length (shapesOf before) ≡ 1048576 → ending (counts 0 0 0) (before ++ (drew d ∷ after)) ≡ stopped 17 (d .place) (d .chain)
+    → length (callsOf before) ≤ mostCalls → length (shapesOf before) ≡ mostShapes → ending (counts 0 0 0) (before ++ (drew d ∷ after)) ≡ stopped (refuse tooManyShapes (d .place)) (d .chain)
 shape-1048577 before d after x a b =
-    stops-then before (drew d) after 17 (d .place) (d .chain) x a (omega arith) (shapes-passed _ d (omega arith))
+    stops-then before (drew d) after (refuse tooManyShapes (d .place)) (d .chain) x a (omega arith) (shapes-passed _ d (omega arith))

@@ -6,6 +6,9 @@ use mathlib.Core.List.{List, [], _∷_}
 use Prim.Native.Nat.{ℕ, _+_, _≤_, _<_}
 use native.Mathlib.Omega.{arith}
 use lib.ListN.{length}
+use Rattle.definition.specs.declared.Refusal.{Refusal}
+use Rattle.definition.specs.Limits.{mostCalls, mostShapes}
+use Rattle.definition.specs.Rules.{tooManyCalls, tooManyShapes, refuse}
 use Rattle.definition.specs.Words.{if_then_else_, none?}
 use Rattle.definition.specs.Table.{Definition, find}
 use Rattle.definition.specs.Drawing.{Chain, Event, called, drew, entered, removed, refused}
@@ -19,7 +22,7 @@ callsOf (called p chain d ∷ es) = d ∷ callsOf es
 callsOf (drew d ∷ es) = callsOf es
 callsOf (entered d before ∷ es) = callsOf es
 callsOf (removed n before ∷ es) = callsOf es
-callsOf (refused n p chain ∷ es) = callsOf es
+callsOf (refused r chain ∷ es) = callsOf es
 
 unfoldable pub redefinitionsOf : List Event → List Definition
 redefinitionsOf [] = []
@@ -27,15 +30,15 @@ redefinitionsOf (entered d before ∷ es) = if none? (find (d .symbol) before) t
 redefinitionsOf (called p chain d ∷ es) = redefinitionsOf es
 redefinitionsOf (drew d ∷ es) = redefinitionsOf es
 redefinitionsOf (removed n before ∷ es) = redefinitionsOf es
-redefinitionsOf (refused n p chain ∷ es) = redefinitionsOf es
+redefinitionsOf (refused r chain ∷ es) = redefinitionsOf es
 
 -- a drawing from the counts b on finishes with the counts c
 pub record Counted (b : Counts) (es : List Event) (c : Counts) : Type 0 where
   pub calls-are : c .calls ≡ b .calls + length (callsOf es)
   pub shapes-are : c .shapes ≡ b .shapes + length (shapesOf es)
   pub redefinitions-are : c .redefinitions ≡ b .redefinitions + length (redefinitionsOf es)
-  pub calls-few : b .calls ≤ 1048576 → c .calls ≤ 1048576
-  pub shapes-few : b .shapes ≤ 1048576 → c .shapes ≤ 1048576
+  pub calls-few : b .calls ≤ mostCalls → c .calls ≤ mostCalls
+  pub shapes-few : b .shapes ≤ mostShapes → c .shapes ≤ mostShapes
 
 zero-one : _≡_ {A = ℕ} 0 1 → ⊥
 zero-one y = omega arith
@@ -49,12 +52,12 @@ first-counted c e es last h = go (counted c e) refl h
     go : (x : End) → counted c e ≡ x → goOn x (λ c′. ending c′ es) ≡ finished last
         → (next : Counts) × (counted c e ≡ finished next) × (ending next es ≡ finished last)
     go (finished next) q r = (next, q, r)
-    go (stopped n p chain) q r = let z : _≡_ {A = ℕ} 0 1 = cc in absurd (zero-one z)
+    go (stopped x chain) q r = let z : _≡_ {A = ℕ} 0 1 = cc in absurd (zero-one z)
 
 same-counts : (a b : Counts) → finished a ≡ finished b → a ≡ b
 same-counts a b h = cc
 
-pub not-finished : {n p : ℕ} {chain : Chain} {c : Counts} → stopped n p chain ≡ finished c → ⊥
+pub not-finished : {r : Refusal} {chain : Chain} {c : Counts} → stopped r chain ≡ finished c → ⊥
 not-finished h = let z : _≡_ {A = ℕ} 0 1 = cc in zero-one z
 
 counted-from : (a next : Counts) (es : List Event) (last : Counts) → finished a ≡ finished next → Counted next es last → Counted a es last
@@ -63,10 +66,10 @@ counted-from a next es last h k = subst (λ (x : Counts). Counted x es last) (sy
 -- one event more
 more-counted : (c : Counts) (e : Event) (es : List Event) (next last : Counts) → counted c e ≡ finished next → Counted next es last → Counted c (e ∷ es) last
 unfolding counted callsOf shapesOf redefinitionsOf
-more-counted c (called p chain d) es next last h k = go (ltb-decides (c .calls) 1048576) h
+more-counted c (called p chain d) es next last h k = go (ltb-decides (c .calls) mostCalls) h
   where
-    go : {b : Bool} → Decides (c .calls < 1048576) b
-        → _≡_ {A = End} (if b then finished (counts (c .calls + 1) (c .shapes) (c .redefinitions)) else stopped 15 p chain) (finished next)
+    go : {b : Bool} → Decides (c .calls < mostCalls) b
+        → _≡_ {A = End} (if b then finished (counts (c .calls + 1) (c .shapes) (c .redefinitions)) else stopped (refuse tooManyCalls p) chain) (finished next)
         → Counted c (called p chain d ∷ es) last
     go (holds l) q =
         let k′ : Counted (counts (c .calls + 1) (c .shapes) (c .redefinitions)) es last = counted-from _ next es last q k in
@@ -78,10 +81,10 @@ more-counted c (called p chain d) es next last h k = go (ltb-decides (c .calls) 
           shapes-few = k′ .shapes-few;
         }
     go (fails l) q = absurd (not-finished q)
-more-counted c (drew d) es next last h k = go (ltb-decides (c .shapes) 1048576) h
+more-counted c (drew d) es next last h k = go (ltb-decides (c .shapes) mostShapes) h
   where
-    go : {b : Bool} → Decides (c .shapes < 1048576) b
-        → _≡_ {A = End} (if b then finished (counts (c .calls) (c .shapes + 1) (c .redefinitions)) else stopped 17 (d .place) (d .chain)) (finished next)
+    go : {b : Bool} → Decides (c .shapes < mostShapes) b
+        → _≡_ {A = End} (if b then finished (counts (c .calls) (c .shapes + 1) (c .redefinitions)) else stopped (refuse tooManyShapes (d .place)) (d .chain)) (finished next)
         → Counted c (drew d ∷ es) last
     go (holds l) q =
         let k′ : Counted (counts (c .calls) (c .shapes + 1) (c .redefinitions)) es last = counted-from _ next es last q k in
@@ -111,7 +114,7 @@ more-counted c (entered d before) es next last h k =
 more-counted c (removed n before) es next last h k =
     let k′ : Counted c es last = counted-from c next es last h k in
     record { calls-are = k′ .calls-are; shapes-are = k′ .shapes-are; redefinitions-are = k′ .redefinitions-are; calls-few = k′ .calls-few; shapes-few = k′ .shapes-few }
-more-counted c (refused n p chain) es next last h k = absurd (not-finished h)
+more-counted c (refused r chain) es next last h k = absurd (not-finished h)
 
 -- so the counts that a drawing finishes with are those of its calls, shapes and redefinitions
 pub counted-all : (b : Counts) (es : List Event) (c : Counts) → ending b es ≡ finished c → Counted b es c
@@ -132,7 +135,7 @@ drawing-counts es c h =
     λ i. counts (calls i) (shapes i) (redefinitions i)
 
 -- and neither count is over 1,048,576
-pub drawing-few : (es : List Event) (c : Counts) → ending (counts 0 0 0) es ≡ finished c → (c .calls ≤ 1048576) × (c .shapes ≤ 1048576)
+pub drawing-few : (es : List Event) (c : Counts) → ending (counts 0 0 0) es ≡ finished c → (c .calls ≤ mostCalls) × (c .shapes ≤ mostShapes)
 drawing-few es c h =
     let k = counted-all (counts 0 0 0) es c h in
     (k .calls-few (omega arith), k .shapes-few (omega arith))

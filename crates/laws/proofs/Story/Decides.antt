@@ -1,19 +1,20 @@
 -- The tests that the drawing makes, and the facts that they decide: so the rules of document 01 can be stated as facts.
 -- Assumes nothing.
-use mathlib.Core.Path.{_≡_, refl, ap, subst}
+use mathlib.Core.Path.{_≡_, refl, sym, ap, subst}
 use mathlib.Core.Bool.{Bool, true, false, not, _&&_, _||_}
 use mathlib.Core.List.{List, [], _∷_, map, List·Memᴰ, List·Memᴰ·head, List·Memᴰ·tail, List·Memᴰ·cases-cons, List·Memᴰ·not-nil}
 use mathlib.Core.Logic.{_⊎_, inl, inr}
-use mathlib.Core.Option.{some}
+use mathlib.Core.Option.{none, some}
 use Prim.Native.Nat.{ℕ, suc, _+_, _-_, _≤_, _<_}
 use native.Mathlib.Omega.{arith}
 use borrow.Author.Tests.{ltb-true, ltb-false, eqb-true, eqb-false}
 use lib.Dec.{ltb, eqb}
 use lib.IntN.{ℤ, pos, negsuc, natAbs}
+use Rattle.definition.specs.Limits.{largest, deepest}
 use Rattle.definition.specs.Words.{if_then_else_, Placed, Point, any, none?}
 use Rattle.definition.specs.Commands.{Shape, Turn, translate, mirrorX, mirrorY, rotate}
 use Rattle.definition.specs.Faults.{beyond, both, zero?, bearings}
-use Rattle.definition.specs.Turns.{act, inOrder, moved, offAxes}
+use Rattle.definition.specs.Turns.{+x, +y, -x, -y, negative, heading, act, inOrder, moved, offAxes}
 use Rattle.definition.specs.Table.{Definition, Table, find}
 use Rattle.definition.specs.Drawing.{Chain}
 
@@ -99,12 +100,25 @@ zero-decides z = decides (nat-abs-zero z) (ap natAbs) (eqb-decides (natAbs z) 0)
 pub data Askew : Turn ℤ → Type 0 where
   askew : {v : Point ℤ} → (v .x ≡ pos 0 → ⊥) → (v .y ≡ pos 0 → ⊥) → Askew (rotate v)
 
-askew-decides : (t : Turn ℤ) → Decides (Askew t) (any (λ d. not (zero? (d .x)) && not (zero? (d .y))) (bearings t))
+-- a direction lies off the axes exactly where neither part is 0
+pub off-the-axes : (v : Point ℤ) → none? (heading v) ≡ (not (zero? (v .x)) && not (zero? (v .y)))
+unfolding heading
+off-the-axes v = go (zero? (v .x)) (zero? (v .y))
+  where
+    go : (a b : Bool) → none? (if b then some (if negative (v .x) then -x else +x) else if a then some (if negative (v .y) then -y else +y) else none) ≡ (not a && not b)
+    go true true = refl
+    go true false = refl
+    go false true = refl
+    go false false = refl
+
+askew-decides : (t : Turn ℤ) → Decides (Askew t) (any (λ d. none? (heading d)) (bearings t))
 unfolding any bearings
 askew-decides (translate v) = fails (elim [ ])
 askew-decides mirrorX = fails (elim [ ])
 askew-decides mirrorY = fails (elim [ ])
-askew-decides (rotate v) = decides turned parts (decides-or (decides-and (decides-not (zero-decides (v .x))) (decides-not (zero-decides (v .y)))) (fails (λ h. h)))
+askew-decides (rotate v) =
+    decides turned parts
+    (decides-or (subst (Decides Parts) (sym (off-the-axes v)) (decides-and (decides-not (zero-decides (v .x))) (decides-not (zero-decides (v .y))))) (fails (λ h. h)))
   where
     Parts : Type 0
     Parts = (v .x ≡ pos 0 → ⊥) × (v .y ≡ pos 0 → ⊥)
@@ -118,7 +132,7 @@ askew-decides (rotate v) = decides turned parts (decides-or (decides-and (decide
 
 pub off-axes-decides : (ts : List (Turn ℤ)) → Decides (Among Askew ts) (offAxes ts)
 unfolding offAxes
-off-axes-decides ts = any-decides Askew (λ t. any (λ d. not (zero? (d .x)) && not (zero? (d .y))) (bearings t)) askew-decides ts
+off-axes-decides ts = any-decides Askew (λ t. any (λ d. none? (heading d)) (bearings t)) askew-decides ts
 
 -- 01, refusal 12: a live definition has the number, or none has it
 abbrev pub Defined : Table → ℕ → Type 0
@@ -149,28 +163,28 @@ pub being-drawn-decides : (n : ℕ) (chain : Chain) → Decides (BeingDrawn chai
 being-drawn-decides n chain = any-decides (λ (c : Placed ℕ). c .what ≡ n) (λ c. eqb (c .what) n) (λ c. eqb-decides (c .what) n) chain
 
 -- 01, refusal 14
-pub depth-decides : (depth : ℕ) → Decides (33 ≤ depth + 1) (eqb (32 - depth) 0)
-depth-decides depth = decides (λ e. omega arith) (λ h. omega arith) (eqb-decides (32 - depth) 0)
+pub depth-decides : (depth : ℕ) → Decides (deepest < depth + 1) (eqb (deepest - depth) 0)
+depth-decides depth = decides (λ e. omega arith) (λ h. omega arith) (eqb-decides (deepest - depth) 0)
 
 -- 01, refusal 16: a point beyond 16,777,215
 abbrev pub Beyond : Point ℤ → Type 0
-Beyond p = (16777215 < natAbs (p .x)) ⊎ (16777215 < natAbs (p .y))
+Beyond p = (largest < natAbs (p .x)) ⊎ (largest < natAbs (p .y))
 
 final-decides : (f : Point ℤ → Point ℤ) (ps : List (Point ℤ)) → Decides (Among (λ (p : Point ℤ). Beyond (f p)) ps) (any beyond (both (map f ps)))
 unfolding any beyond
 final-decides f [] = fails (among-none (λ (p : Point ℤ). Beyond (f p)))
 final-decides f (p ∷ ps) =
     decides (λ h. among-joined Out (left h)) (λ h. right (among-cases Out h))
-    (decides-or (ltb-decides 16777215 (natAbs (f p .x))) (decides-or (ltb-decides 16777215 (natAbs (f p .y))) (final-decides f ps)))
+    (decides-or (ltb-decides largest (natAbs (f p .x))) (decides-or (ltb-decides largest (natAbs (f p .y))) (final-decides f ps)))
   where
     Out : Point ℤ → Type 0
     Out q = Beyond (f q)
 
     X : Type 0
-    X = 16777215 < natAbs (f p .x)
+    X = largest < natAbs (f p .x)
 
     Y : Type 0
-    Y = 16777215 < natAbs (f p .y)
+    Y = largest < natAbs (f p .y)
 
     left : X ⊎ (Y ⊎ Among Out ps) → (X ⊎ Y) ⊎ Among Out ps
     left (inl h) = inl (inl h)

@@ -9,6 +9,8 @@ use native.Mathlib.Omega.{arith}
 use lib.Dec.{eqb}
 use lib.IntN.{ℤ}
 use lib.ListN.{length, length-append}
+use Rattle.definition.specs.Limits.{deepest}
+use Rattle.definition.specs.Rules.{Rule, undefinedSymbol, beingDrawn}
 use Rattle.definition.specs.Words.{Placed, at}
 use Rattle.definition.specs.Commands.{Turn}
 use Rattle.definition.specs.Table.{Step, shape, instance, setting, Definition, Table}
@@ -26,7 +28,7 @@ Distinct [] = Unit {0}
 Distinct (o ∷ chain) = (BeingDrawn chain (o .what) → ⊥) × Distinct chain
 
 pub record Opened (t : Table) (chain : Chain) : Type 0 where
-  pub few : length chain ≤ 32
+  pub few : length chain ≤ deepest
   pub distinct : Distinct chain
   pub defined : All (λ (o : Placed ℕ). Defined t (o .what)) chain
 
@@ -39,11 +41,11 @@ pub record OpenedAt (t : Table) (m : Moment) : Type 0 where
   pub opened : Opened t (m .chain)
 
 -- a call that is made breaks no rule that does not count
-pub made-unbroken : (m : Moment) (q : ℕ) (chain : Chain) (d : Definition) → eventAt m ≡ called q chain d → (k : ℕ) → Breaks (counts 0 0 0) m k → ⊥
+pub made-unbroken : (m : Moment) (q : ℕ) (chain : Chain) (d : Definition) → eventAt m ≡ called q chain d → (k : Rule) → Breaks (counts 0 0 0) m k → ⊥
 unfolding counted
 made-unbroken m q chain d e = go (met (counts 0 0 0) m) (ap (counted (counts 0 0 0)) e)
   where
-    go : {x : End} → Met (counts 0 0 0) m x → x ≡ finished (counts 1 0 0) → (k : ℕ) → Breaks (counts 0 0 0) m k → ⊥
+    go : {x : End} → Met (counts 0 0 0) m x → x ≡ finished (counts 1 0 0) → (k : Rule) → Breaks (counts 0 0 0) m k → ⊥
     go (goes-on h) f = h
     go (stops l) f = absurd (not-finished f)
 
@@ -77,7 +79,7 @@ distinct-more (a ∷ chain) o x new = (λ h. go (among-last Same chain o h), dis
     go (inl h) = x .0 h
     go (inr e) = new (among-first Other (sym e))
 
-opened-more : (t : Table) (chain : Chain) (o : Placed ℕ) → Opened t chain → length chain < 32 → (BeingDrawn chain (o .what) → ⊥) → Defined t (o .what)
+opened-more : (t : Table) (chain : Chain) (o : Placed ℕ) → Opened t chain → length chain < deepest → (BeingDrawn chain (o .what) → ⊥) → Defined t (o .what)
     → Opened t (chain ++ (o ∷ []))
 unfolding All
 opened-more t chain o x room new known = record {
@@ -93,7 +95,7 @@ all-followed P (called p chain d) go h = h p chain d refl
 all-followed P (drew d) go h = tt
 all-followed P (entered d before) go h = tt
 all-followed P (removed n before) go h = tt
-all-followed P (refused n p chain) go h = tt
+all-followed P (refused r chain) go h = tt
 
 module _ (t : Table) (chain : Chain) (net : List (Turn ℤ)) (x : Opened t chain) (g : ℕ → ℕ → List (Turn ℤ) → List Moment)
     (each : (p n : ℕ) (ts : List (Turn ℤ)) → All (OpenedAt t) (g p n ts)) where
@@ -109,17 +111,17 @@ module _ (t : Table) (chain : Chain) (net : List (Turn ℤ)) (x : Opened t chain
   open-body (s ∷ b) =
       all-++ (OpenedAt t) (stepMoments g t chain net (s .place) (s .what)) (bodyMoments g t chain net b) (open-step (s .place) (s .what)) (open-body b)
 
-open-call : (left : ℕ) (t : Table) (chain : Chain) (net : List (Turn ℤ)) (p n : ℕ) (ts : List (Turn ℤ)) → left + length chain ≡ 32 → Opened t chain
+open-call : (left : ℕ) (t : Table) (chain : Chain) (net : List (Turn ℤ)) (p n : ℕ) (ts : List (Turn ℤ)) → left + length chain ≡ deepest → Opened t chain
     → All (OpenedAt t) (callMoments left t chain net p n ts)
 unfolding callMoments All
 open-call zero t chain net p n ts h x = (record { table-is = refl; opened = x }, tt)
 open-call (suc left) t chain net p n ts h x =
     let deeper : Chain = chain ++ (at p n ∷ []) in
-    let one-more : left + length deeper ≡ 32 = rw length-append (omega arith) in (
+    let one-more : left + length deeper ≡ deepest = rw length-append (omega arith) in (
       record { table-is = refl; opened = x },
       all-followed (OpenedAt t) (eventOf t chain net p (calling n ts)) (λ d. bodyMoments (callMoments left t deeper (ts ++ net)) t deeper (ts ++ net) (d .body))
           (λ q ch d e. let u = made-unbroken (moment t chain net p (calling n ts)) q ch d e in
-          let wider : Opened t deeper = opened-more t chain (at p n) x (omega arith) (λ y. u 13 (being-drawn y)) (defined-when t n (λ y. u 12 (undefined y))) in
+          let wider : Opened t deeper = opened-more t chain (at p n) x (omega arith) (λ y. u beingDrawn (being-drawn y)) (defined-when t n (λ y. u undefinedSymbol (undefined y))) in
           open-body t deeper (ts ++ net) wider (callMoments left t deeper (ts ++ net)) (λ q m us. open-call left t deeper (ts ++ net) q m us one-more wider) (d .body)),
     )
 
@@ -131,7 +133,7 @@ opened-none t = record { few = omega arith; distinct = tt; defined = tt }
 pub open-deed : (t : Table) (d : Deed) → All (OpenedAt t) (deedMoments t d)
 unfolding deedMoments All
 open-deed t (output s) =
-    open-step t [] [] (opened-none t) (callMoments 32 t [] []) (λ p n ts. open-call 32 t [] [] p n ts refl (opened-none t)) (s .place) (s .what)
+    open-step t [] [] (opened-none t) (callMoments deepest t [] []) (λ p n ts. open-call deepest t [] [] p n ts refl (opened-none t)) (s .place) (s .what)
 open-deed t (define d) = (record { table-is = refl; opened = opened-none t }, tt)
 open-deed t (remove n) = (record { table-is = refl; opened = opened-none t }, tt)
 

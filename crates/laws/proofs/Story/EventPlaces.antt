@@ -1,26 +1,30 @@
 -- What holds of the place of every command holds of every place that the drawing names: of what is drawn, of a refusal, and of the calls open
--- there. And a drawing is stopped by a number from 10 to 17.
+-- there. And a drawing is stopped by a rule of 10 to 17.
 -- Assumes nothing.
-use mathlib.Core.Path.{_≡_, subst}
+use mathlib.Core.Path.{_≡_, refl, subst}
 use mathlib.Core.Bool.{Bool, true, false}
 use mathlib.Core.List.{List, [], _∷_, _++_, map}
 use mathlib.Core.Option.{Option, none, some}
-use Prim.Native.Nat.{ℕ, zero, suc, _+_, _≤_}
+use Prim.Native.Nat.{ℕ, zero, suc, _+_}
 use native.Mathlib.Omega.{arith}
 use lib.Dec.{ltb, eqb}
 use lib.IntN.{ℤ}
 use lib.ListN.{length}
-use Rattle.definition.specs.Words.{if_then_else_, Placed, at, any, those, none?}
+use Rattle.definition.specs.declared.Refusal.{Refusal}
+use Rattle.definition.specs.Limits.{mostDefinitions, deepest, mostCalls, mostShapes}
+use Rattle.definition.specs.Words.{if_then_else_, Placed, at, any, those}
+use Rattle.definition.specs.Rules.{Rule, tooManyDefinitions, offTheAxes, beingDrawn, tooDeep, tooManyCalls, outOfRange, tooManyShapes, refuse}
 use Rattle.definition.specs.Commands.{Shape, Turn, Command, draw, layer, call, start, finish, delete, nothing}
 use Rattle.definition.specs.Standing.{Standing, outside, after}
 use Rattle.definition.specs.Faults.{beyond, both}
 use Rattle.definition.specs.Turns.{moved, offAxes}
 use Rattle.definition.specs.Table.{Step, shape, instance, setting, Definition, Table, find, enter, forget}
 use Rattle.definition.specs.Drawing.{stepOf, retained, Deed, output, define, remove, deedOf, deeds, Chain, Event, called, drew, entered, removed, refused}
-use Rattle.definition.specs.Drawing.{drawShape, drawStep, drawBody, callFault, unless, drawCall, happens, tableAfter, story}
+use Rattle.definition.specs.Drawing.{drawShape, drawStep, drawBody, Passage, barred, leads, passageTo, passageOf, through, drawCall, happens, tableAfter, story}
 use Rattle.definition.specs.Counts.{Counts, counts, End, finished, stopped, counted, goOn, ending}
 use Rattle.definition.specs.Answer.{drawingOf}
 use Rattle.laws.proofs.Lists.Range.{All, all-++}
+use Rattle.laws.proofs.Rules.Order.{ByDrawing}
 
 -- what holds of every entry of a table is kept as the table changes, and holds of what is found
 module _ (P : Definition → Type 0) where
@@ -56,11 +60,6 @@ module _ (P : Definition → Type 0) where
       go true y = (x .0, y)
       go false y = y
 
--- 01, refusals 10 to 17
-pub record ByDrawing (n : ℕ) : Type 0 where
-  pub least : 10 ≤ n
-  pub most : n ≤ 17
-
 module _ (P : ℕ → Type 0) where
   abbrev pub At : {A : Type 0} → Placed A → Type 0
   At x = P (x .place)
@@ -77,10 +76,12 @@ module _ (P : ℕ → Type 0) where
   abbrev pub AtChain : Chain → Type 0
   AtChain chain = All At chain
 
-  -- a refusal's number, its place, and the open calls
-  pub record Refuses (n p : ℕ) (chain : Chain) : Type 0 where
-    pub number : ByDrawing n
-    pub place : P p
+  -- a refusal's rule, its place, and the open calls
+  pub record Refuses (r : Refusal) (chain : Chain) : Type 0 where
+    pub rule : Rule
+    pub by-drawing : ByDrawing rule
+    pub is : r ≡ refuse rule (r .place)
+    pub place : P (r .place)
     pub open-calls : AtChain chain
 
   abbrev pub AtEvent : Event → Type 0
@@ -88,7 +89,7 @@ module _ (P : ℕ → Type 0) where
   AtEvent (drew d) = P (d .place) × AtChain (d .chain)
   AtEvent (entered d before) = Unit {0}
   AtEvent (removed n before) = Unit {0}
-  AtEvent (refused n p chain) = Refuses n p chain
+  AtEvent (refused r chain) = Refuses r chain
 
   -- ---- from commands to deeds
 
@@ -131,15 +132,15 @@ module _ (P : ℕ → Type 0) where
 
   -- ---- from deeds to events
 
-  refuses : (n : ℕ) {p : ℕ} {chain : Chain} → 10 ≤ n → n ≤ 17 → P p → AtChain chain → Refuses n p chain
-  refuses n a b h x = record { number = record { least = a; most = b }; place = h; open-calls = x }
+  refuses : (r : Rule) {p : ℕ} {chain : Chain} → ByDrawing r → P p → AtChain chain → Refuses (refuse r p) chain
+  refuses r b h x = record { rule = r; by-drawing = b; is = refl; place = h; open-calls = x }
 
   shape-at : (chain : Chain) (net : List (Turn ℤ)) (p : ℕ) (l : List ℕ) (k : Shape ℤ) → P p → AtChain chain → AtEvent (drawShape chain net p l k)
   unfolding drawShape
   shape-at chain net p l k h x = go (any beyond (both (moved net k .points)))
     where
-      go : (b : Bool) → AtEvent (if b then refused 16 p chain else drew (record { place = p; chain = chain; net = net; layer-of = l; itself = moved net k }))
-      go true = refuses 16 (omega arith) (omega arith) h x
+      go : (b : Bool) → AtEvent (if b then refused (refuse outOfRange p) chain else drew (record { place = p; chain = chain; net = net; layer-of = l; itself = moved net k }))
+      go true = refuses outOfRange (record { least = omega arith; most = omega arith }) h x
       go false = (h, x)
 
   module _ (f : ℕ → ℕ → List (Turn ℤ) → List Event) (call-at : (p n : ℕ) (ts : List (Turn ℤ)) → P p → All AtEvent (f p n ts)) (chain : Chain) (calls : AtChain chain) where
@@ -154,47 +155,49 @@ module _ (P : ℕ → Type 0) where
     body-events net [] x = tt
     body-events net (s ∷ b) x = all-++ AtEvent (drawStep f chain net (s .place) (s .what)) (drawBody f chain net b) (step-at net (s .place) (s .what) (x .0)) (body-events net b (x .1))
 
-  -- the number of a call's refusal
-  abbrev Numbered : Option ℕ → Type 0
-  Numbered none = Unit {0}
-  Numbered (some n) = ByDrawing n
+  -- the rule that bars a call, or the definition that it leads to
+  abbrev AtPassage : Passage → Type 0
+  AtPassage (barred r) = ByDrawing r
+  AtPassage (leads d) = AtEntry d
 
-  call-number : (left : ℕ) (found : Option Definition) (chain : Chain) (n : ℕ) (ts : List (Turn ℤ)) → Numbered (callFault left found chain n ts)
-  unfolding callFault
-  call-number left found chain n ts = go (offAxes ts) (none? found) (any (λ c. eqb (c .what) n) chain) (eqb left 0)
+  passage-at : (left : ℕ) (t : Table) (chain : Chain) (n : ℕ) (ts : List (Turn ℤ)) → All AtEntry t → AtPassage (passageOf left t chain n ts)
+  unfolding passageOf passageTo
+  passage-at left t chain n ts x = go (offAxes ts) (find n t) (entry-found AtEntry n t x)
     where
-      go : (a b c d : Bool) → Numbered (if a then some 11 else if b then some 12 else if c then some 13 else if d then some 14 else none)
-      go true b c d = record { least = omega arith; most = omega arith }
-      go false true c d = record { least = omega arith; most = omega arith }
-      go false false true d = record { least = omega arith; most = omega arith }
-      go false false false true = record { least = omega arith; most = omega arith }
-      go false false false false = tt
+      further : (a b : Bool) (d : Definition) → AtEntry d → AtPassage (if a then barred beingDrawn else if b then barred tooDeep else leads d)
+      further true b d y = record { least = omega arith; most = omega arith }
+      further false true d y = record { least = omega arith; most = omega arith }
+      further false false d y = y
 
-  unless-at : (o : Option ℕ) (p : ℕ) (chain : Chain) (found : Option Definition) (go : Definition → List Event) → Numbered o → P p → AtChain chain → Found AtEntry found
-      → ((d : Definition) → AtEntry d → All AtEvent (go d)) → All AtEvent (unless o p chain found go)
-  unfolding unless All
-  unless-at (some n) p chain found go o h x y f = (record { number = o; place = h; open-calls = x }, tt)
-  unless-at none p chain none go o h x y f = tt
-  unless-at none p chain (some d) go o h x y f = ((h, x), f d y)
+      go : (a : Bool) (found : Option Definition) → Found AtEntry found → AtPassage (if a then barred offTheAxes else passageTo found left chain n)
+      go true found y = record { least = omega arith; most = omega arith }
+      go false none y = record { least = omega arith; most = omega arith }
+      go false (some d) y = further (any (λ c. eqb (c .what) n) chain) (eqb left 0) d y
+
+  through-at : (o : Passage) (p : ℕ) (chain : Chain) (go : Definition → List Event) → AtPassage o → P p → AtChain chain
+      → ((d : Definition) → AtEntry d → All AtEvent (go d)) → All AtEvent (through o p chain go)
+  unfolding through All
+  through-at (barred r) p chain go o h x f = (refuses r o h x, tt)
+  through-at (leads d) p chain go o h x f = ((h, x), f d o)
 
   call-events : (left : ℕ) (t : Table) → All AtEntry t → (chain : Chain) → AtChain chain → (net : List (Turn ℤ)) (p n : ℕ) (ts : List (Turn ℤ)) → P p → All AtEvent (drawCall left t chain net p n ts)
   unfolding drawCall All
   call-events zero t x chain y net p n ts h =
-      unless-at (callFault 0 (find n t) chain n ts) p chain (find n t) (λ d. []) (call-number 0 (find n t) chain n ts) h y (entry-found AtEntry n t x) (λ d z. tt)
+      through-at (passageOf 0 t chain n ts) p chain (λ d. []) (passage-at 0 t chain n ts x) h y (λ d z. tt)
   call-events (suc left) t x chain y net p n ts h =
       let deeper : Chain = chain ++ (at p n ∷ []) in
       let deeper-at : AtChain deeper = all-++ At chain (at p n ∷ []) y (h, tt) in
-      unless-at (callFault (suc left) (find n t) chain n ts) p chain (find n t) (λ d. drawBody (drawCall left t deeper (ts ++ net)) deeper (ts ++ net) (d .body))
-      (call-number (suc left) (find n t) chain n ts) h y (entry-found AtEntry n t x)
+      through-at (passageOf (suc left) t chain n ts) p chain (λ d. drawBody (drawCall left t deeper (ts ++ net)) deeper (ts ++ net) (d .body))
+      (passage-at (suc left) t chain n ts x) h y
       (λ d z. body-events (drawCall left t deeper (ts ++ net)) (λ q k us g. call-events left t x deeper deeper-at (ts ++ net) q k us g) deeper deeper-at (ts ++ net) (d .body) (z .body-at))
 
   happens-at : (t : Table) (d : Deed) → All AtEntry t → AtDeed d → All AtEvent (happens t d)
   unfolding happens All
-  happens-at t (output s) x h = step-at (drawCall 32 t [] []) (λ q k us g. call-events 32 t x [] tt [] q k us g) [] tt [] (s .place) (s .what) h
-  happens-at t (define d) x h = (go (ltb 512 (length (enter d t))), tt)
+  happens-at t (output s) x h = step-at (drawCall deepest t [] []) (λ q k us g. call-events deepest t x [] tt [] q k us g) [] tt [] (s .place) (s .what) h
+  happens-at t (define d) x h = (go (ltb mostDefinitions (length (enter d t))), tt)
     where
-      go : (b : Bool) → AtEvent (if b then refused 10 (d .place) [] else entered d t)
-      go true = refuses 10 (omega arith) (omega arith) (h .own) tt
+      go : (b : Bool) → AtEvent (if b then refused (refuse tooManyDefinitions (d .place)) [] else entered d t)
+      go true = refuses tooManyDefinitions (record { least = omega arith; most = omega arith }) (h .own) tt
       go false = tt
   happens-at t (remove n) x h = (tt, tt)
 
@@ -218,23 +221,23 @@ module _ (P : ℕ → Type 0) where
 
   abbrev AtEnd : End → Type 0
   AtEnd (finished c) = Unit {0}
-  AtEnd (stopped n p chain) = Refuses n p chain
+  AtEnd (stopped r chain) = Refuses r chain
 
   counted-at : (c : Counts) (e : Event) → AtEvent e → AtEnd (counted c e)
   unfolding counted
-  counted-at c (called p chain d) x = go (ltb (c .calls) 1048576)
+  counted-at c (called p chain d) x = go (ltb (c .calls) mostCalls)
     where
-      go : (b : Bool) → AtEnd (if b then finished (counts (c .calls + 1) (c .shapes) (c .redefinitions)) else stopped 15 p chain)
+      go : (b : Bool) → AtEnd (if b then finished (counts (c .calls + 1) (c .shapes) (c .redefinitions)) else stopped (refuse tooManyCalls p) chain)
       go true = tt
-      go false = refuses 15 (omega arith) (omega arith) (x .0) (x .1)
-  counted-at c (drew d) x = go (ltb (c .shapes) 1048576)
+      go false = refuses tooManyCalls (record { least = omega arith; most = omega arith }) (x .0) (x .1)
+  counted-at c (drew d) x = go (ltb (c .shapes) mostShapes)
     where
-      go : (b : Bool) → AtEnd (if b then finished (counts (c .calls) (c .shapes + 1) (c .redefinitions)) else stopped 17 (d .place) (d .chain))
+      go : (b : Bool) → AtEnd (if b then finished (counts (c .calls) (c .shapes + 1) (c .redefinitions)) else stopped (refuse tooManyShapes (d .place)) (d .chain))
       go true = tt
-      go false = refuses 17 (omega arith) (omega arith) (x .0) (x .1)
+      go false = refuses tooManyShapes (record { least = omega arith; most = omega arith }) (x .0) (x .1)
   counted-at c (entered d before) x = tt
   counted-at c (removed n before) x = tt
-  counted-at c (refused n p chain) x = x
+  counted-at c (refused r chain) x = x
 
   ending-at : (c : Counts) (es : List Event) → All AtEvent es → AtEnd (ending c es)
   unfolding ending goOn All
@@ -243,7 +246,7 @@ module _ (P : ℕ → Type 0) where
     where
       go : (o : End) → AtEnd o → ((c′ : Counts) → AtEnd (ending c′ es)) → AtEnd (goOn o (λ c′. ending c′ es))
       go (finished c′) y f = f c′
-      go (stopped n p chain) y f = y
+      go (stopped r chain) y f = y
 
-  pub stopped-at : (cs : List (Placed Command)) → All At cs → {n p : ℕ} {chain : Chain} → ending (counts 0 0 0) (drawingOf cs) ≡ stopped n p chain → Refuses n p chain
+  pub stopped-at : (cs : List (Placed Command)) → All At cs → {r : Refusal} {chain : Chain} → ending (counts 0 0 0) (drawingOf cs) ≡ stopped r chain → Refuses r chain
   stopped-at cs x e = subst AtEnd e (ending-at (counts 0 0 0) (drawingOf cs) (drawing-at cs x))

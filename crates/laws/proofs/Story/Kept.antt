@@ -8,14 +8,16 @@ use Prim.Native.Nat.{ℕ, zero, suc}
 use lib.Dec.{ltb, eqb}
 use lib.IntN.{ℤ}
 use lib.ListN.{length}
+use Rattle.definition.specs.Limits.{mostDefinitions, deepest}
 use Rattle.definition.specs.Words.{if_then_else_, Placed, at, any, those}
+use Rattle.definition.specs.Rules.{tooManyDefinitions, offTheAxes, beingDrawn, tooDeep, outOfRange, refuse}
 use Rattle.definition.specs.Commands.{Shape, Turn, Command, draw, layer, call, start, finish, delete, nothing}
 use Rattle.definition.specs.Standing.{Standing, after}
 use Rattle.definition.specs.Faults.{beyond, both, faults, allFaults}
-use Rattle.definition.specs.Turns.{moved}
+use Rattle.definition.specs.Turns.{moved, offAxes}
 use Rattle.definition.specs.Table.{Step, shape, instance, setting, Definition, Table, find, enter, forget}
 use Rattle.definition.specs.Drawing.{stepOf, retained, Deed, output, define, remove, deedOf, deeds, Chain, Drawn, Event, called, drew, entered, removed, refused}
-use Rattle.definition.specs.Drawing.{drawShape, drawStep, drawBody, callFault, unless, drawCall, happens, tableAfter, story}
+use Rattle.definition.specs.Drawing.{drawShape, drawStep, drawBody, Passage, barred, leads, passageTo, passageOf, through, drawCall, happens, tableAfter, story}
 use Rattle.definition.specs.Counts.{shapesOf}
 use Rattle.laws.proofs.Lists.Range.{All, all-++, Within}
 use Rattle.laws.proofs.Commands.Sizes.{nil-left, nil-right, all-map}
@@ -85,14 +87,14 @@ module _ (P Q : List ℕ → Shape ℤ → Type 0)
   Fitting (called p chain d) = Unit {0}
   Fitting (entered d before) = Unit {0}
   Fitting (removed n before) = Unit {0}
-  Fitting (refused n p chain) = Unit {0}
+  Fitting (refused r chain) = Unit {0}
 
   fit-shape : (chain : Chain) (net : List (Turn ℤ)) (p : ℕ) (l : List ℕ) (k : Shape ℤ) → P l k → Fitting (drawShape chain net p l k)
   unfolding drawShape Fitting
   fit-shape chain net p l k x = go (any beyond (both (moved net k .points))) refl
     where
       go : (b : Bool) → any beyond (both (moved net k .points)) ≡ b
-          → Fitting (if b then refused 16 p chain else drew (record { place = p; chain = chain; net = net; layer-of = l; itself = moved net k }))
+          → Fitting (if b then refused (refuse outOfRange p) chain else drew (record { place = p; chain = chain; net = net; layer-of = l; itself = moved net k }))
       go true e = tt
       go false e = moves net l k x e
 
@@ -108,29 +110,46 @@ module _ (P Q : List ℕ → Shape ℤ → Type 0)
     fit-body chain net [] x = tt
     fit-body chain net (s ∷ b) x = all-++ Fitting (drawStep f chain net (s .place) (s .what)) (drawBody f chain net b) (fit-draw chain net (s .place) (s .what) (x .0)) (fit-body chain net b (x .1))
 
-  fit-unless : (o : Option ℕ) (p : ℕ) (chain : Chain) (found : Option Definition) (go : Definition → List Event) → FitFound found
-      → ((d : Definition) → FitSteps (d .body) → All Fitting (go d)) → All Fitting (unless o p chain found go)
-  unfolding unless All Fitting FitFound
-  fit-unless (some n) p chain found go x h = (tt, tt)
-  fit-unless none p chain none go x h = tt
-  fit-unless none p chain (some d) go x h = (tt, h d x)
+  unfoldable FitPassage : Passage → Type 0
+  FitPassage (barred r) = Unit {0}
+  FitPassage (leads d) = FitSteps (d .body)
+
+  fit-passage : (left : ℕ) (t : Table) (chain : Chain) (n : ℕ) (ts : List (Turn ℤ)) → FitTable t → FitPassage (passageOf left t chain n ts)
+  unfolding passageOf passageTo FitPassage FitFound
+  fit-passage left t chain n ts x = go (offAxes ts) (find n t) (fit-find n t x)
+    where
+      further : (a b : Bool) (d : Definition) → FitSteps (d .body) → FitPassage (if a then barred beingDrawn else if b then barred tooDeep else leads d)
+      further true b d y = tt
+      further false true d y = tt
+      further false false d y = y
+
+      go : (a : Bool) (found : Option Definition) → FitFound found → FitPassage (if a then barred offTheAxes else passageTo found left chain n)
+      go true found y = tt
+      go false none y = tt
+      go false (some d) y = further (any (λ c. eqb (c .what) n) chain) (eqb left 0) d y
+
+  fit-through : (o : Passage) (p : ℕ) (chain : Chain) (go : Definition → List Event) → FitPassage o
+      → ((d : Definition) → FitSteps (d .body) → All Fitting (go d)) → All Fitting (through o p chain go)
+  unfolding through All Fitting FitPassage
+  fit-through (barred r) p chain go x h = (tt, tt)
+  fit-through (leads d) p chain go x h = (tt, h d x)
 
   fit-call : (left : ℕ) (t : Table) → FitTable t → (chain : Chain) (net : List (Turn ℤ)) (p n : ℕ) (ts : List (Turn ℤ)) → All Fitting (drawCall left t chain net p n ts)
   unfolding drawCall All
-  fit-call zero t x chain net p n ts = fit-unless (callFault 0 (find n t) chain n ts) p chain (find n t) (λ d. []) (fit-find n t x) (λ d y. tt)
+  fit-call zero t x chain net p n ts = fit-through (passageOf 0 t chain n ts) p chain (λ d. []) (fit-passage 0 t chain n ts x) (λ d y. tt)
   fit-call (suc left) t x chain net p n ts =
       let deeper : Chain = chain ++ (at p n ∷ []) in
-      fit-unless (callFault (suc left) (find n t) chain n ts) p chain (find n t)
+      fit-through (passageOf (suc left) t chain n ts) p chain
       (λ d. drawBody (drawCall left t deeper (ts ++ net)) deeper (ts ++ net) (d .body))
-      (fit-find n t x)
+      (fit-passage (suc left) t chain n ts x)
       (λ d y. fit-body (drawCall left t deeper (ts ++ net)) (λ q m us. fit-call left t x deeper (ts ++ net) q m us) deeper (ts ++ net) (d .body) y)
 
   fit-happens : (t : Table) (d : Deed) → FitTable t → FitDeed d → All Fitting (happens t d)
   unfolding happens All Fitting FitDeed
-  fit-happens t (output s) x y = fit-draw (drawCall 32 t [] []) (λ q m us. fit-call 32 t x [] [] q m us) [] [] (s .place) (s .what) y
-  fit-happens t (define d) x y = (go (ltb 512 (length (enter d t))), tt)
+  fit-happens t (output s) x y = fit-draw (drawCall deepest t [] []) (λ q m us. fit-call deepest t x [] [] q m us) [] [] (s .place) (s .what) y
+  fit-happens t (define d) x y = (go (ltb mostDefinitions (length (enter d t))), tt)
     where
-      go : (b : Bool) → Fitting (if b then refused 10 (d .place) [] else entered d t)
+      go : (b : Bool) → Fitting (if b then refused (refuse tooManyDefinitions (d .place)) [] else entered d t)
       go true = tt
       go false = tt
   fit-happens t (remove n) x y = (tt, tt)
@@ -148,7 +167,7 @@ module _ (P Q : List ℕ → Shape ℤ → Type 0)
   fitting (called p chain d ∷ es) x = fitting es (x .1)
   fitting (entered d before ∷ es) x = fitting es (x .1)
   fitting (removed n before ∷ es) x = fitting es (x .1)
-  fitting (refused n p chain ∷ es) x = fitting es (x .1)
+  fitting (refused r chain ∷ es) x = fitting es (x .1)
 
   -- what stands, and a command that is well made, give such steps and stand so afterwards
   module _ (N : Standing → Type 0) (W : Command → Type 0) (stands : (s : Standing) (c : Command) → N s → W c → N (after c s))

@@ -2,20 +2,20 @@
 -- The rules 10 to 17 of document 01 speak of moments (DrawingRules); here each event of the story is what one moment leads to, and no moment is left out.
 -- Assumes nothing.
 use mathlib.Core.Path.{_≡_, refl, sym, ap, ap₂, _∙_}
-use mathlib.Core.Bool.{Bool, true, false}
+use mathlib.Core.Bool.{true, false}
 use mathlib.Core.List.{List, [], _∷_, _++_, map}
-use mathlib.Core.Option.{Option, none, some}
 use Prim.Native.Nat.{ℕ, zero, suc, _+_, _-_}
 use native.Mathlib.Omega.{arith}
 use lib.Dec.{ltb}
 use lib.IntN.{ℤ}
 use lib.ListN.{length, length-append}
+use Rattle.definition.specs.Limits.{mostDefinitions, deepest}
 use Rattle.definition.specs.Words.{if_then_else_, Placed, at}
+use Rattle.definition.specs.Rules.{tooManyDefinitions, refuse}
 use Rattle.definition.specs.Commands.{Shape, Turn}
-use Rattle.definition.specs.Turns.{offAxes}
-use Rattle.definition.specs.Table.{Step, shape, instance, setting, Definition, Table, find, enter}
+use Rattle.definition.specs.Table.{Step, shape, instance, setting, Definition, Table, enter}
 use Rattle.definition.specs.Drawing.{Deed, output, define, remove, Chain, Event, called, drew, entered, removed, refused}
-use Rattle.definition.specs.Drawing.{drawShape, drawStep, drawBody, callFault, unless, drawCall, happens, tableAfter, story}
+use Rattle.definition.specs.Drawing.{drawShape, drawStep, drawBody, Passage, barred, leads, passageOf, through, drawCall, happens, tableAfter, story}
 
 -- a call of a symbol with its own transformations; a shape on its layer; a definition to enter; a symbol number from which on entries are removed
 pub data Act : Type 0 where
@@ -35,17 +35,16 @@ pub record Moment : Type 0 where
 abbrev pub moment : Table → Chain → List (Turn ℤ) → ℕ → Act → Moment
 moment t chain net p a = record { table = t; chain = chain; net = net; place = p; act = a }
 
--- a call that has a fault is refused, and one that has none is made
-unfoldable pub callEvent : Option ℕ → Option Definition → ℕ → Chain → Event
-callEvent (some number) found p chain = refused number p chain
-callEvent none none p chain = refused 12 p chain
-callEvent none (some d) p chain = called p chain d
+-- a call that is barred is refused, and one that leads to a definition is made
+unfoldable pub callEvent : Passage → ℕ → Chain → Event
+callEvent (barred r) p chain = refused (refuse r p) chain
+callEvent (leads d) p chain = called p chain d
 
 -- what a moment leads to. 32 levels are left outside all calls, and each open call takes one
 unfoldable pub eventOf : Table → Chain → List (Turn ℤ) → ℕ → Act → Event
-eventOf t chain net p (calling n ts) = callEvent (callFault (32 - length chain) (find n t) chain n ts) (find n t) p chain
+eventOf t chain net p (calling n ts) = callEvent (passageOf (deepest - length chain) t chain n ts) p chain
 eventOf t chain net p (drawing l k) = drawShape chain net p l k
-eventOf t chain net p (entering d) = if ltb 512 (length (enter d t)) then refused 10 p chain else entered d t
+eventOf t chain net p (entering d) = if ltb mostDefinitions (length (enter d t)) then refused (refuse tooManyDefinitions p) chain else entered d t
 eventOf t chain net p (removing n) = removed (at p n) t
 
 abbrev pub eventAt : Moment → Event
@@ -57,7 +56,7 @@ followed (called p chain d) go = go d
 followed (drew d) go = []
 followed (entered d before) go = []
 followed (removed n before) go = []
-followed (refused n p chain) go = []
+followed (refused r chain) go = []
 
 unfoldable pub stepMoments : (ℕ → ℕ → List (Turn ℤ) → List Moment) → Table → Chain → List (Turn ℤ) → ℕ → Step → List Moment
 stepMoments callMoments t chain net p (shape l k) = moment t chain net p (drawing l k) ∷ []
@@ -79,7 +78,7 @@ callMoments (suc left) t chain net p n ts =
     (λ d. bodyMoments (callMoments left t deeper (ts ++ net)) t deeper (ts ++ net) (d .body))
 
 unfoldable pub deedMoments : Table → Deed → List Moment
-deedMoments t (output s) = stepMoments (callMoments 32 t [] []) t [] [] (s .place) (s .what)
+deedMoments t (output s) = stepMoments (callMoments deepest t [] []) t [] [] (s .place) (s .what)
 deedMoments t (define d) = moment t [] [] (d .place) (entering d) ∷ []
 deedMoments t (remove n) = moment t [] [] (n .place) (removing (n .what)) ∷ []
 
@@ -111,22 +110,11 @@ module _ (f : ℕ → ℕ → List (Turn ℤ) → List Event) (g : ℕ → ℕ �
       ap₂ {C = List Event} (λ (x y : List Event). x ++ y) (step-events t chain net (s .place) (s .what)) (body-events t chain net b)
       ∙ sym (events-++ (stepMoments g t chain net (s .place) (s .what)) (bodyMoments g t chain net b))
 
--- a call that finds nothing has a fault
-nothing-found : (left : ℕ) (chain : Chain) (n : ℕ) (ts : List (Turn ℤ)) → callFault left none chain n ts ≡ none → ⊥
-unfolding callFault
-nothing-found left chain n ts e = go (offAxes ts) e
-  where
-    go : (b : Bool) → _≡_ {A = Option ℕ} (if b then some 11 else some 12) none → ⊥
-    go true h = let z : _≡_ {A = ℕ} 0 1 = cc in omega arith
-    go false h = let z : _≡_ {A = ℕ} 0 1 = cc in omega arith
-
-unless-events : (o : Option ℕ) (p : ℕ) (chain : Chain) (found : Option Definition) (go : Definition → List Event) (go′ : Definition → List Moment)
-    → (found ≡ none → o ≡ none → ⊥) → ((d : Definition) → go d ≡ events (go′ d))
-    → unless o p chain found go ≡ callEvent o found p chain ∷ events (followed (callEvent o found p chain) go′)
-unfolding unless callEvent followed
-unless-events (some number) p chain found go go′ h same = refl
-unless-events none p chain none go go′ h same = absurd (h refl refl)
-unless-events none p chain (some d) go go′ h same = ap (λ (x : List Event). called p chain d ∷ x) (same d)
+through-events : (o : Passage) (p : ℕ) (chain : Chain) (go : Definition → List Event) (go′ : Definition → List Moment) → ((d : Definition) → go d ≡ events (go′ d))
+    → through o p chain go ≡ callEvent o p chain ∷ events (followed (callEvent o p chain) go′)
+unfolding through callEvent followed
+through-events (barred r) p chain go go′ same = refl
+through-events (leads d) p chain go go′ same = ap (λ (x : List Event). called p chain d ∷ x) (same d)
 
 none-followed : (e : Event) → followed e (λ d. []) ≡ []
 unfolding followed
@@ -134,37 +122,32 @@ none-followed (called p chain d) = refl
 none-followed (drew d) = refl
 none-followed (entered d before) = refl
 none-followed (removed n before) = refl
-none-followed (refused n p chain) = refl
+none-followed (refused r chain) = refl
 
--- the fault of a call that finds nothing is there wherever it is looked for
-found-or-fault : (left : ℕ) (found : Option Definition) (chain : Chain) (n : ℕ) (ts : List (Turn ℤ)) → found ≡ none → callFault left found chain n ts ≡ none → ⊥
-found-or-fault left found chain n ts e h = nothing-found left chain n ts (rw e at h)
-
-pub call-events : (left : ℕ) (t : Table) (chain : Chain) (net : List (Turn ℤ)) (p n : ℕ) (ts : List (Turn ℤ)) → left + length chain ≡ 32
+pub call-events : (left : ℕ) (t : Table) (chain : Chain) (net : List (Turn ℤ)) (p n : ℕ) (ts : List (Turn ℤ)) → left + length chain ≡ deepest
     → drawCall left t chain net p n ts ≡ events (callMoments left t chain net p n ts)
 unfolding drawCall callMoments eventOf
 call-events zero t chain net p n ts h =
-    let levels : 32 - length chain ≡ 0 = omega arith in
-    let o = callFault 0 (find n t) chain n ts in
+    let levels : deepest - length chain ≡ 0 = omega arith in
+    let o = passageOf 0 t chain n ts in
     rw levels
-    (unless-events o p chain (find n t) (λ d. []) (λ d. []) (found-or-fault 0 (find n t) chain n ts) (λ d. refl)
-    ∙ ap (λ (x : List Moment). callEvent o (find n t) p chain ∷ events x) (none-followed (callEvent o (find n t) p chain)))
+    (through-events o p chain (λ d. []) (λ d. []) (λ d. refl)
+    ∙ ap (λ (x : List Moment). callEvent o p chain ∷ events x) (none-followed (callEvent o p chain)))
 call-events (suc left) t chain net p n ts h =
-    let levels : 32 - length chain ≡ suc left = omega arith in
+    let levels : deepest - length chain ≡ suc left = omega arith in
     let deeper : Chain = chain ++ (at p n ∷ []) in
-    let one-more : left + length deeper ≡ 32 = rw length-append (omega arith) in
+    let one-more : left + length deeper ≡ deepest = rw length-append (omega arith) in
     rw levels
-    (unless-events (callFault (suc left) (find n t) chain n ts) p chain (find n t)
+    (through-events (passageOf (suc left) t chain n ts) p chain
     (λ d. drawBody (drawCall left t deeper (ts ++ net)) deeper (ts ++ net) (d .body))
     (λ d. bodyMoments (callMoments left t deeper (ts ++ net)) t deeper (ts ++ net) (d .body))
-    (found-or-fault (suc left) (find n t) chain n ts)
     (λ d. body-events (drawCall left t deeper (ts ++ net)) (callMoments left t deeper (ts ++ net))
     (λ q m us. call-events left t deeper (ts ++ net) q m us one-more) t deeper (ts ++ net) (d .body)))
 
 deed-events : (t : Table) (d : Deed) → happens t d ≡ events (deedMoments t d)
 unfolding happens deedMoments eventOf
 deed-events t (output s) =
-    step-events (drawCall 32 t [] []) (callMoments 32 t [] []) (λ p n ts. call-events 32 t [] [] p n ts refl) t [] [] (s .place) (s .what)
+    step-events (drawCall deepest t [] []) (callMoments deepest t [] []) (λ p n ts. call-events deepest t [] [] p n ts refl) t [] [] (s .place) (s .what)
 deed-events t (define d) = refl
 deed-events t (remove n) = refl
 

@@ -3,11 +3,13 @@
 use mathlib.Core.Path.{_≡_, refl, sym, subst}
 use mathlib.Core.Bool.{Bool, true, false}
 use mathlib.Core.List.{List, [], _∷_, _++_}
-use Prim.Native.Nat.{ℕ, suc, _+_, _≤_}
+use Prim.Native.Nat.{ℕ, suc, _+_, _≤_, _<_}
 use native.Mathlib.Omega.{arith}
 use lib.Dec.{ltb, eqb}
 use lib.IntN.{ℤ}
 use lib.ListN.{length}
+use Rattle.definition.specs.Limits.{mostDefinitions, deepest, mostCalls, mostShapes}
+use Rattle.definition.specs.Rules.{Rule, tooManyDefinitions}
 use Rattle.definition.specs.Words.{if_then_else_, those}
 use Rattle.definition.specs.Commands.{Turn}
 use Rattle.definition.specs.Table.{Definition, Table, enter, forget}
@@ -45,19 +47,19 @@ forget-shorter n t = those-shorter (λ d. ltb (d .symbol) n) t
 
 -- rule 10 is kept at the moment
 abbrev Kept : Moment → Type 0
-Kept m = (d : Definition) → m .act ≡ entering d → length (enter d (m .table)) ≤ 512
+Kept m = (d : Definition) → m .act ≡ entering d → length (enter d (m .table)) ≤ mostDefinitions
 
 -- while rule 10 is kept, the table has at most 512 entries
 unfoldable Small : List Moment → Type 0
 Small [] = Unit {0}
-Small (m ∷ ms) = (length (m .table) ≤ 512) × (Kept m → Small ms)
+Small (m ∷ ms) = (length (m .table) ≤ mostDefinitions) × (Kept m → Small ms)
 
-small-++ : (t : Table) (a b : List Moment) → length t ≤ 512 → All (OpenedAt t) a → Small b → Small (a ++ b)
+small-++ : (t : Table) (a b : List Moment) → length t ≤ mostDefinitions → All (OpenedAt t) a → Small b → Small (a ++ b)
 unfolding Small All
 small-++ t [] b h x y = y
-small-++ t (m ∷ a) b h x y = (subst (λ (u : Table). length u ≤ 512) (sym (x .0 .table-is)) h, λ kept. small-++ t a b h (x .1) y)
+small-++ t (m ∷ a) b h x y = (subst (λ (u : Table). length u ≤ mostDefinitions) (sym (x .0 .table-is)) h, λ kept. small-++ t a b h (x .1) y)
 
-small : (t : Table) (ds : List Deed) → length t ≤ 512 → Small (moments t ds)
+small : (t : Table) (ds : List Deed) → length t ≤ mostDefinitions → Small (moments t ds)
 unfolding moments tableAfter deedMoments Small
 small t [] h = tt
 small t (output s ∷ ds) h = small-++ t (deedMoments t (output s)) (moments t ds) h (open-deed t (output s)) (small t ds h)
@@ -65,15 +67,15 @@ small t (define d ∷ ds) h = (h, λ kept. small (enter d t) ds (kept d refl))
 small t (remove n ∷ ds) h = (h, λ kept. small (forget (n .what) t) ds (omega (arith, forget-shorter (n .what) t)))
 
 -- a moment that is reached, after moments that broke no rule
-small-at : (c : Counts) (before : List Moment) (m : Moment) (after : List Moment) → Small (before ++ (m ∷ after)) → Unbroken c before → length (m .table) ≤ 512
+small-at : (c : Counts) (before : List Moment) (m : Moment) (after : List Moment) → Small (before ++ (m ∷ after)) → Unbroken c before → length (m .table) ≤ mostDefinitions
 unfolding Small
 small-at c [] m after x u = x .0
 small-at c (b ∷ before) m after x u = small-at (tallied c b) before m after (x .1 kept) (unbroken-rest c b before u)
   where
     kept : Kept b
     kept d e =
-        let no-more : ¬ (513 ≤ length (enter d (b .table))) =
-        λ h. unbroken-first c b before u 10 (subst (λ (a : Act). Broken c (b .table) (b .chain) (b .net) a 10) (sym e) (live h)) in
+        let no-more : ¬ (mostDefinitions < length (enter d (b .table))) =
+        λ h. unbroken-first c b before u tooManyDefinitions (subst (λ (a : Act). Broken c (b .table) (b .chain) (b .net) a tooManyDefinitions) (sym e) (live h)) in
         omega arith
 
 all-at : {A : Type 0} (P : A → Type 0) (before : List A) (a : A) (after : List A) → All P (before ++ (a ∷ after)) → P a
@@ -88,12 +90,12 @@ pub reached-counts : (before : List Moment) → Unbroken (counts 0 0 0) before
 reached-counts before u = drawing-counts (events before) (tally (counts 0 0 0) before) (passed (counts 0 0 0) before u)
 
 pub record Bounded (c : Counts) (m : Moment) : Type 0 where
-  pub calls-few : c .calls ≤ 1048576
-  pub shapes-few : c .shapes ≤ 1048576
-  pub table-few : length (m .table) ≤ 512
+  pub calls-few : c .calls ≤ mostCalls
+  pub shapes-few : c .shapes ≤ mostShapes
+  pub table-few : length (m .table) ≤ mostDefinitions
   pub opened : OpenCalls m
 
-pub reached-bounded : (t : Table) (ds : List Deed) → length t ≤ 512 → (before : List Moment) (m : Moment) (after : List Moment)
+pub reached-bounded : (t : Table) (ds : List Deed) → length t ≤ mostDefinitions → (before : List Moment) (m : Moment) (after : List Moment)
     → moments t ds ≡ before ++ (m ∷ after) → Unbroken (counts 0 0 0) before → Bounded (tally (counts 0 0 0) before) m
 reached-bounded t ds h before m after e u =
     let few = drawing-few (events before) (tally (counts 0 0 0) before) (passed (counts 0 0 0) before u) in
@@ -105,18 +107,18 @@ reached-bounded t ds h before m after e u =
     }
 
 -- a limit is broken by just one
-unfoldable pub JustOver : {c : Counts} {t : Table} {chain : Chain} {net : List (Turn ℤ)} {a : Act} {number : ℕ} → Broken c t chain net a number → Type 0
-JustOver {t} (live {d} x) = length (enter d t) ≡ 513
+unfoldable pub JustOver : {c : Counts} {t : Table} {chain : Chain} {net : List (Turn ℤ)} {a : Act} {rule : Rule} → Broken c t chain net a rule → Type 0
+JustOver {t} (live {d} x) = length (enter d t) ≡ mostDefinitions + 1
 JustOver (off-axes x) = Unit {0}
 JustOver (undefined x) = Unit {0}
 JustOver (being-drawn x) = Unit {0}
-JustOver {chain} (deep x) = length chain + 1 ≡ 33
-JustOver {c} (many-calls x) = c .calls + 1 ≡ 1048577
+JustOver {chain} (deep x) = length chain + 1 ≡ deepest + 1
+JustOver {c} (many-calls x) = c .calls + 1 ≡ mostCalls + 1
 JustOver (far x) = Unit {0}
-JustOver {c} (many-shapes x) = c .shapes + 1 ≡ 1048577
+JustOver {c} (many-shapes x) = c .shapes + 1 ≡ mostShapes + 1
 
-just-over : {c : Counts} {t : Table} {chain : Chain} {net : List (Turn ℤ)} {a : Act} {number : ℕ}
-    → c .calls ≤ 1048576 → c .shapes ≤ 1048576 → length t ≤ 512 → length chain ≤ 32 → (x : Broken c t chain net a number) → JustOver x
+just-over : {c : Counts} {t : Table} {chain : Chain} {net : List (Turn ℤ)} {a : Act} {rule : Rule}
+    → c .calls ≤ mostCalls → c .shapes ≤ mostShapes → length t ≤ mostDefinitions → length chain ≤ deepest → (x : Broken c t chain net a rule) → JustOver x
 unfolding JustOver
 just-over {t} f g h i (live {d} x) = omega (arith, enter-longer d t)
 just-over f g h i (off-axes x) = tt
@@ -128,8 +130,8 @@ just-over f g h i (far x) = tt
 just-over f g h i (many-shapes x) = omega arith
 
 -- the drawing is stopped at 513 live definitions, at depth 33, at call 1,048,577, at shape 1,048,577
-pub stops-just-over : (t : Table) (ds : List Deed) → length t ≤ 512 → {number place : ℕ} {chain : Chain} (f : FirstStop (counts 0 0 0) (moments t ds) number place chain)
-    → JustOver (f .lowest .breaks)
+pub stops-just-over : (t : Table) (ds : List Deed) → length t ≤ mostDefinitions → {rule : Rule} {place : ℕ} {chain : Chain} (f : FirstStop (counts 0 0 0) (moments t ds) rule place chain)
+    → JustOver (f .foremost .breaks)
 stops-just-over t ds h f =
     let b = reached-bounded t ds h (f .before) (f .it) (f .after) (f .parts) (f .unbroken) in
-    just-over (b .calls-few) (b .shapes-few) (b .table-few) (b .opened .few) (f .lowest .breaks)
+    just-over (b .calls-few) (b .shapes-few) (b .table-few) (b .opened .few) (f .foremost .breaks)

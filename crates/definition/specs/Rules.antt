@@ -1,0 +1,52 @@
+-- 01, "Numbers a refusal carries": a name for each row of the table, its number there, and the order in which the rules are looked at. A rule that
+-- is added gets a name, its number, and its place in the order, which need not be by number.
+use mathlib.Core.Bool.{Bool, true, false}
+use mathlib.Core.List.{List, [], _∷_}
+use Prim.Native.Nat.{ℕ, suc, _<_}
+use lib.Dec.{eqb}
+use Rattle.definition.specs.declared.Refusal.{Refusal}
+use Rattle.definition.specs.Words.{if_then_else_}
+
+pub data Rule : Type 0 where
+  textTooLong notInGrammar : Rule
+  numberTooLarge zeroFactor notWhole scaledTooLarge degenerateCommand noLayer tooManyParts : Rule
+  tooManyDefinitions offTheAxes undefinedSymbol beingDrawn tooDeep tooManyCalls outOfRange tooManyShapes : Rule
+  flatFileTooLong : Rule
+
+abbrev pub numberOf : Rule → ℕ
+numberOf textTooLong = 1
+numberOf notInGrammar = 2
+numberOf numberTooLarge = 3
+numberOf zeroFactor = 4
+numberOf notWhole = 5
+numberOf scaledTooLarge = 6
+numberOf degenerateCommand = 7
+numberOf noLayer = 8
+numberOf tooManyParts = 9
+numberOf tooManyDefinitions = 10
+numberOf offTheAxes = 11
+numberOf undefinedSymbol = 12
+numberOf beingDrawn = 13
+numberOf tooDeep = 14
+numberOf tooManyCalls = 15
+numberOf outOfRange = 16
+numberOf tooManyShapes = 17
+numberOf flatFileTooLong = 18
+
+abbrev pub refuse : Rule → (place : ℕ) → Refusal
+refuse r p = record { number = numberOf r; place = p }
+
+abbrev pub order : List Rule  -- 01: 1; then 2; then 3 to 9, within a command by number; then 10 to 17, at one command by number; then 18
+order =
+    textTooLong ∷ notInGrammar ∷ numberTooLarge ∷ zeroFactor ∷ notWhole ∷ scaledTooLarge ∷ degenerateCommand ∷ noLayer ∷ tooManyParts
+    ∷ tooManyDefinitions ∷ offTheAxes ∷ undefinedSymbol ∷ beingDrawn ∷ tooDeep ∷ tooManyCalls ∷ outOfRange ∷ tooManyShapes ∷ flatFileTooLong ∷ []
+
+abbrev pub rankIn : List Rule → (number : ℕ) → ℕ  -- how many rules stand before the one of this number
+rankIn [] n = 0
+rankIn (r ∷ rs) n = if eqb (numberOf r) n then 0 else suc (rankIn rs n)
+
+abbrev pub rank : Rule → ℕ
+rank r = rankIn order (numberOf r)
+
+abbrev pub Earlier : Rule → Rule → Type 0
+Earlier r q = rank r < rank q

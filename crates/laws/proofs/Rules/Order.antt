@@ -1,0 +1,73 @@
+-- The rules of 01's table by their order and by their numbers: no two rules have the same rank or the same number, and no number is 0, which says
+-- success. And the two stretches of the order: the rules that a command breaks, and those that stop a drawing.
+-- Assumes nothing.
+use mathlib.Core.Path.{_≡_, refl, sym, ap, _∙_}
+use Prim.Native.Nat.{ℕ, _≤_}
+use native.Mathlib.Omega.{arith}
+use lib.ListN.{getD}
+use Rattle.definition.specs.declared.Refusal.{Refusal}
+use Rattle.definition.specs.Rules.{Rule, textTooLong, notInGrammar, numberTooLarge, zeroFactor, notWhole, scaledTooLarge, degenerateCommand, noLayer}
+use Rattle.definition.specs.Rules.{tooManyParts, tooManyDefinitions, offTheAxes, undefinedSymbol, beingDrawn, tooDeep, tooManyCalls, outOfRange}
+use Rattle.definition.specs.Rules.{tooManyShapes, flatFileTooLong, numberOf, refuse, order, rankIn, rank}
+
+-- the rules a to b of the order
+pub record Between (a b r : Rule) : Type 0 where
+  pub least : rank a ≤ rank r
+  pub most : rank r ≤ rank b
+
+abbrev pub ByCommand : Rule → Type 0  -- 01, refusals 3 to 9
+ByCommand r = Between numberTooLarge tooManyParts r
+
+abbrev pub ByDrawing : Rule → Type 0  -- 01, refusals 10 to 17
+ByDrawing r = Between tooManyDefinitions tooManyShapes r
+
+-- every rule stands in the order
+standing-there : (r : Rule) → getD order (rank r) textTooLong ≡ r
+standing-there textTooLong = refl
+standing-there notInGrammar = refl
+standing-there numberTooLarge = refl
+standing-there zeroFactor = refl
+standing-there notWhole = refl
+standing-there scaledTooLarge = refl
+standing-there degenerateCommand = refl
+standing-there noLayer = refl
+standing-there tooManyParts = refl
+standing-there tooManyDefinitions = refl
+standing-there offTheAxes = refl
+standing-there undefinedSymbol = refl
+standing-there beingDrawn = refl
+standing-there tooDeep = refl
+standing-there tooManyCalls = refl
+standing-there outOfRange = refl
+standing-there tooManyShapes = refl
+standing-there flatFileTooLong = refl
+
+pub one-rank : (r q : Rule) → rank r ≡ rank q → r ≡ q
+one-rank r q e = sym (standing-there r) ∙ ap (λ (n : ℕ). getD order n textTooLong) e ∙ standing-there q
+
+pub one-number : (r q : Rule) → numberOf r ≡ numberOf q → r ≡ q
+one-number r q e = one-rank r q (ap (rankIn order) e)
+
+-- so a refusal is by one rule
+pub one-rule : (r q : Rule) {p o : ℕ} → refuse r p ≡ refuse q o → r ≡ q
+one-rule r q e = one-number r q (ap (λ (x : Refusal). x .number) e)
+
+pub number-from-1 : (r : Rule) → 1 ≤ numberOf r
+number-from-1 textTooLong = omega arith
+number-from-1 notInGrammar = omega arith
+number-from-1 numberTooLarge = omega arith
+number-from-1 zeroFactor = omega arith
+number-from-1 notWhole = omega arith
+number-from-1 scaledTooLarge = omega arith
+number-from-1 degenerateCommand = omega arith
+number-from-1 noLayer = omega arith
+number-from-1 tooManyParts = omega arith
+number-from-1 tooManyDefinitions = omega arith
+number-from-1 offTheAxes = omega arith
+number-from-1 undefinedSymbol = omega arith
+number-from-1 beingDrawn = omega arith
+number-from-1 tooDeep = omega arith
+number-from-1 tooManyCalls = omega arith
+number-from-1 outOfRange = omega arith
+number-from-1 tooManyShapes = omega arith
+number-from-1 flatFileTooLong = omega arith
