@@ -22,7 +22,7 @@ use Rattle.definition.specs.Drawing.{Chain, Event, deeds, story}
 use Rattle.definition.specs.Counts.{Counts, counts, End, finished, stopped, ending, shapesOf}
 use Rattle.definition.specs.Flat.{flat}
 
-pub data Outcome : Type 0 where  -- how a reading comes out: its commands are drawn, with the counts and all that happened; or refused, with the calls open there
+pub data Outcome : Type 0 where  -- a text's commands are drawn, with the counts and all that happened; or it is refused, with the calls open there
   accepted : List (Placed Command) → Counts → List Event → Outcome
   rejected : Refusal → Chain → Outcome
 
@@ -47,8 +47,7 @@ drawingOf cs = story [] (deeds (outside []) cs)
 unfoldable pub fitted : End → List (Placed Command) → List Event → ℕ → Outcome  -- 01, refusal 18: flat file longer than the room or than 16,777,216
 fitted (stopped r chain) cs es room = rejected r chain
 fitted (finished c) cs es room =
-    if leb (length (flat (shapesOf es))) room && leb (length (flat (shapesOf es))) mostBytes then accepted cs c es
-    else rejected (refuse flatFileTooLong 0) []
+    if leb (length (flat (shapesOf es))) room && leb (length (flat (shapesOf es))) mostBytes then accepted cs c es else rejected (refuse flatFileTooLong 0) []
 
 -- 01, order: 3 to 9 for all commands, then 10 to 17 in the order of drawing, then 18
 unfoldable pub drawn : Option Refusal → List (Placed Command) → ℕ → Outcome

@@ -27,15 +27,13 @@ stepOf s finish = []
 stepOf s (delete n) = []
 stepOf s nothing = []
 
--- 7.1.2.4: the commands within a definition are retained, in the same order, up to its DF
-unfoldable pub retained : Standing → List (Placed Command) → List (Placed Step)
+unfoldable pub retained : Standing → List (Placed Command) → List (Placed Step)  -- 7.1.2.4: within a definition, in the same order, up to its DF
 retained s [] = []
 retained s (c ∷ cs) =
     let rest = retained (after (c .what) s) cs in
     if s .inside then map (at (c .place)) (stepOf s (c .what)) ++ rest else []
 
--- 7.1.2.4: an executable command stands in no definition and is output directly; a definition is entered in the table; DD removes
-pub data Deed : Type 0 where
+pub data Deed : Type 0 where  -- 7.1.2.4: an executable command, in no definition, is output directly; a definition is entered in the table; DD removes
   output : Placed Step → Deed
   define : Definition → Deed
   remove : (symbol : Placed ℕ) → Deed

@@ -1,17 +1,12 @@
 -- 01, "Numbers a refusal carries": a name for each row of the table, its number there, and the order in which the rules are looked at. A rule that
 -- is added gets a name, its number, and its place in the order, which need not be by number.
-use mathlib.Core.Bool.{Bool, true, false}
 use mathlib.Core.List.{List, [], _∷_}
-use Prim.Native.Nat.{ℕ, suc, _<_}
-use lib.Dec.{eqb}
+use Prim.Native.Nat.{ℕ}
 use Rattle.definition.specs.declared.Refusal.{Refusal}
-use Rattle.definition.specs.Words.{if_then_else_}
 
 pub data Rule : Type 0 where
-  textTooLong notInGrammar : Rule
-  numberTooLarge zeroFactor notWhole scaledTooLarge degenerateCommand noLayer tooManyParts : Rule
-  tooManyDefinitions offTheAxes undefinedSymbol beingDrawn tooDeep tooManyCalls outOfRange tooManyShapes : Rule
-  flatFileTooLong : Rule
+  textTooLong notInGrammar numberTooLarge zeroFactor notWhole scaledTooLarge degenerateCommand noLayer tooManyParts : Rule
+  tooManyDefinitions offTheAxes undefinedSymbol beingDrawn tooDeep tooManyCalls outOfRange tooManyShapes flatFileTooLong : Rule
 
 abbrev pub numberOf : Rule → ℕ
 numberOf textTooLong = 1
@@ -40,13 +35,3 @@ abbrev pub order : List Rule  -- 01: 1; then 2; then 3 to 9, within a command by
 order =
     textTooLong ∷ notInGrammar ∷ numberTooLarge ∷ zeroFactor ∷ notWhole ∷ scaledTooLarge ∷ degenerateCommand ∷ noLayer ∷ tooManyParts
     ∷ tooManyDefinitions ∷ offTheAxes ∷ undefinedSymbol ∷ beingDrawn ∷ tooDeep ∷ tooManyCalls ∷ outOfRange ∷ tooManyShapes ∷ flatFileTooLong ∷ []
-
-abbrev pub rankIn : List Rule → (number : ℕ) → ℕ  -- how many rules stand before the one of this number
-rankIn [] n = 0
-rankIn (r ∷ rs) n = if eqb (numberOf r) n then 0 else suc (rankIn rs n)
-
-abbrev pub rank : Rule → ℕ
-rank r = rankIn order (numberOf r)
-
-abbrev pub Earlier : Rule → Rule → Type 0
-Earlier r q = rank r < rank q

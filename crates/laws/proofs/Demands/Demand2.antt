@@ -11,14 +11,14 @@ use Rattle.grammar.specs.Notation.{Letter}
 use Rattle.grammar.specs.Viable.{Marked, Grammatical, LongestViable}
 use Rattle.definition.specs.Limits.{mostBytes}
 use Rattle.definition.specs.Words.{Placed}
-use Rattle.definition.specs.Rules.{Rule, textTooLong, notInGrammar, flatFileTooLong, refuse, rank}
+use Rattle.definition.specs.Rules.{Rule, textTooLong, notInGrammar, flatFileTooLong, refuse}
 use Rattle.definition.specs.Commands.{Command, commands}
 use Rattle.definition.specs.Drawing.{Chain, Event}
 use Rattle.definition.specs.Counts.{Counts, finished, stopped}
 use Rattle.definition.specs.Answer.{accepted, rejected, Answers}
 use Rattle.laws.proofs.Rules.FaultRules.{FirstBreak, rule-ranked}
 use Rattle.laws.proofs.Rules.Outcomes.{Passed, endOf, flatLength, TooLong, Way, by-length, by-grammar, by-command, by-drawing, by-flat-file, Accepting, refusal, acceptance}
-use Rattle.laws.proofs.Rules.Order.{Between, ByCommand, ByDrawing, one-rule}
+use Rattle.laws.proofs.Rules.Order.{rank, Between, ByCommand, ByDrawing, one-rule}
 use Rattle.laws.proofs.Demands.Demand1.{stopped-within}
 use Rattle.definition.specs.Drawing.{deeds}
 use Rattle.definition.specs.Counts.{counts}

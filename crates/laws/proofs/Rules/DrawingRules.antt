@@ -13,14 +13,14 @@ use lib.ListN.{length}
 use Rattle.definition.specs.declared.Refusal.{Refusal}
 use Rattle.definition.specs.Limits.{mostDefinitions, deepest, mostCalls, mostShapes}
 use Rattle.definition.specs.Words.{if_then_else_, none?}
-use Rattle.definition.specs.Rules.{Rule, tooManyDefinitions, offTheAxes, undefinedSymbol, beingDrawn, tooDeep, tooManyCalls, outOfRange, tooManyShapes, refuse, rank, Earlier}
+use Rattle.definition.specs.Rules.{Rule, tooManyDefinitions, offTheAxes, undefinedSymbol, beingDrawn, tooDeep, tooManyCalls, outOfRange, tooManyShapes, refuse}
 use Rattle.definition.specs.Commands.{Shape, Turn}
 use Rattle.definition.specs.Turns.{moved}
 use Rattle.definition.specs.Table.{Definition, Table, find, enter}
 use Rattle.definition.specs.Drawing.{Deed, Chain, drew, entered, refused, barred, leads, passageTo, passageOf, drawShape, story}
 use Rattle.definition.specs.Counts.{Counts, counts, End, finished, stopped, counted, goOn, ending}
 use Rattle.laws.proofs.Lists.Joined.{ending-++}
-use Rattle.laws.proofs.Rules.Order.{one-rank, one-rule}
+use Rattle.laws.proofs.Rules.Order.{rank, Earlier, one-rank, one-rule}
 use Rattle.laws.proofs.Story.Moments.{Act, calling, drawing, entering, removing, Moment, moment, callEvent, eventOf, eventAt, events, events-++, moments, story-events}
 use Rattle.laws.proofs.Story.Decides.{Decides, holds, fails, Among, Askew, Defined, BeingDrawn, FinallyBeyond}
 use Rattle.laws.proofs.Story.Decides.{off-axes-decides, undefined-decides, being-drawn-decides, depth-decides, ltb-decides, final-point-decides}

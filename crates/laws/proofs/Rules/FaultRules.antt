@@ -17,7 +17,7 @@ use Rattle.grammar.specs.Notation.{Letter}
 use Rattle.grammar.specs.Viable.{bytes, Marked}
 use Rattle.definition.specs.declared.Refusal.{Refusal}
 use Rattle.definition.specs.Limits.{largest, mostPoints, mostTurns}
-use Rattle.definition.specs.Rules.{Rule, numberTooLarge, zeroFactor, notWhole, scaledTooLarge, degenerateCommand, noLayer, tooManyParts, refuse, order, rankIn, rank, Earlier}
+use Rattle.definition.specs.Rules.{Rule, numberTooLarge, zeroFactor, notWhole, scaledTooLarge, degenerateCommand, noLayer, tooManyParts, refuse, order}
 use Rattle.definition.specs.Words.{if_then_else_, Placed, at, Point, any, those, first}
 use Rattle.definition.specs.Commands.{Number, Kind, box, flash, wire, polygon, Shape, Turn, translate, mirrorX, mirrorY, rotate}
 use Rattle.definition.specs.Commands.{Command, draw, layer, call, start, finish, delete, nothing, commands}
@@ -25,7 +25,7 @@ use Rattle.definition.specs.Standing.{Standing, outside, after, scaled, whole, 
 use Rattle.definition.specs.Faults.{beyond, zero?, partsOf, bearings, distances, numbersOf, zeroScale, nowhere, least, emptyShape, degenerate, layerless, tooMany}
 use Rattle.definition.specs.Faults.{atNumbers, atCommand, faults, allFaults, firstFault}
 use Rattle.laws.proofs.Lists.Range.{All, all-++}
-use Rattle.laws.proofs.Rules.Order.{ByCommand, one-rank, one-rule}
+use Rattle.laws.proofs.Rules.Order.{rankIn, rank, Earlier, ByCommand, one-rank, one-rule}
 use Rattle.laws.proofs.Commands.Sizes.{abs-neg, nil-left, nil-right, all-right, no-fault, all-left}
 use Rattle.laws.proofs.FlatFile.Said.{length-map, all-both}
 use Rattle.laws.proofs.Commands.NumberPlaces.{Rising, done, idle, stands, Small, Null, Stands, commands-stand}

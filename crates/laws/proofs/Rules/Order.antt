@@ -1,14 +1,28 @@
--- The rules of 01's table by their order and by their numbers: no two rules have the same rank or the same number, and no number is 0, which says
--- success. And the two stretches of the order: the rules that a command breaks, and those that stop a drawing.
+-- The rules of 01's table by their order and by their numbers: when a rule is earlier than another, that no two have the same rank or the same
+-- number, and that no number is 0, which says success. And the two stretches of the order: the rules that a command breaks, and those that stop a drawing.
 -- Assumes nothing.
 use mathlib.Core.Path.{_≡_, refl, sym, ap, _∙_}
-use Prim.Native.Nat.{ℕ, _≤_}
+use mathlib.Core.Bool.{true, false}
+use mathlib.Core.List.{List, [], _∷_}
+use Prim.Native.Nat.{ℕ, suc, _≤_, _<_}
 use native.Mathlib.Omega.{arith}
+use lib.Dec.{eqb}
 use lib.ListN.{getD}
 use Rattle.definition.specs.declared.Refusal.{Refusal}
 use Rattle.definition.specs.Rules.{Rule, textTooLong, notInGrammar, numberTooLarge, zeroFactor, notWhole, scaledTooLarge, degenerateCommand, noLayer}
 use Rattle.definition.specs.Rules.{tooManyParts, tooManyDefinitions, offTheAxes, undefinedSymbol, beingDrawn, tooDeep, tooManyCalls, outOfRange}
-use Rattle.definition.specs.Rules.{tooManyShapes, flatFileTooLong, numberOf, refuse, order, rankIn, rank}
+use Rattle.definition.specs.Rules.{tooManyShapes, flatFileTooLong, numberOf, refuse, order}
+use Rattle.definition.specs.Words.{if_then_else_}
+
+abbrev pub rankIn : List Rule → (number : ℕ) → ℕ  -- how many rules stand before the one of this number
+rankIn [] n = 0
+rankIn (r ∷ rs) n = if eqb (numberOf r) n then 0 else suc (rankIn rs n)
+
+abbrev pub rank : Rule → ℕ
+rank r = rankIn order (numberOf r)
+
+abbrev pub Earlier : Rule → Rule → Type 0
+Earlier r q = rank r < rank q
 
 -- the rules a to b of the order
 pub record Between (a b r : Rule) : Type 0 where

@@ -12,13 +12,14 @@ use lib.IntN.{ℤ}
 use lib.ListN.{length}
 use Rattle.definition.specs.Limits.{deepest}
 use Rattle.definition.specs.Words.{if_then_else_, at, any}
-use Rattle.definition.specs.Rules.{Rule, offTheAxes, undefinedSymbol, beingDrawn, tooDeep, tooManyCalls, Earlier}
+use Rattle.definition.specs.Rules.{Rule, offTheAxes, undefinedSymbol, beingDrawn, tooDeep, tooManyCalls}
 use Rattle.definition.specs.Commands.{Turn}
 use Rattle.definition.specs.Turns.{offAxes}
 use Rattle.definition.specs.Table.{Definition, Table, find}
 use Rattle.definition.specs.Drawing.{Chain, Event, called, drew, entered, removed, refused, barred, leads, passageTo, passageOf}
 use Rattle.definition.specs.Counts.{Counts, counts, End, finished, counted}
 use Rattle.laws.proofs.Story.Moments.{calling, Moment, moment, callEvent, eventOf, eventAt, followed, bodyMoments, callMoments}
+use Rattle.laws.proofs.Rules.Order.{Earlier}
 use Rattle.laws.proofs.Rules.DrawingRules.{Broken, off-axes, undefined, being-drawn, deep, many-calls, Breaks, tallied, Met, goes-on, stops, met}
 use Rattle.laws.proofs.Story.Counting.{not-finished}
 use Rattle.laws.proofs.Story.Depth.{made-unbroken}
