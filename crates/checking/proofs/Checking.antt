@@ -19,7 +19,8 @@ use Rattle.rules.specs.Letters.{letterD, letterL, noRefusal, byteUnit}
 use Rattle.pieces.specs.Pieces.{letterS, letterF}
 use Rattle.rules.specs.Written.{one, turning}
 use Rattle.rules.specs.Rules.{scaleless, few, bare, many, numberNo, wholeNo}
-use Rattle.checking.specs.Account.{layerOf, scope, atStart}
+use Rattle.definition.specs.declared.Refusal.{Refusal}
+use Rattle.checking.specs.Account.{layerOf, refusal, scope, atStart}
 use Rattle.checking.specs.Along.{lower, blamed, kept, fresh, begun, idle, counted, worded, afterDoing, finished, onward, runs, Fair, Sane}
 use Rattle.checking.specs.declared.Scope.{Scope}
 use Rattle.checking.specs.declared.Doing.{Doing}
@@ -35,11 +36,11 @@ module _ (s : Scope) (c : Doing) (hb : c .busy ≡ true) (y : ℕ) (ey : y ≡ l
   ek′ : k ≡ wholeNo (c .letter) (c .word) (c .count) (c .turns) (c .a) (c .b) (layerOf s)
   ek′ = ek ∙ ap (λ (x : ℕ). wholeNo (c .letter) (c .word) (c .count) (c .turns) (c .a) (c .b) x) ey
 
-  pub finish-whole : k < c .no → Broken k (c .place) ≡ finished s c
+  pub finish-whole : k < c .no → Broken (refusal k (c .place)) ≡ finished s c
   unfolding finished
   finish-whole h = rw (hb, ← ek′, lt-ltb k (c .no) h)
 
-  pub finish-number : c .no ≤ k → c .no < noRefusal → Broken (c .no) (c .at) ≡ finished s c
+  pub finish-number : c .no ≤ k → c .no < noRefusal → Broken (refusal (c .no) (c .at)) ≡ finished s c
   unfolding finished
   finish-number h l = rw (hb, ← ek′, le-ltb k (c .no) h, lt-ltb (c .no) noRefusal l)
 
@@ -65,7 +66,7 @@ worded-is c w t v et ev = rw (et, ev)
 -- what the code needs is kept
 abbrev FairEnd : Ended → Type 0
 FairEnd (Then s) = Fair s
-FairEnd (Broken n p) = 0 ≤ 0
+FairEnd (Broken r) = 0 ≤ 0
 
 fair-after : (s : Scope) (c : Doing) → Fair s → c .a ≤ tooLarge → scaleless (c .letter) (c .word) (c .a) (c .b) ≡ false → Fair (afterDoing s c)
 unfolding scaleless
@@ -96,7 +97,7 @@ fair-finished s c f ha =
     k : ℕ
     k = choose (scaleless (c .letter) (c .word) (c .a) (c .b)) 4 (choose (few (c .letter) (c .count)) 7 (choose (bare (c .letter) (layerOf s)) 8 (choose (many (c .letter) (c .count) (c .turns)) 9 noRefusal)))
 
-    go : (x y z : Bool) → ltb k (c .no) ≡ y → ltb (c .no) noRefusal ≡ z → FairEnd (choose x (choose y (Broken k (c .place)) (choose z (Broken (c .no) (c .at)) (Then (afterDoing s c)))) (Then s))
+    go : (x y z : Bool) → ltb k (c .no) ≡ y → ltb (c .no) noRefusal ≡ z → FairEnd (choose x (choose y (Broken (refusal k (c .place))) (choose z (Broken (refusal (c .no) (c .at))) (Then (afterDoing s c)))) (Then s))
     go false y z ey ez = f
     go true true z ey ez = omega arith
     go true false true ey ez = omega arith
@@ -194,7 +195,7 @@ module _ {t : List ℕ} {spot : Spot} {s : Scope} {c : Doing} (g : Checking t sp
     ends : (f : Scope → Fault) {y : Ended} → e ≡ y → onward f y ≡ onward f (finished s c)
     ends f eu = sym (ap (λ (y : Ended). onward f y) (sym ee ∙ eu))
 
-    pub checking-bad : {to : Spot} {n k q : ℕ} → Finds t spot to n → (n ≡ number lead → ⊥) → n ≤ number head → e ≡ Broken k q → Refused k q ≡ runs (stream t start) atStart idle
+    pub checking-bad : {to : Spot} {n : ℕ} {r : Refusal} → Finds t spot to n → (n ≡ number lead → ⊥) → n ≤ number head → e ≡ Broken r → Refused r ≡ runs (stream t start) atStart idle
     unfolding runs
     checking-bad (none z h) l a eu = ends (λ v. Clear) eu ∙ over h
     checking-bad {to} (some (First p b) z st) l a eu = ends (λ v. runs (stream t to) v (begun p b)) eu ∙ before (First p b) st

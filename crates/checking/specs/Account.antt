@@ -7,8 +7,10 @@ use Prim.Native.Nat.{ℕ, _*_, _/_, _%_}
 use lib.Dec.{ltb, eqb}
 use lib.ListN.{length}
 use Rattle.grammar.specs.Notation.{Letter}
+use Rattle.definition.specs.declared.Refusal.{Refusal}
+use Rattle.definition.specs.Limits.{largest}
 use Rattle.definition.specs.Words.{if_then_else_}
-use Rattle.pieces.specs.Pieces.{largest, letterS, letterF, pieces}
+use Rattle.pieces.specs.Pieces.{letterS, letterF, pieces}
 use Rattle.rules.specs.Letters.{letterD, letterL, noRefusal, firstUnit}
 use Rattle.rules.specs.Written.{Written, Figure, written, numbers, letters, lastLetter, sizeAt, packedBy, turnsOf}
 use Rattle.rules.specs.Rules.{distance, vital, scaleless, few, bare, many}
@@ -20,13 +22,16 @@ use Rattle.checking.specs.declared.Fault.the-variants.{Clear, Refused}
 abbrev pub layerOf : Scope → ℕ
 layerOf s = if s .inside then s .inner else s .outer
 
--- a refusal's number and place
+-- the number and the place of what is said against a command
 pub record Blame : Type 0 where
   pub no : ℕ
   pub place : ℕ
 
 abbrev pub blame : ℕ → ℕ → Blame
 blame n p = record { no = n; place = p }
+
+abbrev pub refusal : (number place : ℕ) → Refusal
+refusal n p = record { number = n; place = p }
 
 abbrev pub when : Bool → ℕ → ℕ → List Blame → List Blame
 when b n p r = if b then blame n p ∷ r else r
@@ -68,7 +73,7 @@ foremost [] = blame noRefusal 0
 foremost (x ∷ xs) = sooner x (foremost xs)
 
 abbrev pub faultBy : Blame → Fault → Fault
-faultBy x f = if ltb (x .no) noRefusal then Refused (x .no) (x .place) else f
+faultBy x f = if ltb (x .no) noRefusal then Refused (refusal (x .no) (x .place)) else f
 
 -- what stands behind a command with the first letter l, the last letter w, the scale a, b and the name: DS opens a definition with no layer set, DF
 -- closes it, and L sets the layer where it stands

@@ -12,7 +12,7 @@ use Rattle.pieces.specs.declared.Piece.the-variants.{First, Second, Number, Wor
 use Rattle.rules.specs.Letters.{noRefusal, byteUnit, firstUnit}
 use Rattle.rules.specs.Written.{turning, one}
 use Rattle.rules.specs.Rules.{numberNo, wholeNo}
-use Rattle.checking.specs.Account.{layerOf, scopeBy}
+use Rattle.checking.specs.Account.{layerOf, refusal, scopeBy}
 use Rattle.checking.specs.declared.Scope.{Scope}
 use Rattle.checking.specs.declared.Doing.{Doing}
 use Rattle.checking.specs.declared.Ended.{Ended}
@@ -100,14 +100,14 @@ unfoldable pub finished : Scope → Doing → Ended
 finished s c =
     let k = wholeNo (c .letter) (c .word) (c .count) (c .turns) (c .a) (c .b) (layerOf s) in
     if c .busy then
-    (if ltb k (c .no) then Broken k (c .place)
-    else if ltb (c .no) noRefusal then Broken (c .no) (c .at)
+    (if ltb k (c .no) then Broken (refusal k (c .place))
+    else if ltb (c .no) noRefusal then Broken (refusal (c .no) (c .at))
     else Then (afterDoing s c))
     else Then s
 
 abbrev pub onward : (Scope → Fault) → Ended → Fault
 onward f (Then s) = f s
-onward f (Broken n p) = Refused n p
+onward f (Broken r) = Refused r
 
 -- the first fault of the pieces that are left
 unfoldable pub runs : List Piece → Scope → Doing → Fault

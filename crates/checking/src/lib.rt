@@ -1,5 +1,6 @@
 // The check of a CIF text's commands by a running account: `checked` finds the first of refusals 3 to 9 in one pass. It takes any bytes: where a text
 // leaves the grammar it has no more pieces, and so no more commands. That the account is the definition's is proved in reading, above.
+use definition::Refusal;
 ghost use mathlib.Core.Path.{_≡_};
 ghost use mathlib.Core.Bool.{true, false};
 ghost use Prim.Native.Nat.{_+_, _≤_};
@@ -18,10 +19,10 @@ pub struct Scope {
     pub inner: usize,
 }
 
-// What is said of a text: nothing, or a refusal's number and place.
+// What is said of a text: nothing, or a refusal.
 pub enum Fault {
     Clear,
-    Refused(usize, usize),
+    Refused(Refusal),
 }
 
 // The command that is being checked: its place and first letter, its last letter, how many numbers it has had and whether the last was 0, its
@@ -42,10 +43,10 @@ pub struct Doing {
     pub at: usize,
 }
 
-// How a command ends: what stands then, or its refusal and the place.
+// How a command ends: what stands then, or its refusal.
 pub enum Ended {
     Then(Scope),
-    Broken(usize, usize),
+    Broken(Refusal),
 }
 
 // Of two refusals of a command the lower, and of equals the one before.
@@ -246,10 +247,16 @@ fn finish(s: Scope, c: Doing) -> Ended
         let k = rules::whole_no(c.letter, c.word, c.count, c.turns, c.a, c.b, layer);
         let no = c.no;
         if k < no {
-            return Ended::Broken(k, c.place);
+            return Ended::Broken(Refusal {
+                number: k,
+                place: c.place,
+            });
         }
         if no < rules::NO_REFUSAL {
-            return Ended::Broken(no, c.at);
+            return Ended::Broken(Refusal {
+                number: no,
+                place: c.at,
+            });
         }
         return Ended::Then(after_command(s, c));
     }
@@ -275,8 +282,8 @@ pub fn checked(text: &[u8], kinds: &[u8; 256], next: &[u16; grammar::tables::ENT
             spot = m.to;
         } else {
             match finish(s, c) {
-                Ended::Broken(no, at) => {
-                    return Fault::Refused(no, at);
+                Ended::Broken(refusal) => {
+                    return Fault::Refused(refusal);
                 }
                 Ended::Then(t) => {
                     if mark == grammar::tables::SKIP {

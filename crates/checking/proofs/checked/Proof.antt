@@ -56,12 +56,12 @@ loop-again-2 c = checking-letter (c .before .before .before .before .before .loo
 finish-requires : tie.Need-finish-requires Inv-loop μ-loop
 finish-requires c κs = search needs
 
-enum-known-no : tie.Need-enum-known-no Inv-loop μ-loop
-enum-known-no c = c .match .keys1
+enum-known-refusal : tie.Need-enum-known-refusal Inv-loop μ-loop
+enum-known-refusal c = c .match .keys1
 
 returns : tie.Need-returns Inv-loop μ-loop
 unfolding number
-returns c = checking-bad (c .before .before .before .before .before .before .before .loop .inv) (c .before .before .before .finish .ensures) (finds (c .before .before .before .before .before .before .next-mark .ensures)) (c .before .before .before .before .before .if1 .left) (c .before .before .before .before .if2 .left) (c .before .no .given .1)
+returns c = checking-bad (c .before .before .before .before .before .before .before .loop .inv) (c .before .before .before .finish .ensures) (finds (c .before .before .before .before .before .before .next-mark .ensures)) (c .before .before .before .before .before .if1 .left) (c .before .before .before .before .if2 .left) (c .before .refusal .given .1)
 
 enum-known-t : tie.Need-enum-known-t Inv-loop μ-loop
 enum-known-t c = c .match .keys2
@@ -110,7 +110,7 @@ checked-spec =
     loop-less-2
     loop-again-2
     finish-requires
-    enum-known-no
+    enum-known-refusal
     returns
     enum-known-t
     returns-2
