@@ -12,15 +12,18 @@ use lib.IntN.{ℤ, pos, natAbs}
 use lib.ListN.{length}
 use Rattle.grammar.specs.Notation.{Letter}
 use Rattle.grammar.specs.Viable.{Marked}
+use Rattle.definition.specs.Limits.{largest}
+use Rattle.definition.specs.declared.Refusal.{Refusal}
+use Rattle.definition.specs.Rules.{Rule, numberTooLarge, zeroFactor, notWhole, scaledTooLarge, degenerateCommand, noLayer, tooManyParts, numberOf, refuse}
 use Rattle.definition.specs.Words.{if_then_else_, Placed, at, any, those, first}
 use Rattle.definition.specs.Commands.{Number, Command, start, finish, layer, commands}
 use Rattle.definition.specs.Standing.{Standing, outside, after, scaled, whole}
-use Rattle.definition.specs.Faults.{beyond, zero?, partsOf, distances, numbersOf, zeroScale, degenerate, layerless, tooMany, Refusal, atNumbers, atCommand, faults, allFaults, firstFault}
+use Rattle.definition.specs.Faults.{beyond, zero?, partsOf, distances, numbersOf, zeroScale, degenerate, layerless, tooMany, atNumbers, atCommand, faults, allFaults, firstFault}
 use Rattle.laws.proofs.Lists.Range.{All, all-++}
 use Rattle.laws.proofs.Commands.Made.{Name}
 use Rattle.laws.proofs.Commands.Ordered.{Allowed, Ordered, after-inside, ordered, two-bits}
 use Rattle.laws.proofs.Commands.Sizes.{nil-left, nil-right, all-map, at-numbers}
-use Rattle.pieces.specs.Pieces.{largest, capped}
+use Rattle.pieces.specs.Pieces.{capped}
 use Rattle.rules.specs.Letters.{firstUnit}
 use Rattle.rules.specs.Written.{Written, numbers, letters, figures, lastOf, lastLetter, sizeAt, packedBy, turnsOf}
 use Rattle.rules.specs.Rules.{scaleless, few, bare, many}
@@ -181,19 +184,19 @@ module _ (s : Scope) (σ : Standing) (g : Fits s σ) (c : Written) (d : Placed C
       (pick (if-place (degenerate σ (d .what))) 7 (pick (if-place (layerless σ (d .what))) 8 (pick (if-place (tooMany (d .what))) 9 (blame 10 0)))))))
   unfolding faults
   faults-head =
-      head-numbers 3 beyond (numbersOf (d .what)) _
+      head-numbers numberTooLarge beyond (numbersOf (d .what)) _
       ∙ ap (pick (found beyond (numbersOf (d .what)) none) 3)
-      (head-command 4 (zeroScale (d .what)) (d .place) _
+      (head-command zeroFactor (zeroScale (d .what)) (d .place) _
       ∙ ap (pick (if-place (zeroScale (d .what))) 4)
-      (head-numbers 5 (λ z. not (whole σ z)) (distances (d .what)) _
+      (head-numbers notWhole (λ z. not (whole σ z)) (distances (d .what)) _
       ∙ ap (pick (found (λ z. not (whole σ z)) (distances (d .what)) none) 5)
-      (head-numbers 6 (λ z. beyond (scaled σ z)) (distances (d .what)) _
+      (head-numbers scaledTooLarge (λ z. beyond (scaled σ z)) (distances (d .what)) _
       ∙ ap (pick (found (λ z. beyond (scaled σ z)) (distances (d .what)) none) 6)
-      (head-command 7 (degenerate σ (d .what)) (d .place) _
+      (head-command degenerateCommand (degenerate σ (d .what)) (d .place) _
       ∙ ap (pick (if-place (degenerate σ (d .what))) 7)
-      (head-command 8 (layerless σ (d .what)) (d .place) _ ∙ ap (pick (if-place (layerless σ (d .what))) 8) (last (tooMany (d .what))))))))
+      (head-command noLayer (layerless σ (d .what)) (d .place) _ ∙ ap (pick (if-place (layerless σ (d .what))) 8) (last (tooMany (d .what))))))))
     where
-      last : (b : Bool) → headOf (atCommand 9 b (d .place)) ≡ pick (if-place b) 9 (blame 10 0)
+      last : (b : Bool) → headOf (atCommand tooManyParts b (d .place)) ≡ pick (if-place b) 9 (blame 10 0)
       last true = refl
       last false = refl
 
@@ -224,28 +227,28 @@ pub record Faultless (σ : Standing) (d : Placed Command) : Type 0 where
   pub near-distances : All (λ (z : Number). beyond (scaled σ (z .what)) ≡ false) (distances (d .what))
   pub not-many : tooMany (d .what) ≡ false
 
-no-atCommand : (n : ℕ) (b : Bool) (p : ℕ) → atCommand n b p ≡ [] → b ≡ false
+no-atCommand : (n : Rule) (b : Bool) (p : ℕ) → atCommand n b p ≡ [] → b ≡ false
 no-atCommand n true p e = absurd (let z : _≡_ {A = ℕ} 0 1 = cc in omega arith)
 no-atCommand n false p e = refl
 
 pub faultless : (σ : Standing) (d : Placed Command) → faults σ d ≡ [] → Faultless σ d
 unfolding faults
 faultless σ d e =
-    let f₃ = atNumbers 3 beyond (numbersOf (d .what)) in
-    let f₄ = atCommand 4 (zeroScale (d .what)) (d .place) in
-    let f₅ = atNumbers 5 (λ z. not (whole σ z)) (distances (d .what)) in
-    let f₆ = atNumbers 6 (λ z. beyond (scaled σ z)) (distances (d .what)) in
-    let f₇ = atCommand 7 (degenerate σ (d .what)) (d .place) in
-    let f₈ = atCommand 8 (layerless σ (d .what)) (d .place) in
+    let f₃ = atNumbers numberTooLarge beyond (numbersOf (d .what)) in
+    let f₄ = atCommand zeroFactor (zeroScale (d .what)) (d .place) in
+    let f₅ = atNumbers notWhole (λ z. not (whole σ z)) (distances (d .what)) in
+    let f₆ = atNumbers scaledTooLarge (λ z. beyond (scaled σ z)) (distances (d .what)) in
+    let f₇ = atCommand degenerateCommand (degenerate σ (d .what)) (d .place) in
+    let f₈ = atCommand noLayer (layerless σ (d .what)) (d .place) in
     let e₄ = nil-right f₃ _ e in
     let e₅ = nil-right f₄ _ e₄ in
     let e₆ = nil-right f₅ _ e₅ in
     record {
-      near = at-numbers 3 beyond (numbersOf (d .what)) (nil-left f₃ _ e);
-      scale = no-atCommand 4 (zeroScale (d .what)) (d .place) (nil-left f₄ _ e₄);
-      whole-distances = at-numbers 5 (λ z. not (whole σ z)) (distances (d .what)) (nil-left f₅ _ e₅);
-      near-distances = at-numbers 6 (λ z. beyond (scaled σ z)) (distances (d .what)) (nil-left f₆ _ e₆);
-      not-many = no-atCommand 9 (tooMany (d .what)) (d .place) (nil-right f₈ _ (nil-right f₇ _ (nil-right f₆ _ e₆)));
+      near = at-numbers numberTooLarge beyond (numbersOf (d .what)) (nil-left f₃ _ e);
+      scale = no-atCommand zeroFactor (zeroScale (d .what)) (d .place) (nil-left f₄ _ e₄);
+      whole-distances = at-numbers notWhole (λ z. not (whole σ z)) (distances (d .what)) (nil-left f₅ _ e₅);
+      near-distances = at-numbers scaledTooLarge (λ z. beyond (scaled σ z)) (distances (d .what)) (nil-left f₆ _ e₆);
+      not-many = no-atCommand tooManyParts (tooMany (d .what)) (d .place) (nil-right f₈ _ (nil-right f₇ _ (nil-right f₆ _ e₆)));
     }
 
 -- a number that is not beyond is told exactly
@@ -343,18 +346,18 @@ fits-after s σ g (a-nothing i) o f = unfold after in (rw (i .not-D, i .not-L) g
 -- ---- the whole text
 
 abbrev Low : Refusal → Type 0
-Low r = r .what < 10
+Low r = r .number < 10
 
 all-low : (n : ℕ) → n < 10 → (zs : List Number) → All (λ (z : Number). n < 10) zs
 unfolding All
 all-low n h [] = tt
 all-low n h (z ∷ zs) = (h, all-low n h zs)
 
-low-numbers : (n : ℕ) → n < 10 → (t : ℤ → Bool) (zs : List Number) → All Low (atNumbers n t zs)
+low-numbers : (n : Rule) → numberOf n < 10 → (t : ℤ → Bool) (zs : List Number) → All Low (atNumbers n t zs)
 unfolding atNumbers
-low-numbers n h t zs = all-map Low (λ d. at (d .place) n) (those (λ d. t (d .what)) zs) (all-low n h (those (λ d. t (d .what)) zs))
+low-numbers n h t zs = all-map Low (λ d. refuse n (d .place)) (those (λ d. t (d .what)) zs) (all-low (numberOf n) h (those (λ d. t (d .what)) zs))
 
-low-command : (n : ℕ) → n < 10 → (b : Bool) (p : ℕ) → All Low (atCommand n b p)
+low-command : (n : Rule) → numberOf n < 10 → (b : Bool) (p : ℕ) → All Low (atCommand n b p)
 unfolding All
 low-command n h true p = (h, tt)
 low-command n h false p = tt
@@ -362,18 +365,18 @@ low-command n h false p = tt
 low : (σ : Standing) (d : Placed Command) → All Low (faults σ d)
 unfolding faults
 low σ d =
-    all-++ Low _ _ (low-numbers 3 (omega arith) beyond (numbersOf (d .what)))
-    (all-++ Low _ _ (low-command 4 (omega arith) (zeroScale (d .what)) (d .place))
-    (all-++ Low _ _ (low-numbers 5 (omega arith) (λ z. not (whole σ z)) (distances (d .what)))
-    (all-++ Low _ _ (low-numbers 6 (omega arith) (λ z. beyond (scaled σ z)) (distances (d .what)))
-    (all-++ Low _ _ (low-command 7 (omega arith) (degenerate σ (d .what)) (d .place))
-    (all-++ Low _ _ (low-command 8 (omega arith) (layerless σ (d .what)) (d .place)) (low-command 9 (omega arith) (tooMany (d .what)) (d .place)))))))
+    all-++ Low _ _ (low-numbers numberTooLarge (omega arith) beyond (numbersOf (d .what)))
+    (all-++ Low _ _ (low-command zeroFactor (omega arith) (zeroScale (d .what)) (d .place))
+    (all-++ Low _ _ (low-numbers notWhole (omega arith) (λ z. not (whole σ z)) (distances (d .what)))
+    (all-++ Low _ _ (low-numbers scaledTooLarge (omega arith) (λ z. beyond (scaled σ z)) (distances (d .what)))
+    (all-++ Low _ _ (low-command degenerateCommand (omega arith) (degenerate σ (d .what)) (d .place))
+    (all-++ Low _ _ (low-command noLayer (omega arith) (layerless σ (d .what)) (d .place)) (low-command tooManyParts (omega arith) (tooMany (d .what)) (d .place)))))))
 
 -- the first of a command's, or of those behind it
 said : (f : Fault) (rs more : List Refusal) → All Low rs → (rs ≡ [] → f ≡ faultSaid (first more)) → faultBy (headOf rs) f ≡ faultSaid (first (rs ++ more))
 unfolding first All
 said f [] more h k = k refl
-said f (r ∷ rs) more h k = rw (lt-ltb (r .what) 10 (h .0)) refl
+said f (r ∷ rs) more h k = rw (lt-ltb (r .number) 10 (h .0)) refl
 
 pub fault-from : {cs : List Written} {ds : List (Placed Command)} → AllSay cs ds → (s : Scope) (σ : Standing) → Fits s σ → Ordered (σ .inside) ds
     → faultFrom s cs ≡ faultSaid (first (allFaults σ ds))

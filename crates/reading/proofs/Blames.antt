@@ -12,7 +12,8 @@ use borrow.Author.Tests.{lt-ltb, ltb-false, ne-eqb}
 use Rattle.definition.specs.Words.{if_then_else_, any}
 use Rattle.definition.specs.Faults.{beyond, zero?}
 use Rattle.laws.proofs.Lists.Range.{All}
-use Rattle.pieces.specs.Pieces.{largest, tooLarge, capped}
+use Rattle.definition.specs.Limits.{largest}
+use Rattle.pieces.specs.Pieces.{tooLarge, capped}
 use Rattle.rules.specs.Written.{Figure}
 use Rattle.rules.specs.Rules.{distance, vital, scaleless, few, bare, many}
 use Rattle.checking.specs.Account.{Blame, when, ofNumber, ofNumbers, ofWhole}

@@ -14,6 +14,7 @@ use lib.IntN.{ℤ, pos, negℤ, natAbs}
 use lib.ListN.{length}
 use Rattle.grammar.specs.Notation.{Letter}
 use Rattle.grammar.specs.Viable.{Marked}
+use Rattle.definition.specs.Limits.{largest, mostBytes, mostPoints}
 use Rattle.definition.specs.Words.{Placed, Point, any}
 use Rattle.definition.specs.Commands.{Number, Turn, translate, mirrorX, mirrorY, rotate, Command, draw, layer, call, start, finish, delete, nothing, commands}
 use Rattle.definition.specs.Standing.{Standing, outside, after, scaled, scaledPoint, scaledShape, scaledTurn}
@@ -24,7 +25,7 @@ use Rattle.laws.proofs.Commands.Sizes.{all-left, nil-left, nil-right, no-fault}
 use Rattle.laws.proofs.FlatFile.Said.{length-map, or-first}
 use Rattle.laws.proofs.Commands.Ordered.{Ordered, after-inside, ordered}
 use Rattle.laws.proofs.Rules.FaultRules.{commands-written}
-use Rattle.pieces.specs.Pieces.{largest, letterS, letterF, capped, pieces}
+use Rattle.pieces.specs.Pieces.{letterS, letterF, capped, pieces}
 use Rattle.pieces.specs.declared.Piece.{Piece}
 use Rattle.pieces.specs.declared.Piece.the-variants.{Word}
 use Rattle.rules.specs.Letters.{letterC, letterD, letterL, letterR, letterT, byteUnit, firstUnit}
@@ -239,9 +240,9 @@ turns-length s (mirrorX ∷ ts) = let h = turns-length s ts in omega arith
 turns-length s (mirrorY ∷ ts) = let h = turns-length s ts in omega arith
 turns-length s (rotate d ∷ ts) = let h = turns-length s ts in omega arith
 
-path-length : (s : Standing) (ps : List (Point Number)) → (ltb 1024 (length ps) || false || false) ≡ false → length (both (map (scaledPoint s) ps) ++ []) ≤ 2048
+path-length : (s : Standing) (ps : List (Point Number)) → (ltb mostPoints (length ps) || false || false) ≡ false → length (both (map (scaledPoint s) ps) ++ []) ≤ 2048
 path-length s ps e =
-    let m = ltb-false 1024 (length ps) (or-first _ _ (or-first _ _ e)) in
+    let m = ltb-false mostPoints (length ps) (or-first _ _ (or-first _ _ e)) in
     let n = ap length (append-nil (both (map (scaledPoint s) ps))) ∙ both-length (map (scaledPoint s) ps) in
     let k = length-map (scaledPoint s) ps in
     omega arith
@@ -294,7 +295,7 @@ exact-from (one-said {c} {d} {cs} {ds} x xs) s σ g o e h =
     (nil-right (faults σ d) (allFaults (after (d .what) σ) ds) e) (h .1))
 
 -- a text that refusals 1 to 9 let pass
-pub all-exact : {t : List ℕ} {m : List Letter} → Marked t m → length t ≤ 16777216 → firstFault (commands 0 m) ≡ none
+pub all-exact : {t : List ℕ} {m : List Letter} → Marked t m → length t ≤ mostBytes → firstFault (commands 0 m) ≡ none
     → AllExact atStart (outside []) (written (pieces 0 0 m)) (commands 0 m)
 unfolding firstFault
 all-exact {m = m} k h e =

@@ -9,6 +9,7 @@ use borrow.Author.Tests.{le-ltb, eq-eqb, ne-eqb}
 use lib.Dec.{ltb, eqb}
 use lib.IntN.{pos, natAbs}
 use lib.ListN.{length}
+use Rattle.definition.specs.Limits.{mostPoints}
 use Rattle.definition.specs.Words.{Placed, at, Point, any}
 use Rattle.definition.specs.Commands.{Number, wire, polygon, Shape, shapeOf, Turn, Command, draw}
 use Rattle.definition.specs.Faults.{beyond, zero?, partsOf, shifts, bearings, least, zeroScale, tooMany}
@@ -129,7 +130,7 @@ faces (a-polygon {p} {xs} {ps} g h) =
       scale = refl;
       few-points = ap (λ (k : ℕ). ltb k 3) n ∙ sym (or-false (ltb (length ps) 3));
       shape = refl;
-      too-many = ap (λ (k : ℕ). ltb 1024 k) n ∙ (sym (or-false (ltb 1024 (length ps))) ∙ sym (or-false (ltb 1024 (length ps) || false)));
+      too-many = ap (λ (k : ℕ). ltb mostPoints k) n ∙ (sym (or-false (ltb mostPoints (length ps))) ∙ sym (or-false (ltb mostPoints (length ps) || false)));
     }
 faces (a-box {p} (tells i σ v) (tells j τ w) (tells k υ x) (tells m φ y)) = record {
   place = refl;
@@ -179,7 +180,7 @@ faces (a-wire {p} {xs = xs} {ps = ps} (tells i σ v) g h) =
       scale = refl;
       few-points = sym (or-false (ltb (length ps) 1) ∙ le-ltb (length ps) 1 h);
       shape = refl;
-      too-many = ap (λ (k : ℕ). ltb 1024 k) n ∙ (sym (or-false (ltb 1024 (length ps))) ∙ sym (or-false (ltb 1024 (length ps) || false)));
+      too-many = ap (λ (k : ℕ). ltb mostPoints k) n ∙ (sym (or-false (ltb mostPoints (length ps))) ∙ sym (or-false (ltb mostPoints (length ps) || false)));
     }
 faces (a-layer {p} {l} h k) = record {
   place = refl;

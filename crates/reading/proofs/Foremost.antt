@@ -12,7 +12,9 @@ use lib.Dec.{ltb, eqb}
 use lib.IntN.{ℤ}
 use Rattle.definition.specs.Words.{if_then_else_, at, those}
 use Rattle.definition.specs.Commands.{Number}
-use Rattle.definition.specs.Faults.{Refusal, atNumbers, atCommand}
+use Rattle.definition.specs.declared.Refusal.{Refusal}
+use Rattle.definition.specs.Rules.{Rule, numberOf, refuse}
+use Rattle.definition.specs.Faults.{atNumbers, atCommand}
 use Rattle.laws.proofs.Lists.Range.{All}
 use Rattle.checking.specs.Account.{Blame, blame, when, sooner, foremost}
 
@@ -96,27 +98,27 @@ find-own n e false p r = refl
 
 abbrev pub headOf : List Refusal → Blame
 headOf [] = blame 10 0
-headOf (r ∷ rs) = blame (r .what) (r .place)
+headOf (r ∷ rs) = blame (r .number) (r .place)
 
 -- the place of the first number that fails by the test, or else x
 unfoldable pub found : (ℤ → Bool) → List Number → Option ℕ → Option ℕ
 found t [] x = x
 found t (z ∷ zs) x = let rest = found t zs x in if t (z .what) then some (z .place) else rest
 
-pub head-numbers : (n : ℕ) (t : ℤ → Bool) (zs : List Number) (r : List Refusal) → headOf (atNumbers n t zs ++ r) ≡ pick (found t zs none) n (headOf r)
+pub head-numbers : (n : Rule) (t : ℤ → Bool) (zs : List Number) (r : List Refusal) → headOf (atNumbers n t zs ++ r) ≡ pick (found t zs none) (numberOf n) (headOf r)
 unfolding atNumbers those found
 head-numbers n t [] r = refl
 head-numbers n t (z ∷ zs) r = go (t (z .what)) (head-numbers n t zs r)
   where
     listed : List Number → List Refusal
-    listed ys = mathlib.Core.List.map (λ d. at (d .place) n) ys
+    listed ys = mathlib.Core.List.map (λ d. refuse n (d .place)) ys
 
-    go : (b : Bool) → headOf (listed (those (λ d. t (d .what)) zs) ++ r) ≡ pick (found t zs none) n (headOf r)
-        → headOf (listed (if b then z ∷ those (λ d. t (d .what)) zs else those (λ d. t (d .what)) zs) ++ r) ≡ pick (if b then some (z .place) else found t zs none) n (headOf r)
+    go : (b : Bool) → headOf (listed (those (λ d. t (d .what)) zs) ++ r) ≡ pick (found t zs none) (numberOf n) (headOf r)
+        → headOf (listed (if b then z ∷ those (λ d. t (d .what)) zs else those (λ d. t (d .what)) zs) ++ r) ≡ pick (if b then some (z .place) else found t zs none) (numberOf n) (headOf r)
     go true h = refl
     go false h = h
 
-pub head-command : (n : ℕ) (b : Bool) (p : ℕ) (r : List Refusal) → headOf (atCommand n b p ++ r) ≡ pick (if b then some p else none) n (headOf r)
+pub head-command : (n : Rule) (b : Bool) (p : ℕ) (r : List Refusal) → headOf (atCommand n b p ++ r) ≡ pick (if b then some p else none) (numberOf n) (headOf r)
 head-command n true p r = refl
 head-command n false p r = refl
 

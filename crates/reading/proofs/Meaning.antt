@@ -11,13 +11,13 @@ use borrow.Author.Tests.{le-ltb, ne-eqb, ltb-true, ltb-false, eqb-true}
 use lib.Dec.{ltb, eqb}
 use lib.ListN.{length}
 use Rattle.grammar.specs.Steps.{choose}
-use Rattle.pieces.specs.Pieces.{largest}
+use Rattle.definition.specs.Limits.{largest}
 use Rattle.pieces.specs.declared.Piece.{Piece}
 use Rattle.pieces.specs.declared.Piece.the-variants.{First, Second, Number, Word, Stop}
 use Rattle.rules.specs.Letters.{noRefusal, byteUnit, firstUnit}
 use Rattle.rules.specs.Written.{Written, itemsOf, stops, writtenAt, written, Figure, figures, letters, sizeAt, lastOf, packedBy, one, turning, turnsOf}
 use Rattle.rules.specs.Rules.{distance, vital, scaleless, few, bare, many, numberNo, wholeNo}
-use Rattle.checking.specs.Account.{layerOf, Blame, blame, when, ofNumber, ofNumbers, ofWhole, blames, sooner, foremost, faultBy, scopeBy, scopeAfter, faultFrom}
+use Rattle.checking.specs.Account.{layerOf, refusal, Blame, blame, when, ofNumber, ofNumbers, ofWhole, blames, sooner, foremost, faultBy, scopeBy, scopeAfter, faultFrom}
 use Rattle.checking.specs.Along.{lower, blamed, kept, fresh, begun, idle, counted, worded, afterDoing, finished, onward, runs}
 use Rattle.checking.specs.declared.Scope.{Scope}
 use Rattle.checking.specs.declared.Doing.{Doing}
@@ -106,11 +106,11 @@ abbrev soFar : Doing → Blame
 soFar c = blame (c .no) (c .at)
 
 ended-by : (k q n at : ℕ) (f : Fault) (s : Scope) (g : Scope → Fault) → n ≤ noRefusal → g s ≡ f
-    → onward g (choose (ltb k n) (Broken k q) (choose (ltb n noRefusal) (Broken n at) (Then s))) ≡ faultBy (sooner (blame n at) (blame k (choose (ltb k noRefusal) q 0))) f
+    → onward g (choose (ltb k n) (Broken (refusal k q)) (choose (ltb n noRefusal) (Broken (refusal n at)) (Then s))) ≡ faultBy (sooner (blame n at) (blame k (choose (ltb k noRefusal) q 0))) f
 ended-by k q n at f s g h e = go (ltb k n) (ltb n noRefusal) (ltb k noRefusal) refl refl refl
   where
     go : (x y z : Bool) → ltb k n ≡ x → ltb n noRefusal ≡ y → ltb k noRefusal ≡ z
-        → onward g (choose x (Broken k q) (choose y (Broken n at) (Then s))) ≡ faultBy (choose x (blame k (choose z q 0)) (blame n at)) f
+        → onward g (choose x (Broken (refusal k q)) (choose y (Broken (refusal n at)) (Then s))) ≡ faultBy (choose x (blame k (choose z q 0)) (blame n at)) f
     go true y true ex ey ez = rw ez
     go true y false ex ey ez = absurd (omega (arith, ltb-true k n ex, ltb-false k noRefusal ez))
     go false true z ex ey ez = rw ey

@@ -1,4 +1,4 @@
--- Two answers that the contract of `refusal` allows are one: it settles refusals 2 to 9 of any bytes. So are two that the contract of `check` allows.
+-- Two answers that the contract of `refusal` allows are one: it settles refusals 2 to 9 of any bytes. So are two that the contract of `check_by` allows.
 -- Assumes nothing.
 use mathlib.Core.Path.{_≡_, refl, sym, _∙_, subst, ap}
 use mathlib.Core.List.{List}
@@ -9,6 +9,7 @@ use Rattle.grammar.specs.declared.Verdict.the-variants.{InGrammar, StuckAt}
 use Rattle.grammar.proofs.Unique.{one-verdict}
 use Rattle.reading.specs.Refusal.{Checked, faultWords, Told}
 use Rattle.reading.specs.Refusal.{byVerdict, Refuses}
+use Rattle.definition.specs.Rules.{notInGrammar, refuse}
 use Rattle.checking.specs.declared.Fault.{Fault}
 use Rattle.checking.specs.declared.Fault.the-variants.{Refused}
 
@@ -28,7 +29,7 @@ pub told-once : {t u w : List ℕ} → Told t u → Told t w → u ≡ w
 told-once {t} a b = a .said ∙ ap faultWords (one-refusal t (a .fault) (b .fault) (a .refuses) (b .refuses)) ∙ sym (b .said)
 
 -- the two ways through the code
-pub refuses-stuck : (t : List ℕ) (v : Verdict) → Judged t v → (n : ℕ) → v ≡ StuckAt n → Refuses t (Refused 2 n)
+pub refuses-stuck : (t : List ℕ) (v : Verdict) → Judged t v → (n : ℕ) → v ≡ StuckAt n → Refuses t (Refused (refuse notInGrammar n))
 refuses-stuck t v j n e = record { verdict = StuckAt n; judged = subst (Judged t) e j; is = refl }
 
 pub refuses-checked : (t : List ℕ) (v : Verdict) → Judged t v → v ≡ InGrammar → (r : Fault) → byVerdict t InGrammar r → Refuses t r

@@ -1,4 +1,4 @@
--- What `check` and `refusal` promise: refusals 3 to 9 of a text in the grammar are the definition's, and 2 is the recogniser's verdict. These contracts
+-- What `check_by` and `refusal` promise: refusals 3 to 9 of a text in the grammar are the definition's, and 2 is the recogniser's verdict. These contracts
 -- cite the definition; the account is named only for texts that are not in the grammar, on which the definition says nothing of 3 to 9.
 -- Assumes nothing.
 use mathlib.Core.Path.{_≡_}
@@ -10,8 +10,10 @@ use Rattle.grammar.specs.Viable.{Marked, Judged}
 use Rattle.grammar.specs.Steps.{marked}
 use Rattle.grammar.specs.declared.Verdict.{Verdict}
 use Rattle.grammar.specs.declared.Verdict.the-variants.{InGrammar, StuckAt}
+use Rattle.definition.specs.declared.Refusal.{Refusal}
+use Rattle.definition.specs.Rules.{notInGrammar, refuse}
 use Rattle.definition.specs.Commands.{commands}
-use Rattle.definition.specs.Faults.{Refusal, firstFault}
+use Rattle.definition.specs.Faults.{firstFault}
 use Rattle.checking.specs.Account.{faultOf}
 use Rattle.checking.specs.declared.Fault.{Fault}
 use Rattle.checking.specs.declared.Fault.the-variants.{Clear, Refused}
@@ -19,13 +21,13 @@ use Rattle.checking.specs.declared.Fault.the-variants.{Clear, Refused}
 -- the definition's first of refusals 3 to 9, as the code says it
 abbrev pub faultSaid : Option Refusal → Fault
 faultSaid none = Clear
-faultSaid (some r) = Refused (r .what) (r .place)
+faultSaid (some r) = Refused r
 
 -- of a text in the grammar, r is the definition's first fault
 abbrev pub Faulted : List ℕ → Fault → Type 0
 Faulted t r = (m : List Letter) → Marked t m → r ≡ faultSaid (firstFault (commands 0 m))
 
--- the contract of `check`: the definition's first fault; and on every text, the account of its letters as far as the recogniser goes
+-- the contract of `check_by`: the definition's first fault; and on every text, the account of its letters as far as the recogniser goes
 pub record Checked (t : List ℕ) (r : Fault) : Type 0 where
   pub is : Faulted t r
   pub along : r ≡ faultOf (marked 0 0 t)
@@ -33,7 +35,7 @@ pub record Checked (t : List ℕ) (r : Fault) : Type 0 where
 -- the contract of `refusal`: refusals 2 to 9 together
 abbrev pub byVerdict : List ℕ → Verdict → Fault → Type 0
 byVerdict t InGrammar r = Faulted t r
-byVerdict t (StuckAt n) r = r ≡ Refused 2 n
+byVerdict t (StuckAt n) r = r ≡ Refused (refuse notInGrammar n)
 
 pub record Refuses (t : List ℕ) (r : Fault) : Type 0 where
   pub verdict : Verdict
@@ -43,7 +45,7 @@ pub record Refuses (t : List ℕ) (r : Fault) : Type 0 where
 -- what a host is told: the refusal's number and place, and 0 and 0 where there is none
 abbrev pub faultWords : Fault → List ℕ
 faultWords Clear = 0 ∷ 0 ∷ []
-faultWords (Refused number place) = number ∷ place ∷ []
+faultWords (Refused r) = r .number ∷ r .place ∷ []
 
 -- the contract of `cif_refusal`
 pub record Told (t : List ℕ) (words : List ℕ) : Type 0 where

@@ -1,6 +1,7 @@
-// The first of refusals 2 to 9: `check` and `refusal` give the definition's own answer. That the account by which crate checking goes is the definition's
+// The first of refusals 2 to 9: `refusal` gives the definition's own answer. That the account by which crate checking goes is the definition's
 // on every text of the grammar is proved here.
 use checking::Fault;
+use definition::Refusal;
 ghost use Rattle.grammar.specs.Steps.{KindsLent, NextLent};
 ghost use Rattle.reading.specs.Refusal.{Checked, Refuses, Told};
 
@@ -12,14 +13,6 @@ fn check_by(text: &[u8], kinds: &[u8; 256], next: &[u16; grammar::tables::ENTRY_
     checking::checked(text, kinds, next)
 }
 
-pub fn check(text: &[u8]) -> Fault
-    ensures { λ r. ⌜ Checked (now (text .entry)) r ⌝ }
-{
-    let kinds = grammar::tables::KINDS;
-    let next = grammar::tables::NEXT;
-    check_by(text, &kinds, &next)
-}
-
 // The first of refusals 2 to 9. The tables are copied once for both passes.
 pub fn refusal(text: &[u8]) -> Fault
     ensures { λ r. ⌜ Refuses (now (text .entry)) r ⌝ }
@@ -27,7 +20,10 @@ pub fn refusal(text: &[u8]) -> Fault
     let kinds = grammar::tables::KINDS;
     let next = grammar::tables::NEXT;
     match grammar::recognised(text, &kinds, &next) {
-        grammar::Verdict::StuckAt(n) => Fault::Refused(2, n),
+        grammar::Verdict::StuckAt(n) => Fault::Refused(Refusal {
+            number: 2,
+            place: n,
+        }),
         grammar::Verdict::InGrammar => check_by(text, &kinds, &next),
     }
 }
@@ -41,8 +37,8 @@ pub extern "C" fn cif_refusal(text: &[u8], answer: &mut [u64; 2])
         Fault::Clear => {
             *answer = [0, 0];
         }
-        Fault::Refused(number, place) => {
-            *answer = [number as u64, place as u64];
+        Fault::Refused(r) => {
+            *answer = [r.number as u64, r.place as u64];
         }
     }
 }
