@@ -1,77 +1,107 @@
 #!/usr/bin/env python3
-"""Writes what the program `batch` is run on and what it must answer: crates/batch/stdin and crates/batch/stdout.
+"""Writes what the program `batch` is run on and what it must answer: crates/batch/stdin and crates/batch/stdout. Run at the top of the repository.
 
-  tools/batch.py [TSV]             write both files; TSV holds vectors (default tests/base.tsv). Run at the top of the repository
-  tools/batch.py --run PROGRAM     run a built program on them, and on input that is meant to break it
-
-No answer is taken from the program: those of the vectors stand in TSV, and the others are written here by hand.
+No answer is taken from the program. Those of the rows of tests/*.tsv stand there; the places of refusal 2 in document 01's texts and in texts that
+are cut short or hold a byte from 128 up stand in tools/each_rule.py; for all others, and for what is listed, the second opinion (second/) is asked.
+Whatever the source of an answer, the account of tools/account.py has to agree with it. Each flat file is flattened again, in a room that just holds it.
 """
-import subprocess
+import os
 import sys
 
+sys.dont_write_bytecode = True
+sys.path.append(os.path.join(os.path.dirname(os.path.dirname(os.path.abspath(__file__))), "second"))
+import account  # noqa: E402
+import each_rule  # noqa: E402
+import listing  # noqa: E402
+import reader  # noqa: E402
+import records  # noqa: E402
+
 STDIN, STDOUT = "crates/batch/stdin", "crates/batch/stdout"
-MOST = 1048576
+ROWS = ["tests/base.tsv", "tests/document.tsv", "tests/drawing.tsv"]
+ROOM = 4096  # of a text that has none of its own
 
 
-def head(text, room):
-    return text.to_bytes(4, "little") + room.to_bytes(4, "little")
+def rows():
+    """The rows of tests/*.tsv: room, text and answer."""
+    for path in ROWS:
+        for line in open(path):
+            if not line.startswith("#"):
+                _, room, text, *numbers, flat = line.rstrip("\n").split("\t")
+                yield int(room), bytes.fromhex(text), reader.Answer(*map(int, numbers), bytes.fromhex(flat))
 
 
-def record(text, room):
-    return head(len(text), room) + text
+def texts():
+    """The texts for each rule, with the second opinion's answers; where the place of refusal 2 is known, the account has to find it."""
+    for text, known in each_rule.texts():
+        text = text.encode() if isinstance(text, str) else text
+        if known is not each_rule.UNKNOWN and known != account.place(text):
+            sys.exit(f"no agreement on {text!r}: {known} is written, the account says {account.place(text)}")
+        yield ROOM, text, reader.flatten(text, ROOM)
 
 
-def told(number, place, length, shapes, calls, redefinitions, flat=b""):
-    return b"\t".join(b"%d" % n for n in (number, place, length, shapes, calls, redefinitions)) + b"\n" + flat
+def each_once(asked):
+    seen = set()
+    for room, text, answer in asked:
+        if (room, text) not in seen:
+            seen.add((room, text))
+            yield room, text, answer
 
 
-def vectors(tsv):
-    """Records and their answers, and at the end one that is cut short."""
-    given, expected = [], []
-    for line in open(tsv):
-        if not line.startswith("#"):
-            name, room, text, *numbers, flat = line.rstrip("\n").split("\t")
-            given.append(record(bytes.fromhex(text), int(room)))
-            expected.append(told(*map(int, numbers), bytes.fromhex(flat)))
-    return b"".join(given) + head(2, 2) + b"E", b"".join(expected) + b"cut short\n"
+def flattened(asked):
+    """Task 0: each text, and its flat file again."""
+    for room, text, answer in asked:
+        account.agree(text, account.place(text), answer)
+        yield records.record(records.FLATTEN, text, room), records.flattened(answer)
+        if answer.number == 0:
+            again = answer._replace(calls=0, redefinitions=0)
+            yield records.record(records.FLATTEN, answer.flat, answer.length), records.flattened(again)
 
 
-def hostile():
-    """Input that is meant to break the program, and what it must answer."""
-    empty, full = told(0, 0, 2, 0, 0, 0, b"E\n"), told(18, 0, 0, 0, 0, 0)
-    blanks = b"E" + b" " * (MOST - 1)
-    lines = (MOST - 6) // 8
-    text, flat = b"LA;" + b"R1 0 0;" * lines + b"E", b"LA;\n" + b"R1 0 0;\n" * lines + b"E\n"
-    yield "no input", b"", b""
-    yield "an empty text", record(b"", 0), told(2, 0, 0, 0, 0, 0)
-    yield "a room of no bytes, and one of just enough", record(b"E", 0) + record(b"E", 1) + record(b"E", 2), full * 2 + empty
-    yield "an answer behind a refusal, in the same memory", record(b"LA;R1 0 0;E", 13) + record(b"E", 3), full + empty
-    yield "a head that is cut short", record(b"E", 2) + head(1, 2)[:7], empty + b"cut short\n"
-    yield "a text that is cut short", record(b"E", 2) + head(3, 2) + b"E", empty + b"cut short\n"
-    yield "a text as long as it may be", record(blanks, 2), empty
-    yield "a flat file as long as its room", record(text, len(flat)), told(0, 0, len(flat), lines, 0, 0, flat)
-    yield "a flat file one byte longer", record(text, len(flat) - 1), full
-    yield "a text that is too long", record(b"E", 2) + head(MOST + 1, 2) + blanks + b" ", empty + b"too long\n"
-    yield "a room that is too long", head(1, MOST + 1) + b"E", b"too long\n"
-    yield "the largest numbers", head(2**32 - 1, 2**32 - 1), b"too long\n"
-    yield "many records", record(b"E", 2) * 2000, empty * 2000
+def drawn(text, answer):
+    """What the reader says of a text in a room that suffices: an answer from a smaller one tells it, unless that room was too small."""
+    return reader.draw(text) if answer is None or answer.number == 18 else answer
 
 
-def run(program):
-    inputs = [("the vectors", open(STDIN, "rb").read(), open(STDOUT, "rb").read()), *hostile()]
-    for what, given, expected in inputs:
-        got = subprocess.run([program], input=given, stdout=subprocess.PIPE, timeout=100).stdout
-        print("as it must" if got == expected else "WRONG", what, sep="\t")
-        if got != expected:
-            sys.exit(f"{got[:200]!r}, and it must be {expected[:200]!r}")
+def listed(asked):
+    """Task 2: what the list program prints."""
+    for text, answer in asked.items():
+        yield records.record(records.LIST, text), records.listed(listing.lines_of(text, drawn(text, answer)))
+
+
+def empty_answers():
+    """Tasks that are still to come, and tasks that there are not."""
+    for task in (*records.TO_COME, 10, 255, 256, 65_536, 16_777_216, records.LARGEST):
+        yield records.record(task, b"LA;R1 0 0;E", 64, b"E"), records.NOTHING
+
+
+def ignored_numbers():
+    """What a task does not look at: a second text, words, records and the argument."""
+    answer = reader.flatten(b"LA;R1 0 0;E", 64)
+    for words in (0, 1, records.LONGEST, records.LONGEST + 1, records.LARGEST):
+        for others in (dict(records=0), dict(argument=1), dict(argument=records.LARGEST), dict(second=b"E"), dict(second=b"\n" * 5_000)):
+            yield records.record(records.FLATTEN, b"LA;R1 0 0;E", 64, words=words, **others), records.flattened(answer)
+            yield records.record(records.LIST, b" E", words=words, **others), records.listed(listing.listing(b" E"))
+
+
+def cases():
+    written = list(each_once(rows()))
+    to_list = {text: answer for _, text, answer in written}
+    to_list.update((text.encode(), None) for text in each_rule.LISTED)
+    yield from flattened(each_once([*written, *texts()]))
+    yield from listed(to_list)
+    yield from empty_answers()
+    yield from ignored_numbers()
+    yield records.head(records.FLATTEN, 2, room=2) + b"E", b"cut short\n"
 
 
 def main():
-    if sys.argv[1:2] == ["--run"]:
-        return run(sys.argv[2])
-    given, expected = vectors(sys.argv[1] if len(sys.argv) > 1 else "tests/base.tsv")
-    open(STDIN, "wb").write(given)
-    open(STDOUT, "wb").write(expected)
+    sys.setrecursionlimit(20000)
+    sys.set_int_max_str_digits(0)
+    asked, told = zip(*cases())
+    open(STDIN, "wb").write(b"".join(asked))
+    open(STDOUT, "wb").write(b"".join(told))
+    refused = sum(t.startswith(b"2\t") for t in told)
+    print(len(asked), "records,", refused, "refused by the grammar,", sum(t.count(b"\t") == 8 and t.startswith(b"0\t") for t in told), "flat files")
 
 
 if __name__ == "__main__":

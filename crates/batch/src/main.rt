@@ -1,17 +1,19 @@
-// Flattens many texts in one run, for comparing with other readers. Standard input holds records: the length of a text and of a room, each four bytes,
-// lowest first, and then the text. Standard output has for each a line, `number place length shapes calls redefinitions` parted by tabs, and then the
-// flat file's bytes. Both lengths are at most 1,048,576. A line of words ends the run:
+// Answers many questions in one run, so that the reader can be held against others: a record of standard input asks for one function, and standard
+// output has a line of what it gave, and its bytes. docs/PROGRAMS.md has the format. A line of words ends the run:
 //
 //   cut short        the input ends within a record
-//   too long         a length is larger than that
-//
-// The input may have any number of records.
-use libc::STDIN_FILENO;
-use libc::STDOUT_FILENO;
+//   too long         a number of a record is over its limit
+use definition::Answer;
+use streams::Input;
+ghost use Prim.Native.Nat.{_≤_, _<_};
 ghost use mathlib.Core.Path.{_≡_};
 ghost use lib.ListN.{length};
+ghost use Rattle.printout.specs.Prints.{listingLength};
 
+// The limits of a record: the bytes of a text or a room, and the records lent for open calls.
 const MOST: usize = 1048576;
+
+const MOST_OPEN: usize = 64;
 
 // The contract spares callers the zeros.
 fn bytes() -> [u8; MOST]
@@ -20,31 +22,67 @@ fn bytes() -> [u8; MOST]
     [0; MOST]
 }
 
-fn put_number(n: usize, behind: &[u8]) {
-    io::print_decimal(STDOUT_FILENO, n as u64);
-    io::write_all(STDOUT_FILENO, behind);
+// A field of a line that is followed by others. Like all that writes, it says whether it could.
+fn put_field(n: usize) -> bool {
+    streams::write_number(n, b"\t")
 }
 
-fn put_answer(r: definition::Answer) {
-    put_number(r.number, b"\t");
-    put_number(r.place, b"\t");
-    put_number(r.length, b"\t");
-    put_number(r.shapes, b"\t");
-    put_number(r.calls, b"\t");
-    put_number(r.redefinitions, b"\n");
+fn put_counts(r: Answer) -> bool {
+    if !put_field(r.shapes) {
+        return false;
+    }
+    if !put_field(r.calls) {
+        return false;
+    }
+    streams::write_number(r.redefinitions, b"\t0\t0\t0\n")
 }
 
-fn answer(text: &[u8], room: &mut [u8]) {
-    let r = reader::flatten(text, room);
-    put_answer(r);
-    io::write_all(STDOUT_FILENO, &room[..r.length]);
+// The line of an answer. Its last three fields, the rounded distances, the line and the column, are 0 until they are counted.
+fn put_answer(r: Answer) -> bool {
+    if !put_field(r.number) {
+        return false;
+    }
+    if !put_field(r.place) {
+        return false;
+    }
+    if !put_field(r.length) {
+        return false;
+    }
+    put_counts(r)
 }
 
-// What a record begins with: the lengths of its text and its room. Or the input is at its end, or ends there.
-enum Head {
-    Lengths(usize, usize),
-    End,
-    CutShort,
+// Task 0: the flat file.
+fn flatten(text: &[u8], room: &mut [u8]) -> bool {
+    let answer = reader::flatten(text, room);
+    let length = answer.length;
+    if !put_answer(answer) {
+        return false;
+    }
+    streams::write(&room[..length])
+}
+
+// Task 2: what the list program prints.
+fn list(text: &[u8], room: &mut [u8]) -> bool
+    requires { ⌜ length (now room) ≡ listingLength ⌝ }
+{
+    let length = printout::print_text(text, room);
+    if !streams::write(b"0\t0\t") {
+        return false;
+    }
+    if !streams::write_number(length, b"\n") {
+        return false;
+    }
+    streams::write(&room[..length])
+}
+
+// What a record begins with, as far as a task needs it: the task, the lengths of its two texts and of its room, and the records lent for open calls.
+// The words lent for bodies and the argument are passed over.
+struct Head {
+    task: usize,
+    text: usize,
+    second: usize,
+    room: usize,
+    open: usize,
 }
 
 fn number_of(lowest: u8, second: u8, third: u8, highest: u8) -> usize {
@@ -52,57 +90,134 @@ fn number_of(lowest: u8, second: u8, third: u8, highest: u8) -> usize {
     lowest as usize + 256 * second as usize + 65536 * high
 }
 
-fn read_head() -> Head {
-    let mut head: [u8; 8] = [0; 8];
-    let n = io::read_full(STDIN_FILENO, &mut head);
-    if n == 0 {
-        return Head::End;
+fn number_at(numbers: &[u8; 28], at: usize) -> usize
+    requires { ⌜ at < 25 ⌝ }
+{
+    number_of(
+        numbers[at],
+        numbers[at + 1],
+        numbers[at + 2],
+        numbers[at + 3],
+    )
+}
+
+fn head_of(numbers: &[u8; 28]) -> Head {
+    Head {
+        task: number_at(numbers, 0),
+        text: number_at(numbers, 4),
+        second: number_at(numbers, 8),
+        room: number_at(numbers, 12),
+        open: number_at(numbers, 20),
     }
-    if n < 8 {
-        return Head::CutShort;
+}
+
+// What comes next: a record, or the input is at its end or could not be read, or it ends within the head.
+enum Next {
+    Record(Head),
+    End,
+    CutShort,
+}
+
+fn read_head() -> Next {
+    let mut head: [u8; 28] = [0; 28];
+    match streams::read(&mut head) {
+        Input::Failed => Next::End,
+        Input::Bytes(n) => {
+            if n == 0 {
+                return Next::End;
+            }
+            if n < 28 {
+                return Next::CutShort;
+            }
+            Next::Record(head_of(&head))
+        }
     }
-    let text_length = number_of(head[0], head[1], head[2], head[3]);
-    let room_length = number_of(head[4], head[5], head[6], head[7]);
-    Head::Lengths(text_length, room_length)
 }
 
 // A line of words ends the run.
 fn stop(words: &[u8]) -> bool {
-    io::write_all(STDOUT_FILENO, words);
+    streams::write(words);
     false
 }
 
-fn answer_next(text: &mut [u8], room: &mut [u8]) -> bool {
+// Reads a whole text, and says whether it could.
+fn read_text(text: &mut [u8]) -> bool {
     let n = text.len();
-    if io::read_full(STDIN_FILENO, text) < n {
-        return stop(b"cut short\n");
+    match streams::read(text) {
+        Input::Failed => false,
+        Input::Bytes(read) => {
+            if read < n {
+                return stop(b"cut short\n");
+            }
+            true
+        }
     }
-    answer(text, room);
-    true
 }
 
-// Answers one record, and says whether the run goes on.
-fn answer_record(text: &mut [u8], room: &mut [u8]) -> bool {
+// Answers a record by its task. A task that is still to come gives a line and no bytes.
+fn answer(task: usize, text: &[u8], size: usize, room: &mut [u8]) -> bool
+    requires { ⌜ (size ≤ length (now room)) × (1048576 ≡ length (now room)) ⌝ }
+{
+    match task {
+        0 => flatten(text, &mut room[..size]),
+        2 => list(text, &mut room[..printout::LONGEST_LISTING]),
+        _ => streams::write(b"0\t0\t0\n"),
+    }
+}
+
+fn answer_texts(
+    task: usize,
+    text: &mut [u8],
+    second: &mut [u8],
+    size: usize,
+    room: &mut [u8],
+) -> bool
+    requires { ⌜ (size ≤ length (now room)) × (1048576 ≡ length (now room)) ⌝ }
+{
+    if !read_text(text) {
+        return false;
+    }
+    if !read_text(second) {
+        return false;
+    }
+    answer(task, text, size, room)
+}
+
+// Answers the next record, and says whether the run goes on.
+fn answer_next(text: &mut [u8], second: &mut [u8], room: &mut [u8]) -> bool
+    requires { ⌜ 1048576 ≡ length (now room) ⌝ }
+{
     match read_head() {
-        Head::End => false,
-        Head::CutShort => stop(b"cut short\n"),
-        Head::Lengths(n, m) => {
+        Next::End => false,
+        Next::CutShort => stop(b"cut short\n"),
+        Next::Record(head) => {
+            let n = head.text;
+            let m = head.second;
+            let size = head.room;
             if n > text.len() {
                 return stop(b"too long\n");
             }
-            if m > room.len() {
+            if m > second.len() {
                 return stop(b"too long\n");
             }
-            answer_next(&mut text[..n], &mut room[..m])
+            if size > room.len() {
+                return stop(b"too long\n");
+            }
+            if head.open > MOST_OPEN {
+                return stop(b"too long\n");
+            }
+            answer_texts(head.task, &mut text[..n], &mut second[..m], size, room)
         }
     }
 }
 
 // A proved loop has to end, and nothing says that the input does: it counts its turns down from a number that no run uses up.
-fn answer_all(text: &mut [u8], room: &mut [u8]) {
+fn answer_all(text: &mut [u8], second: &mut [u8], room: &mut [u8])
+    requires { ⌜ 1048576 ≡ length (now room) ⌝ }
+{
     let mut turns = u64::MAX;
     while turns > 0 {
-        if !answer_record(text, room) {
+        if !answer_next(text, second, room) {
             return;
         }
         turns -= 1;
@@ -111,6 +226,7 @@ fn answer_all(text: &mut [u8], room: &mut [u8]) {
 
 fn main() {
     let mut text = bytes();
+    let mut second = bytes();
     let mut room = bytes();
-    answer_all(&mut text, &mut room);
+    answer_all(&mut text, &mut second, &mut room);
 }

@@ -1,26 +1,34 @@
--- `answer` is safe: the length that is told lies within the room.
+-- `answer` is safe: what is lent to a task lies within the room.
 -- Assumes nothing.
 use mathlib.Core.Path.{sym}
 use lib.Seq.{length-take-le}
-use Rattle.reader.proofs.Demands.{length-within}
 use borrow.Author.Needs.{needs}
 use Rattle.batch.proofs.answer.Statement.{statement}
 use Rattle.batch.proofs.answer.Tie as tie
 
+slice-relend-prefix-flatten : tie.Need-slice-relend-prefix-flatten
+slice-relend-prefix-flatten c = search needs
+
+slice-aggregate-flatten : tie.Need-slice-aggregate-flatten
+slice-aggregate-flatten c = sym (length-take-le _ _ (search needs))
+
 flatten-requires : tie.Need-flatten-requires
 flatten-requires c κs = search needs
 
-put-answer-requires : tie.Need-put-answer-requires
-put-answer-requires c κs = search needs
+slice-relend-prefix-list : tie.Need-slice-relend-prefix-list
+slice-relend-prefix-list c = search needs
 
-slice-reshare-prefix-write-all : tie.Need-slice-reshare-prefix-write-all
-slice-reshare-prefix-write-all c = length-within (c .before .before .before .flatten .ensures)
+slice-aggregate-list : tie.Need-slice-aggregate-list
+slice-aggregate-list c = sym (length-take-le 131328 (c .before .before .before .before .args .room .now) (search needs))
 
-slice-aggregate-write-all : tie.Need-slice-aggregate-write-all
-slice-aggregate-write-all c = sym (length-take-le _ _ (length-within (c .before .before .before .before .flatten .ensures)))
+list-requires : tie.Need-list-requires
+list-requires c κs = length-take-le 131328 (c .before .before .before .before .args .room .now) (search needs)
 
-write-all-requires : tie.Need-write-all-requires
-write-all-requires c κs = search needs
+slice-aggregate-write : tie.Need-slice-aggregate-write
+slice-aggregate-write c = search needs
+
+write-requires : tie.Need-write-requires
+write-requires c κs = search needs
 
 same-length : tie.Need-same-length
 same-length c = search needs
@@ -28,14 +36,29 @@ same-length c = search needs
 returns : tie.Need-returns
 returns c = search needs
 
+same-length-2 : tie.Need-same-length-2
+same-length-2 c = search needs
+
+returns-2 : tie.Need-returns-2
+returns-2 c = search needs
+
+returns-3 : tie.Need-returns-3
+returns-3 c = search needs
+
 pub answer-spec : {M : Type 1} → statement M
 answer-spec =
     tie.close
     (tie.spec
+    slice-relend-prefix-flatten
+    slice-aggregate-flatten
     flatten-requires
-    put-answer-requires
-    slice-reshare-prefix-write-all
-    slice-aggregate-write-all
-    write-all-requires
+    slice-relend-prefix-list
+    slice-aggregate-list
+    list-requires
+    slice-aggregate-write
+    write-requires
     same-length
-    returns)
+    returns
+    same-length-2
+    returns-2
+    returns-3)

@@ -1,4 +1,4 @@
--- `answer_all` is safe and ends: the text and the room keep their lengths, and the turns that are left fall.
+-- `answer_all` is safe and ends: the texts and the room keep their lengths, and the turns that are left fall.
 -- Assumes nothing.
 use mathlib.Core.Path.{_≡_}
 use lib.ListN.{length}
@@ -7,22 +7,25 @@ use Rattle.batch.proofs.answer_all.Statement.{statement}
 use Rattle.batch.proofs.answer_all.Tie as tie
 
 abbrev Inv-loop : tie.InvT-loop
-Inv-loop text₀ room₀ turns₀ text room turns = (length text ≡ length text₀) × (length room ≡ length room₀)
+Inv-loop text₀ second₀ room₀ turns₀ text second room turns = (length text ≡ length text₀) × (length second ≡ length second₀) × (length room ≡ length room₀)
 
 abbrev μ-loop : tie.MeasureT-loop
-μ-loop text₀ room₀ turns₀ text room turns = turns
+μ-loop text₀ second₀ room₀ turns₀ text second room turns = turns
 
 loop-holds : tie.Need-loop-holds Inv-loop μ-loop
 loop-holds c = search needs
 
-answer-record-requires : tie.Need-answer-record-requires Inv-loop μ-loop
-answer-record-requires c κs = search needs
+answer-next-requires : tie.Need-answer-next-requires Inv-loop μ-loop
+answer-next-requires c κs = search needs
 
 same-length : tie.Need-same-length Inv-loop μ-loop
 same-length c = search needs
 
 same-length-2 : tie.Need-same-length-2 Inv-loop μ-loop
 same-length-2 c = search needs
+
+same-length-3 : tie.Need-same-length-3 Inv-loop μ-loop
+same-length-3 c = search needs
 
 returns : tie.Need-returns Inv-loop μ-loop
 returns c = search needs
@@ -36,11 +39,14 @@ loop-less c = search needs
 loop-again : tie.Need-loop-again Inv-loop μ-loop
 loop-again c = search needs
 
-same-length-3 : tie.Need-same-length-3 Inv-loop μ-loop
-same-length-3 c = search needs
-
 same-length-4 : tie.Need-same-length-4 Inv-loop μ-loop
 same-length-4 c = search needs
+
+same-length-5 : tie.Need-same-length-5 Inv-loop μ-loop
+same-length-5 c = search needs
+
+same-length-6 : tie.Need-same-length-6 Inv-loop μ-loop
+same-length-6 c = search needs
 
 returns-2 : tie.Need-returns-2 Inv-loop μ-loop
 returns-2 c = search needs
@@ -52,13 +58,15 @@ answer-all-spec =
     Inv-loop
     μ-loop
     loop-holds
-    answer-record-requires
+    answer-next-requires
     same-length
     same-length-2
+    same-length-3
     returns
     sub-turns
     loop-less
     loop-again
-    same-length-3
     same-length-4
+    same-length-5
+    same-length-6
     returns-2)

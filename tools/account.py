@@ -1,0 +1,234 @@
+"""An account of refusals 2 to 9 that knows neither the project's tables nor how they are made: `agree` holds a written answer to it.
+
+It follows the printed rules of section 7.1.1 over sets of places, and finds refusals 3 to 9 by document 01's table.
+"""
+import sys
+
+# ---- the grammar of 7.1.1. A rule is a function from the places where it may begin to those where it may end. No rule is a dead end, so the
+# furthest place that some character led to is the length of the longest prefix that can be completed, and what was asked for at the end of the
+# text is what can follow.
+
+
+class Reading:
+    def __init__(self, text):
+        self.text, self.furthest, self.following = text, 0, frozenset()
+
+
+def one(chars):
+    chars = frozenset(chars.encode() if isinstance(chars, str) else chars)
+
+    def rule(reading, places):
+        ends = {p + 1 for p in places if p < len(reading.text) and reading.text[p] in chars}
+        reading.furthest = max(ends | {reading.furthest})
+        if len(reading.text) in places:
+            reading.following |= chars
+        return ends
+
+    return rule
+
+
+def then(*rules):
+    def rule(reading, places):
+        for r in rules:
+            places = r(reading, places)
+        return places
+
+    return rule
+
+
+def either(*rules):
+    return lambda reading, places: set().union(*(r(reading, places) for r in rules))
+
+
+def many(r):
+    def rule(reading, places):
+        ends = new = set(places)
+        while new:
+            new = r(reading, new) - ends
+            ends = ends | new
+        return ends
+
+    return rule
+
+
+def option(r):
+    return lambda reading, places: places | r(reading, places)
+
+
+DIGITS, UPPERS, ASCII = range(48, 58), range(65, 91), range(128)
+digit, upper = one(DIGITS), one(UPPERS)
+blank = one(b for b in ASCII if b not in DIGITS and b not in UPPERS and b not in b"-();")
+sep = either(upper, blank)
+semi = then(many(blank), one(";"), many(blank))
+name_char = either(digit, upper)
+shortname = then(name_char, option(name_char), option(name_char), option(name_char))
+integer_d = then(digit, many(digit))
+integer = then(many(sep), integer_d)
+sinteger = then(many(sep), option(one("-")), integer_d)
+point = then(sinteger, sep, sinteger)
+path = then(point, many(then(sep, point)))
+mirror = then(one("M"), many(blank), one("XY"))
+transformation = many(then(many(blank), either(then(one("T"), point), mirror, then(one("R"), point))))
+
+
+def comment_text(reading, places):
+    return many(either(one(b for b in ASCII if b not in b"()"), then(one("("), comment_text, one(")"))))(reading, places)
+
+
+prim_command = either(
+    then(one("P"), path),
+    then(one("B"), integer, sep, integer, sep, point, option(then(sep, point))),
+    then(one("R"), integer, sep, point),
+    then(one("W"), integer, sep, path),
+    then(one("L"), many(blank), shortname),
+    then(one("C"), integer, transformation),
+    then(digit, many(one(b for b in ASCII if b not in b";"))),
+    then(one("("), comment_text, one(")")),
+)
+def_start = then(one("D"), many(blank), one("S"), integer, option(then(sep, integer, sep, integer)))
+def_finish = then(one("D"), many(blank), one("F"))
+def_delete = then(one("D"), many(blank), one("D"), integer)
+command = either(prim_command, def_delete, then(def_start, semi, many(then(many(blank), option(prim_command), semi)), def_finish))
+cif_file = then(many(then(many(blank), option(command), semi)), one("E"), many(blank))
+
+IN_GRAMMAR = None
+
+
+def place(text):
+    """IN_GRAMMAR, or the place of refusal 2."""
+    reading = Reading(text)
+    return IN_GRAMMAR if len(text) in cif_file(reading, {0}) else reading.furthest
+
+
+def following(prefix):
+    """The bytes that can follow a prefix."""
+    reading = Reading(prefix)
+    cif_file(reading, {0})
+    return reading.following
+
+
+# ---- refusals 3 to 9 of a text in the grammar, from document 01's table and written apart from the reader
+
+MOST = 16777215
+
+
+class Scan:
+    """Reads one command of a grammatical text from its first letter on."""
+
+    def __init__(self, text, at):
+        self.text, self.at = text, at
+
+    def blanks(self):
+        while self.text[self.at] not in b"0123456789ABCDEFGHIJKLMNOPQRSTUVWXYZ-();":
+            self.at += 1
+
+    def number(self):
+        """The next number as place, value; or nothing before the semicolon."""
+        while self.text[self.at] not in b"0123456789-;":
+            self.at += 1
+        start = self.at
+        if self.text[start] == 59:
+            return None
+        self.at += 1
+        while self.text[self.at] in b"0123456789":
+            self.at += 1
+        return start, int(self.text[start : self.at])
+
+    def numbers(self):
+        found = []
+        while (n := self.number()) is not None:
+            found.append(n)
+        return found
+
+
+def commands(text):
+    """Each command but comments, user extensions and E: place, letter, and its numbers, name or transformations."""
+    at = 0
+    while True:
+        while text[at] in b";" or not (48 <= text[at] <= 57 or 65 <= text[at] <= 90 or text[at] == 40):
+            at += 1
+        letter, scan = chr(text[at]), Scan(text, at + 1)
+        if letter == "E":
+            return
+        if letter == "(":
+            depth = 1
+            while depth:
+                depth += {40: 1, 41: -1}.get(text[scan.at], 0)
+                scan.at += 1
+        elif letter == "L":
+            scan.blanks()
+            start = scan.at
+            while scan.text[scan.at : scan.at + 1].isalnum() and chr(scan.text[scan.at]) not in "abcdefghijklmnopqrstuvwxyz":
+                scan.at += 1
+            yield at, "L", text[start : scan.at]
+        elif letter == "D":
+            scan.blanks()
+            second = chr(text[scan.at])
+            scan.at += 1
+            yield at, "D" + second, scan.numbers()
+        elif letter == "C":
+            symbol, turns = scan.number(), []
+            while True:
+                scan.blanks()
+                turn = chr(text[scan.at])
+                if turn == ";":
+                    break
+                scan.at += 1
+                if turn == "M":
+                    scan.blanks()
+                    scan.at += 1
+                    turns.append((turn, []))
+                else:
+                    turns.append((turn, [scan.number(), scan.number()]))
+            yield at, "C", (symbol, turns)
+        elif not letter.isdigit():
+            yield at, letter, scan.numbers()
+        at = text.index(b";", scan.at)
+
+
+def fault(text):
+    """The first of refusals 3 to 9 and its place, or nothing."""
+    inside, a, b, layer, outer = False, 1, 1, None, None
+    for at, kind, what in commands(text):
+        if kind == "L":
+            layer = what
+            continue
+        shape = kind in "PBRW"
+        if kind == "C":
+            symbol, turns = what
+            numbers = [symbol] + [n for _, ns in turns for n in ns]
+            distances = [n for turn, ns in turns if turn == "T" for n in ns]
+        else:
+            numbers, turns = what, []
+            distances = what[:4] if kind == "B" else what if shape else []
+        sizes = what[: {"B": 2, "R": 1, "W": 1}.get(kind, 0)]
+        directions = [what[4:6]] if kind == "B" and len(what) > 4 else [ns for turn, ns in turns if turn == "R"]
+        points = {"P": len(what) // 2, "W": (len(what) - 1) // 2}.get(kind, 0)
+        found = [(3, p) for p, v in numbers if abs(v) > MOST]
+        if kind == "DS" and any(v == 0 for _, v in what[1:3]):
+            found.append((4, at))
+        found += [(5, p) for p, v in distances if a * abs(v) % b] if b else []
+        found += [(6, p) for p, v in distances if a * abs(v) // b > MOST] if b else []
+        nowhere = any(all(v == 0 for _, v in d) for d in directions)
+        if any(v == 0 for _, v in sizes) or nowhere or kind == "P" and points < 3:
+            found.append((7, at))
+        if shape and layer is None:
+            found.append((8, at))
+        if points > 1024 or len(turns) > 32:
+            found.append((9, at))
+        if found:
+            return min(found)
+        if kind == "DS":
+            a, b = (what[1][1], what[2][1]) if len(what) > 1 else (1, 1)
+            inside, outer, layer = True, layer, None
+        elif kind == "DF":
+            inside, a, b, layer = False, 1, 1, outer
+    return None
+
+
+def agree(text, stuck, answer):
+    """Holds an answer to what is found here of refusals 2 to 9; `stuck` is the place of 2, or IN_GRAMMAR."""
+    found = (2, stuck) if stuck is not IN_GRAMMAR else fault(text)
+    given = (answer.number, answer.place) if 2 <= answer.number <= 9 else None
+    if found != given:
+        sys.exit(f"no agreement on {text!r}: {answer} is written, the account says {found}")
