@@ -54,6 +54,7 @@ module _ (old : Columns) (count i : ℕ) (r : Row) (sized : Sized old) (sorted :
       replaced old over r i count 0 i (omega arith) (h .0) (λ k a b. parted .below k b) (h .1) here elsewhere,
       λ n. absurd (clash (sym n ∙ found-row old count (r .symbol) i near-by h)),
     );
+    beyond = λ k l. elsewhere k (λ z. let a = h .0 in omega arith);
   }
     where
       near : (l : List ℕ) → length l ≡ most → i < length l
@@ -78,7 +79,7 @@ module _ (old : Columns) (count i : ℕ) (r : Row) (sized : Sized old) (sorted :
     pub enters-none : count ≡ most → Enters old old count r Full
     unfolding countAfter Told
     enters-none e =
-        record { sized = sized; sorted = sorted; rows = (refl, no-row old count (r .symbol) i near-by absent, rows-length old count 0 ∙ e) }
+        record { sized = sized; sorted = sorted; rows = (refl, no-row old count (r .symbol) i near-by absent, rows-length old count 0 ∙ e); beyond = λ k l. refl }
 
     module _ (new : Columns) (room : count < most) (s : Inserted (old .symbols) (new .symbols) count i (r .symbol))
         (p : Inserted (old .places) (new .places) count i (r .place)) (f : Inserted (old .starts) (new .starts) count i (r .start))
@@ -146,4 +147,5 @@ module _ (old : Columns) (count i : ℕ) (r : Row) (sized : Sized old) (sorted :
               (λ k x y. let z : k < count = omega arith in row-is _ _ _ _ _ _ (rowAt old k) (s .above k x z) (p .above k x z) (f .above k x z) (e .above k x z) (a .above k x z) (b .above k x z))),
           no-row old count (r .symbol) i near-by absent,
         );
+        beyond = λ k x. let z : count < k = omega arith in row-is _ _ _ _ _ _ (rowAt old k) (s .beyond k z) (p .beyond k z) (f .beyond k z) (e .beyond k z) (a .beyond k z) (b .beyond k z);
       }

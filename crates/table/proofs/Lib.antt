@@ -1,5 +1,5 @@
 pub mod Seeking
 pub mod Shifting
-pub mod Meaning
 pub mod InColumns
 pub mod Entering
+pub mod Sole

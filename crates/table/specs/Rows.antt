@@ -1,5 +1,5 @@
 -- The table as the code holds it: six columns whose first entries are its rows, sorted by number. A running account, not to be believed:
--- proofs/Meaning.antt shows that finding, entering and forgetting rows is what crates/definition's Table says of definitions.
+-- crates/bodies proves, of rows that stand for definitions, that finding, entering and forgetting them is what crates/definition's Table says.
 -- Assumes nothing.
 use mathlib.Core.Path.{_≡_}
 use mathlib.Core.List.{List, [], _∷_}
@@ -7,6 +7,7 @@ use mathlib.Core.Option.{Option, none, some}
 use Prim.Native.Nat.{ℕ, zero, suc, _+_, _≤_, _<_}
 use lib.Dec.{ltb, eqb}
 use lib.ListN.{length, getD}
+use Rattle.definition.specs.Limits.{mostDefinitions}
 use Rattle.definition.specs.Words.{if_then_else_, those}
 use Rattle.table.specs.declared.Row.{Row}
 use Rattle.table.specs.declared.Found.{Found}
@@ -14,9 +15,9 @@ use Rattle.table.specs.declared.Found.the-variants.{Live, Nothing}
 use Rattle.table.specs.declared.Entered.{Entered}
 use Rattle.table.specs.declared.Entered.the-variants.{Replaced, Added, Full}
 
--- the most live definitions that there can be (01, refusal 10: 513 live definitions)
+-- the most live definitions that there can be
 abbrev pub most : ℕ
-most = 512
+most = mostDefinitions
 
 -- find, enter and forget, as of definitions
 unfoldable pub findRow : ℕ → List Row → Option Row
@@ -80,12 +81,13 @@ pub record Parted (symbols : List ℕ) (count symbol i : ℕ) : Type 0 where
   pub below : (k : ℕ) → k < i → getD symbols k 0 < symbol
   pub above : (k : ℕ) → i ≤ k → k < count → symbol ≤ getD symbols k 0
 
--- a value was put into a column at place i, and what stood from there on moved up by one
+-- a value was put into a column at place i, and the live ones that stood from there on moved up by one; what stands after them is as it was
 pub record Inserted (old new : List ℕ) (count i v : ℕ) : Type 0 where
   pub size : length new ≡ length old
   pub below : (k : ℕ) → k < i → getD new k 0 ≡ getD old k 0
   pub here : getD new i 0 ≡ v
   pub above : (k : ℕ) → i ≤ k → k < count → getD new (k + 1) 0 ≡ getD old k 0
+  pub beyond : (k : ℕ) → count < k → getD new k 0 ≡ getD old k 0
 
 -- what `find` answers
 abbrev pub foundBy : Option Row → Found
@@ -112,10 +114,12 @@ Told before after r Replaced = (after ≡ enterRow r before) × (findRow (r .sym
 Told before after r Added = (after ≡ enterRow r before) × (findRow (r .symbol) before ≡ none)
 Told before after r Full = (after ≡ before) × (findRow (r .symbol) before ≡ none) × (length before ≡ most)
 
+-- after the live rows every column is as it was
 pub record Enters (old new : Columns) (count : ℕ) (r : Row) (e : Entered) : Type 0 where
   pub sized : Sized new
   pub sorted : Sorted (new .symbols) (countAfter e count)
   pub rows : Told (rowsOf old count) (rowsOf new (countAfter e count)) r e
+  pub beyond : (k : ℕ) → countAfter e count ≤ k → rowAt new k ≡ rowAt old k
 
 -- what `delete` leaves, whatever stands in the other columns
 pub record Forgets (symbols : List ℕ) (count symbol left : ℕ) : Type 0 where

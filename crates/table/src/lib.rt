@@ -8,7 +8,7 @@ ghost use lib.ListN.{length, getD};
 ghost use Rattle.table.specs.Rows.{most, findRow, columns, rowsOf, Sorted, Nearest, Parted, Inserted, Forgets, Sized, Enters, foundBy};
 
 // The most live definitions that there can be.
-pub const MOST: usize = 512;
+pub const MOST: usize = definition::MOST_DEFINITIONS;
 
 // A live definition: its number, the place of its DS, where its body starts and ends in the text, and its a and b.
 pub struct Row {

@@ -47,7 +47,7 @@ element-write-column-2 : tie.Need-element-write-column-2 Inv-loop μ-loop
 element-write-column-2 c = search needs
 
 returns : tie.Need-returns Inv-loop μ-loop
-returns c = shift-end _ _ _ _ _ _ (c .before .loop .inv .0) (c .loop-test .left) (c .before .loop .inv .1) (omega arith)
+returns c = shift-end _ _ _ _ _ _ (c .before .loop .inv .0) (c .loop-test .left) (c .before .loop .inv .1) (omega arith) (omega arith)
 
 pub insert-spec : {M : Type 1} → statement M
 insert-spec =

@@ -2,12 +2,13 @@
 -- Assumes nothing.
 use Prim.Native.Nat.{_+_, _/_, _≤_}
 use native.Mathlib.Omega.{arith}
+use Rattle.table.specs.Rows.{most}
 use Rattle.table.proofs.Seeking.{Seeking, not-higher, higher, seek-up, seek-down, sought}
 use Rattle.table.proofs.nearest.Statement.{statement}
 use Rattle.table.proofs.nearest.Tie as tie
 
 abbrev Inv-loop : tie.InvT-loop
-Inv-loop symbols count symbol at₀ reach₀ at reach = Seeking symbols count symbol at reach × (reach ≤ 512)
+Inv-loop symbols count symbol at₀ reach₀ at reach = Seeking symbols count symbol at reach × (reach ≤ most)
 
 abbrev μ-loop : tie.MeasureT-loop
 μ-loop symbols count symbol at₀ reach₀ at reach = reach
