@@ -6,7 +6,7 @@ use mathlib.Core.Bool.{Bool, true, false}
 use mathlib.Core.List.{List, [], _∷_, _++_, append-assoc, append-nil}
 use mathlib.Core.Logic.{_⊎_, inl, inr}
 use Prim.Native.Nat.{ℕ, zero, suc, _+_, _-_, _*_, _/_, _≤_, _<_}
-use native.Mathlib.Nat.{add-zero, zero-add, add-suc, suc-add, add-assoc, mul-div-right}
+use native.Mathlib.Nat.{add-zero, zero-add, add-suc, suc-add, add-assoc}
 use native.Mathlib.Omega.{arith}
 use lib.Dec.{eqb}
 use lib.ListN.{length, set, length-append}
@@ -114,17 +114,6 @@ closed-is ws ws₁ ws₂ l p c to end n k r w en ek y ey v = record {
   is = rw (ek, w .next);
   laid = v .laid ∙ rw (ey, ek, en, w .next, w .laid);
 }
-
--- scaling a number
-module _ (a b l w i n : ℕ) where
-  pub scaled-equal : a ≡ b → 1 ≤ b → n ≡ (if distance l w i then a * n / b else n)
-  scaled-equal e h =
-      let q : a * n / b ≡ n = ap (λ (x : ℕ). x * n / b) e ∙ mul-div-right n {m = b} h in
-      sym (ap (λ (x : ℕ). if distance l w i then x else n) q ∙ go (distance l w i))
-    where
-      go : (d : Bool) → (if d then n else n) ≡ n
-      go true = refl
-      go false = refl
 
 -- between the pieces of a command that began at s₀: `drawn` is what has been written of its body
 pub record Wording (t : List ℕ) (s₀ : Spot) (l a b : ℕ) (ws₀ : List ℤ) (s : Spot) (c : Line) (ws : List ℤ) : Type 0 where

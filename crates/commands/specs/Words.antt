@@ -17,7 +17,7 @@ use Rattle.pieces.specs.declared.Piece.{Piece}
 use Rattle.pieces.specs.declared.Piece.the-variants.{First, Second, Number, Word, Stop}
 use Rattle.rules.specs.Letters.{letterB, letterC, letterD, letterL, letterM, byteUnit, firstUnit}
 use Rattle.rules.specs.Written.{Written, written, writtenAt, letters, lastLetter, packedBy, insideBehind}
-use Rattle.rules.specs.Rules.{distance}
+use Rattle.rules.specs.Rules.{scaledBy}
 use Rattle.commands.specs.declared.Line.{Line}
 use Rattle.commands.specs.declared.Read.{Read}
 use Rattle.commands.specs.declared.Read.the-variants.{Decoded, Nothing}
@@ -38,7 +38,7 @@ word σ n = signed σ (held n)
 
 -- number i, behind the letter w, of a command with the first letter l: scaled if it is a distance
 abbrev pub valueOf : ℕ → ℕ → ℕ → ℕ → ℕ → Bool → ℕ → ℤ
-valueOf a b l w i σ n = word σ (if distance l w i then a * n / b else n)
+valueOf a b l w i σ n = word σ (scaledBy a b l w i n)
 
 -- a letter x is a word in a call only: T, R, X or Y; for M its axis stands
 unfoldable pub letterWords : ℕ → ℕ → List ℤ

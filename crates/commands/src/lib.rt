@@ -77,19 +77,6 @@ fn put_two(words: &mut [i32], at: usize, x: usize, y: usize) -> usize
     put_word(words, m, false, y)
 }
 
-fn scaled(a: usize, b: usize, letter: u8, word: u8, index: usize, n: usize) -> usize
-    requires { ⌜ (a ≤ tooLarge) × (1 ≤ b) × (n ≤ tooLarge) ⌝ }
-    ensures { λ r. ⌜ r ≡ (if distance letter word index then a * n / b else n) ⌝ }
-{
-    if a == b {
-        return n;
-    }
-    if rules::is_distance(letter, word, index) {
-        return a * n / b;
-    }
-    n
-}
-
 fn put_letter(words: &mut [i32], at: usize, letter: u8, x: u8) -> usize
     requires { ⌜ at ≤ outmost ⌝ }
     ensures { λ r. ⌜ Writes (now (words .entry)) at (letterWords letter x) r (now (words .exit)) ⌝ }
@@ -150,7 +137,7 @@ fn line_number(
     requires { ⌜ (c .at < outmost) × (c .count < outmost) ⌝ }
     ensures { λ r. ⌜ Lined (now (words .entry)) (c .at) (valueOf a b letter (c .word) (c .count) minus n ∷ []) (lineNumber c) r (now (words .exit)) ⌝ }
 {
-    let v = scaled(a, b, letter, c.word, c.count, n);
+    let v = rules::scaled(a, b, letter, c.word, c.count, n);
     let at = put_word(words, c.at, minus, v);
     Line {
         at,

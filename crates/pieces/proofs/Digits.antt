@@ -5,9 +5,11 @@ use mathlib.Core.Bool.{Bool, true, false}
 use mathlib.Core.List.{List, [], _∷_}
 use Prim.Native.Nat.{ℕ, _+_, _*_, _≤_, _<_}
 use native.Mathlib.Omega.{arith}
+use native.Mathlib.Numerals.{add-one}
 use borrow.Author.Tests.{eqb-true, eqb-false, leb-true, ltb-false, le-ltb, le-leb}
 use lib.Dec.{ltb, leb, eqb}
-use lib.ListN.{length, getD}
+use lib.ListN.{length, getD, drop, drop-of-length-le}
+use lib.Seq.{drop-cons}
 use Rattle.grammar.specs.Notation.{Role, Letter, dec, skip, head, second, turn, axis, sign, lead, later, name, stop}
 use Rattle.grammar.specs.Tables.{stateCount, stuck, letter}
 use Rattle.grammar.specs.Steps.{modeAfter, markOf, number, Moved}
@@ -15,9 +17,10 @@ use Rattle.grammar.specs.declared.Move.{Move}
 use Rattle.grammar.proofs.Automaton.{number-mark}
 use Rattle.grammar.proofs.Numerals.{Digital, Numeral}
 use Rattle.definition.specs.Commands.{worth}
-use Rattle.pieces.specs.Pieces.{tooLarge, capped, digitOf, digital, pieces, left, stream, spot, Step, Led}
+use Rattle.pieces.specs.Pieces.{tooLarge, capped, digitOf, digital, pieces, left, stream, spot, numeralBy, Step, Led}
 use Rattle.pieces.specs.declared.Spot.{Spot}
 use Rattle.pieces.specs.declared.Begun.{Begun}
+use Rattle.pieces.specs.declared.Numeral.{Numeral as Counted}
 use Rattle.pieces.specs.declared.Piece.{Piece}
 use Rattle.pieces.specs.declared.Piece.the-variants.{Number}
 use Rattle.pieces.proofs.Capped.{cap-le, cap-small, cap-twice, worth-capped}
@@ -64,9 +67,10 @@ pub record Digits (t : List ℕ) (q i₀ v₀ i v : ℕ) : Type 0 where
   pub small : v ≤ tooLarge
   pub size : Numeral q → q < stateCount → capped (worth v (left t q 0 i)) ≡ capped (worth v₀ (left t q 0 i₀))
   pub on : Numeral q → q < stateCount → pieces i₀ i₀ (left t q 0 i₀) ≡ pieces i i (left t q 0 i)
+  pub exact : numeralBy q i₀ v₀ (drop i₀ t) ≡ numeralBy q i v (drop i t)
 
 pub digits-start : (t : List ℕ) (q i v : ℕ) → v < 256 → Digits t q i v i v
-digits-start t q i v h = record { from = omega arith; within = λ k. k; small = omega arith; size = λ n l. refl; on = λ n l. refl }
+digits-start t q i v h = record { from = omega arith; within = λ k. k; small = omega arith; size = λ n l. refl; on = λ n l. refl; exact = refl }
 
 -- the step that the recogniser makes there
 abbrev step : ℕ → ℕ → Move
@@ -76,9 +80,27 @@ moved : (q b : ℕ) → Moved q 0 b (step q b)
 moved q b = record { goes = refl; mark = refl }
 
 module _ (t : List ℕ) (q i₀ v₀ i v : ℕ) (g : Digits t q i₀ v₀ i v) where
+  abbrev so-far : Counted
+  so-far = record { size = v; to = spot i q }
+
+  pub numeral-ended : length t ≤ i → so-far ≡ numeralBy q i₀ v₀ (drop i₀ t)
+  unfolding numeralBy
+  numeral-ended h = sym (g .exact ∙ ap (λ (l : List ℕ). numeralBy q i v l) (drop-of-length-le t h))
+
+  here : i < length t → numeralBy q i₀ v₀ (drop i₀ t) ≡ numeralBy q i v (getD t i 0 ∷ drop (i + 1) t)
+  here h = g .exact ∙ ap (λ (l : List ℕ). numeralBy q i v l) (drop-cons t i 0 h ∙ ap (λ (k : ℕ). getD t i 0 ∷ drop k t) (sym (add-one i)))
+
+  pub numeral-other : i < length t → digital (getD t i 0) ≡ false → so-far ≡ numeralBy q i₀ v₀ (drop i₀ t)
+  unfolding numeralBy
+  numeral-other h e = sym (here h ∙ rw e)
+
   module _ (hi : i < length t) (hb : getD t i 0 < 256) where
     abbrev b : ℕ
     b = getD t i 0
+
+    further : digital b ≡ true → (u : ℕ) → u ≡ capped (10 * v + digitOf b) → numeralBy q i₀ v₀ (drop i₀ t) ≡ numeralBy q (i + 1) u (drop (i + 1) t)
+    unfolding numeralBy
+    further e u eu = here hi ∙ rw (e, eu)
 
     other-over : Numeral q → q < stateCount → digital b ≡ false → worth v (left t q 0 i) ≡ v
     other-over n l e = go (eqb (modeAfter q 0 b .state) stuck) refl
@@ -110,6 +132,7 @@ module _ (t : List ℕ) (q i₀ v₀ i v : ℕ) (g : Digits t q i₀ v₀ i v) w
               worth-capped (left t q 0 (i + 1)) u (10 * v + digitOf b) (ap (λ (x : ℕ). capped x) eu ∙ cap-twice (10 * v + digitOf b))
               ∙ ap (λ (k : List Letter). capped (worth v k)) (sym (digit-on n l e))
               ∙ g .size n l;
+          exact = further e u eu;
           on = λ n l. g .on n l ∙ ap (λ (k : List Letter). pieces i i k) (digit-on n l e);
         }
 

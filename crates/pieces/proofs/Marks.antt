@@ -6,9 +6,11 @@ use mathlib.Core.List.{List, [], _∷_}
 use mathlib.Core.Logic.{_⊎_, inl, inr}
 use Prim.Native.Nat.{ℕ, _+_, _-_, _/_, _%_, _≤_, _<_}
 use native.Mathlib.Omega.{arith}
-use borrow.Author.Tests.{eqb-true, eqb-false}
-use lib.Dec.{eqb}
-use lib.ListN.{length, getD}
+use native.Mathlib.Numerals.{add-one}
+use borrow.Author.Tests.{eqb-true, eqb-false, lt-ltb, le-ltb, eq-eqb, ne-eqb}
+use lib.Dec.{ltb, eqb}
+use lib.ListN.{length, getD, drop, drop-of-length-le}
+use lib.Seq.{drop-cons}
 use Rattle.grammar.specs.Notation.{Role, Letter, has, skip, head, second, turn, axis, sign, lead, later, name, stop}
 use Rattle.grammar.specs.Tables.{stateCount, roleUnit, stuck, deep, roles, letter}
 use Rattle.grammar.specs.Steps.{kindOf, entryOf, nextOf, markOf, number, inside, Moved}
@@ -16,7 +18,7 @@ use Rattle.grammar.specs.declared.Move.{Move}
 use Rattle.grammar.proofs.Automaton.{number-mark}
 use Rattle.grammar.proofs.Ahead.{next-is, mark-is, plain-is, stuck-is, deep-is}
 use Rattle.grammar.proofs.Numerals.{Numeral, comment-head, lead-numeral}
-use Rattle.pieces.specs.Pieces.{pieces, left, stream, spot, behind, insideAfter, nextPlace, Fit, Small, Step, Led, Begins, Closes}
+use Rattle.pieces.specs.Pieces.{pieces, left, stream, spot, behind, insideAfter, nextPlace, ended, closedAt, begunBy, begun, Fit, Small, Step, Led, Begins, Closes}
 use Rattle.pieces.specs.declared.Spot.{Spot}
 use Rattle.pieces.specs.declared.Begun.{Begun}
 use Rattle.pieces.specs.declared.Piece.{Piece}
@@ -29,14 +31,16 @@ pub record Seeking (t : List ℕ) (q₀ i₀ q i p : ℕ) : Type 0 where
   pub from : i₀ ≤ i
   pub on : stream t (spot i₀ q₀) ≡ pieces i p (left t q 0 i)
   pub same : inside q ≡ inside q₀
+  pub exact : begun t (spot i₀ q₀) ≡ begunBy q i p (drop i t)
 
 pub seek-start : (t : List ℕ) (q i : ℕ) → Fit t (spot i q) → Seeking t q i q i i
-seek-start t q i f = record { fit = f; from = omega arith; on = refl; same = refl }
+seek-start t q i f = record { fit = f; from = omega arith; on = refl; same = refl; exact = refl }
 
 -- there is none
-begins-none : {t : List ℕ} {s : Spot} (m : Begun) → stream t s ≡ [] → m .mark ≡ number skip → Begins t s m
+begins-none : {t : List ℕ} {s : Spot} (m : Begun) → stream t s ≡ [] → m .mark ≡ number skip → m ≡ begun t s → Begins t s m
 unfolding number
-begins-none m e k = record {
+begins-none m e k x = record {
+  exact = x;
   none = λ _. e;
   some = λ n. absurd (n k);
   led = λ h. absurd (omega arith);
@@ -44,6 +48,27 @@ begins-none m e k = record {
   first = λ h. absurd (omega arith);
   letter = λ h. absurd (omega arith);
 }
+
+-- one byte of the account by bytes
+module _ (q i p b : ℕ) (l : List ℕ) (e : ℕ) (ee : e ≡ entryOf q (kindOf b)) where
+  by-stuck : e % roleUnit ≡ stuck → begunBy q i p (b ∷ l) ≡ ended i q
+  unfolding begunBy
+  by-stuck s = rw (← ee, le-ltb (e % roleUnit) deep (omega arith), eq-eqb (e % roleUnit) stuck s)
+
+  by-next : e % roleUnit < deep → e / roleUnit < number lead → begunBy q i p (b ∷ l) ≡ begunBy (e % roleUnit) (i + 1) (nextPlace (e / roleUnit) i) l
+  unfolding begunBy number
+  by-next s h = rw (← ee, lt-ltb (e % roleUnit) deep s, lt-ltb (e / roleUnit) (number lead) h)
+
+  by-letter : e % roleUnit < deep → number lead ≤ e / roleUnit
+      → begunBy q i p (b ∷ l) ≡ record { mark = e / roleUnit; byte = b; at = i; place = p; to = spot (i + 1) (e % roleUnit) }
+  unfolding begunBy number
+  by-letter s h = rw (← ee, lt-ltb (e % roleUnit) deep s, le-ltb (e / roleUnit) (number lead) h)
+
+  by-comment : deep ≤ e % roleUnit → (e % roleUnit ≡ stuck → ⊥)
+      → begunBy q i p (b ∷ l)
+      ≡ record { mark = e / roleUnit; byte = b; at = i; place = i; to = spot (closedAt (e % roleUnit - deep) 1 (i + 1) l) (e % roleUnit - deep) }
+  unfolding begunBy
+  by-comment s n = rw (← ee, le-ltb (e % roleUnit) deep s, ne-eqb (e % roleUnit) stuck n)
 
 -- a letter that begins no piece
 at-none : (i p b : ℕ) (L : List Letter) (ρ : Role) → number ρ < number lead → pieces i p (letter b ρ ∷ L) ≡ pieces (i + 1) (nextPlace (number ρ) i) L
@@ -74,8 +99,11 @@ at-further i p b L head h = absurd (omega arith)
 at-further i p b L second h = absurd (omega arith)
 
 module _ (t : List ℕ) (q₀ i₀ q i p : ℕ) (g : Seeking t q₀ i₀ q i p) where
-  pub seek-ended : length t ≤ i → (m : Begun) → m .mark ≡ number skip → Begins t (spot i₀ q₀) m
-  seek-ended h m k = begins-none m (g .on ∙ ap (λ (l : List Letter). pieces i p l) (left-ended t q 0 i h) ∙ pieces-none i p) k
+  pub seek-ended : length t ≤ i → (m : Begun) → m ≡ ended i q → Begins t (spot i₀ q₀) m
+  unfolding begunBy number
+  seek-ended h m k =
+      begins-none m (g .on ∙ ap (λ (l : List Letter). pieces i p l) (left-ended t q 0 i h) ∙ pieces-none i p) (ap (λ (x : Begun). x .mark) k)
+      (k ∙ sym (g .exact ∙ ap (λ (l : List ℕ). begunBy q i p l) (drop-of-length-le t h)))
 
   module _ (hi : i < length t) (hb : getD t i 0 < 256) (e : ℕ) (ee : e ≡ entryOf q (kindOf (getD t i 0))) where
     abbrev b : ℕ
@@ -87,11 +115,17 @@ module _ (t : List ℕ) (q₀ i₀ q i p : ℕ) (g : Seeking t q₀ i₀ q i p) 
     marks : e / roleUnit ≡ markOf q 0 b
     marks = mark-is q b e ee
 
-    pub seek-stuck : e % roleUnit ≡ stuck → (m : Begun) → m .mark ≡ number skip → Begins t (spot i₀ q₀) m
+    -- the next byte, for the account by bytes
+    here : begun t (spot i₀ q₀) ≡ begunBy q i p (b ∷ drop (i + 1) t)
+    here = g .exact ∙ ap (λ (l : List ℕ). begunBy q i p l) (drop-cons t i 0 hi ∙ ap (λ (k : ℕ). b ∷ drop k t) (sym (add-one i)))
+
+    pub seek-stuck : e % roleUnit ≡ stuck → (m : Begun) → m ≡ ended i q → Begins t (spot i₀ q₀) m
+    unfolding number
     seek-stuck s m k =
         let r : Move = record { state = stuck; depth = 0; mark = e / roleUnit } in
         let mv : Moved q 0 b r = record { goes = stuck-is q b (e % roleUnit) leads s; mark = marks } in
-        begins-none m (g .on ∙ ap (λ (l : List Letter). pieces i p l) (left-stuck t q 0 i hi hb r mv refl) ∙ pieces-none i p) k
+        begins-none m (g .on ∙ ap (λ (l : List Letter). pieces i p l) (left-stuck t q 0 i hi hb r mv refl) ∙ pieces-none i p) (ap (λ (x : Begun). x .mark) k)
+        (k ∙ sym (here ∙ by-stuck q i p b (drop (i + 1) t) e ee s))
 
     -- a step on, to a state and into a comment or not
     module _ (r : Move) (mv : Moved q 0 b r) (n : r .state ≡ stuck → ⊥) where
@@ -140,6 +174,7 @@ module _ (t : List ℕ) (q₀ i₀ q i p : ℕ) (g : Seeking t q₀ i₀ q i p) 
                 ∙ at-none i p b (rest r mv live) (role r) (subst (λ (k : ℕ). k < number lead) (sym ρ) h)
                 ∙ ap (λ (x : ℕ). pieces (i + 1) x (rest r mv live)) (ap (λ (k : ℕ). nextPlace k i) ρ ∙ sym ep);
             same = stays r mv live (λ k. omega arith);
+            exact = here ∙ by-next q i p b (drop (i + 1) t) e ee l h ∙ ap (λ (x : ℕ). begunBy (e % roleUnit) (i + 1) x (drop (i + 1) t)) (sym ep);
           }
 
       got : (x : Piece) → stream t (spot i₀ q₀) ≡ x ∷ stream t to → Small x → inside (e % roleUnit) ≡ insideAfter x (inside q₀) → (x ≡ Stop → to ≡ behind (inside q₀) (i + 1))
@@ -193,6 +228,7 @@ module _ (t : List ℕ) (q₀ i₀ q i p : ℕ) (g : Seeking t q₀ i₀ q i p) 
       pub seek-found : number lead ≤ e / roleUnit → Begins t (spot i₀ q₀) found
       unfolding number
       seek-found h = record {
+        exact = sym (here ∙ by-letter q i p b (drop (i + 1) t) e ee l h);
         none = λ k. absurd (omega arith);
         some = λ k. h;
         led = found-led;
@@ -221,14 +257,17 @@ module _ (t : List ℕ) (q₀ i₀ q i p : ℕ) (g : Seeking t q₀ i₀ q i p) 
       pub comment-state : e % roleUnit - deep < stateCount
       comment-state = below r″ deep-mv deep-live
 
-      pub seek-comment : (j : ℕ) → Closes t (e % roleUnit - deep) (i + 1) j
-          → Begins t (spot i₀ q₀) (record { mark = e / roleUnit; byte = b; at = i; place = i; to = spot j (e % roleUnit - deep) })
+      abbrev commented : ℕ → Begun
+      commented j = record { mark = e / roleUnit; byte = b; at = i; place = i; to = spot j (e % roleUnit - deep) }
+
+      pub seek-comment : (j : ℕ) → Closes t (e % roleUnit - deep) (i + 1) j → Begins t (spot i₀ q₀) (commented j)
       unfolding number pieces
       seek-comment j c =
           let m = is-head in
           let f = g .from in
           let a = c .ahead in
           record {
+            exact = sym (here ∙ by-comment q i p b (drop (i + 1) t) e ee l n ∙ ap (λ (k : ℕ). commented k) (sym (c .exact)));
             none = λ k. absurd (omega arith);
             some = λ k. omega arith;
             led = λ k. absurd (omega arith);

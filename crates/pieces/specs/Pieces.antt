@@ -6,23 +6,25 @@ use mathlib.Core.Path.{_≡_}
 use mathlib.Core.Bool.{Bool, true, false}
 use mathlib.Core.List.{List, [], _∷_}
 use mathlib.Core.Logic.{_⊎_}
-use Prim.Native.Nat.{ℕ, _+_, _-_, _≤_, _<_}
+use Prim.Native.Nat.{ℕ, _+_, _-_, _*_, _/_, _%_, _≤_, _<_}
 use lib.Dec.{ltb, leb, eqb}
 use lib.ListN.{length, drop}
 use Rattle.grammar.specs.Notation.{Role, Letter, skip, head, second, turn, axis, sign, lead, later, name, stop}
-use Rattle.grammar.specs.Tables.{stateCount, insideState, outsideState}
-use Rattle.grammar.specs.Steps.{marked, inside, number}
+use Rattle.grammar.specs.Tables.{stateCount, roleUnit, stuck, deep, insideState, outsideState}
+use Rattle.grammar.specs.Steps.{kindOf, entryOf, modeAfter, marked, inside, number}
 use Rattle.grammar.proofs.Numerals.{Numeral}
+use Rattle.definition.specs.Limits as limits
 use Rattle.definition.specs.Words.{if_then_else_}
 use Rattle.definition.specs.Commands.{worth}
 use Rattle.pieces.specs.declared.Spot.{Spot}
 use Rattle.pieces.specs.declared.Piece.{Piece}
 use Rattle.pieces.specs.declared.Piece.the-variants.{First, Second, Number, Word, Stop}
 use Rattle.pieces.specs.declared.Begun.{Begun}
+use Rattle.pieces.specs.declared.Numeral.{Numeral as Counted}
 
--- 01: every number lies within 16,777,215 of zero
+-- 01: every number lies within this of zero
 abbrev pub largest : ℕ
-largest = 16777215
+largest = limits.largest
 
 -- refusal 3 meets every number beyond the largest, so they are not told apart: each has this size
 abbrev pub tooLarge : ℕ
@@ -127,6 +129,47 @@ pub record Step (t : List ℕ) (s : Spot) (x : Piece) (to : Spot) : Type 0 where
 unfoldable pub digital : ℕ → Bool
 digital b = if ltb b 48 then false else leb b 57
 
+-- by the number m of a role: the place of a number that begins behind its letter at i
+unfoldable pub nextPlace : ℕ → ℕ → ℕ
+unfolding number
+nextPlace m i = if eqb m (number sign) then i else i + 1
+
+-- what the functions give, byte by byte, so that they leave nothing open: no piece, where the last byte was read or where the text leaves the grammar
+abbrev pub ended : ℕ → ℕ → Begun
+unfolding number
+ended i q = record { mark = number skip; byte = 0; at = i; place = i; to = spot i q }
+
+-- the end of a comment, of which d are open at place i before the bytes
+unfoldable pub closedAt : ℕ → ℕ → ℕ → List ℕ → ℕ
+closedAt q d i [] = i
+closedAt q d i (b ∷ l) =
+    let further = closedAt q (modeAfter q d b .depth) (i + 1) l in
+    if eqb (modeAfter q d b .state) stuck then i + length (b ∷ l) else if eqb (modeAfter q d b .depth) 0 then i + 1 else further
+
+-- the letter that begins the next piece, from state q and place i on; a number that begins right here has place p
+unfoldable pub begunBy : ℕ → ℕ → ℕ → List ℕ → Begun
+unfolding number
+begunBy q i p [] = ended i q
+begunBy q i p (b ∷ l) =
+    let e = entryOf q (kindOf b) in
+    let s = e % roleUnit in
+    let further = begunBy s (i + 1) (nextPlace (e / roleUnit) i) l in
+    if ltb s deep then (if ltb (e / roleUnit) (number lead) then further else record { mark = e / roleUnit; byte = b; at = i; place = p; to = spot (i + 1) s })
+    else if eqb s stuck then ended i q
+    else record { mark = e / roleUnit; byte = b; at = i; place = i; to = spot (closedAt (s - deep) 1 (i + 1) l) (s - deep) }
+
+abbrev pub begun : List ℕ → Spot → Begun
+begun t s = begunBy (s .state) (s .at) (s .at) (drop (s .at) t)
+
+-- the rest of a number whose digits up to place i are worth v
+unfoldable pub numeralBy : ℕ → ℕ → ℕ → List ℕ → Counted
+numeralBy q i v [] = record { size = v; to = spot i q }
+numeralBy q i v (b ∷ l) =
+    let further = numeralBy q (i + 1) (capped (10 * v + digitOf b)) l in if digital b then further else record { size = v; to = spot i q }
+
+abbrev pub numeralOf : List ℕ → Begun → Counted
+numeralOf t m = numeralBy (m .to .state) (m .to .at) (digitOf (m .byte)) (drop (m .to .at) t)
+
 -- m is the first digit of the next piece from s on, a number: its size is that of the digits from here on
 pub record Led (t : List ℕ) (s : Spot) (m : Begun) : Type 0 where
   pub is :
@@ -138,8 +181,9 @@ pub record Led (t : List ℕ) (s : Spot) (m : Begun) : Type 0 where
   pub same : inside (m .to .state) ≡ inside (s .state)
   pub numeral : Numeral (m .to .state)
 
--- the contract of `next_mark`: from s on, m is the letter that begins the next piece, or there is none
+-- the contract of `next_mark`: which letter it finds, and that from s on this begins the next piece, or there is none
 pub record Begins (t : List ℕ) (s : Spot) (m : Begun) : Type 0 where
+  pub exact : m ≡ begun t s
   pub none : m .mark ≡ number skip → stream t s ≡ []
   pub some : (m .mark ≡ number skip → ⊥) → number lead ≤ m .mark
   pub led : m .mark ≡ number lead → Led t s m
@@ -149,11 +193,7 @@ pub record Begins (t : List ℕ) (s : Spot) (m : Begun) : Type 0 where
 
 -- a comment of which the parenthesis before place i has been read ends before place r; the state q is the one behind it
 pub record Closes (t : List ℕ) (q i r : ℕ) : Type 0 where
+  pub exact : r ≡ closedAt q 1 i (drop i t)
   pub ahead : i ≤ r
   pub within : r ≤ length t
   pub on : pieces i i (left t q 1 i) ≡ pieces r r (left t q 0 r)
-
--- by the number m of a role: the place of a number that begins behind its letter at i
-unfoldable pub nextPlace : ℕ → ℕ → ℕ
-unfolding number
-nextPlace m i = if eqb m (number sign) then i else i + 1

@@ -6,15 +6,12 @@ ghost use Prim.Native.Nat.{_+_, _*_, _<_, _≤_};
 ghost use lib.Dec.{ltb};
 ghost use lib.ListN.{length};
 ghost use Rattle.grammar.specs.Tables.{stateCount};
-ghost use Rattle.grammar.specs.Steps.{KindsLent, NextLent, number};
-ghost use Rattle.grammar.specs.Notation.{skip};
-ghost use Rattle.pieces.specs.Pieces.{tooLarge, farthest, capped, digitOf, digital, nextPlace, Fit, Closes, Begins, Led, Step};
+ghost use Rattle.grammar.specs.Steps.{KindsLent, NextLent};
+ghost use Rattle.pieces.specs.Pieces.{tooLarge, farthest, capped, digitOf, digital, nextPlace, ended, numeralOf, Fit, Closes, Begins, Led, Step};
 ghost use Rattle.pieces.specs.declared.Piece.the-variants.{Number};
 
-// Every number lies within this of zero (01). One beyond it is refused whatever its size, so it is read as TOO_LARGE: ten million digits do no harm.
-pub const LARGEST: usize = 16_777_215;
-
-pub const TOO_LARGE: usize = LARGEST + 1;
+// A number beyond the largest is refused whatever its size, so it is read as TOO_LARGE: ten million digits do no harm.
+pub const TOO_LARGE: usize = definition::LARGEST + 1;
 
 // Where a reader stands: before a byte, in a state of the recogniser, outside comments.
 pub struct Spot {
@@ -82,7 +79,7 @@ fn next_place(mark: usize, i: usize) -> usize
 
 // No more pieces.
 fn nothing(at: usize, state: usize) -> Begun
-    ensures { λ r. ⌜ r .mark ≡ number skip ⌝ }
+    ensures { λ r. ⌜ r ≡ ended at state ⌝ }
 {
     Begun {
         mark: grammar::tables::SKIP,
@@ -105,6 +102,7 @@ fn is_digit(b: u8) -> bool
 // The rest of a number: behind its first digit every digit belongs to it, so the table is not asked.
 pub fn read_number(text: &[u8], first: Begun) -> Numeral
     ensures { λ r. ⌜ ((s : Spot) → Led (now (text .entry)) s first → Step (now (text .entry)) s (Number (first .place) (ltb (first .place) (first .at)) (r .size)) (r .to)) ⌝ }
+    ensures { λ r. ⌜ r ≡ numeralOf (now (text .entry)) first ⌝ }
 {
     let q = first.to.state;
     let mut i = first.to.at;

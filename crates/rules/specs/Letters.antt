@@ -31,13 +31,7 @@ letterT = 84
 abbrev pub letterM : ℕ
 letterM = 77
 
--- 01, refusal 9: over 1,024 points or 32 transformations; refusal 7: polygon under 3 points
-abbrev pub mostPoints : ℕ
-mostPoints = 1024
-
-abbrev pub mostTurns : ℕ
-mostTurns = 32
-
+-- 01, refusal 7: polygon under 3 points
 abbrev pub leastPoints : ℕ
 leastPoints = 3
 

@@ -5,9 +5,10 @@
 use mathlib.Core.Bool.{Bool, not, _&&_, _||_}
 use Prim.Native.Nat.{ℕ, _-_, _*_, _/_, _%_}
 use lib.Dec.{ltb, eqb}
+use Rattle.definition.specs.Limits.{largest, mostPoints, mostTurns}
 use Rattle.definition.specs.Words.{if_then_else_}
-use Rattle.pieces.specs.Pieces.{largest, letterS}
-use Rattle.rules.specs.Letters.{letterB, letterC, letterD, letterP, letterR, letterT, letterW, mostPoints, mostTurns, leastPoints, noRefusal}
+use Rattle.pieces.specs.Pieces.{letterS}
+use Rattle.rules.specs.Letters.{letterB, letterC, letterD, letterP, letterR, letterT, letterW, leastPoints, noRefusal}
 
 -- a command with the first letter l is a shape
 unfoldable pub shapely : ℕ → Bool
@@ -16,6 +17,10 @@ shapely l = eqb l letterB || (eqb l letterP || (eqb l letterR || eqb l letterW))
 -- number i of a command, behind the letter w, is a distance: not so symbol numbers, a and b, and the directions of boxes and of R
 unfoldable pub distance : ℕ → ℕ → ℕ → Bool
 distance l w i = if eqb l letterB then ltb i 4 else if eqb l letterC then eqb w letterT else shapely l
+
+-- number i at the scale a, b
+abbrev pub scaledBy : ℕ → ℕ → ℕ → ℕ → ℕ → ℕ → ℕ
+scaledBy a b l w i n = if distance l w i then a * n / b else n
 
 -- number i may not be 0: a length, a width, a diameter, or the second of a direction whose first is 0, which z says
 unfoldable pub vital : ℕ → ℕ → ℕ → Bool → Bool

@@ -1,17 +1,13 @@
 // The rules for one command of a CIF text, in refusals 3 to 9: the lowest that a number meets, and the lowest that a whole command meets; what is scaled;
 // and a layer's name as one number. They stand below both passes over a text, the check and the drawing, so that both go by the same rules.
 ghost use mathlib.Core.Path.{_≡_};
-ghost use Prim.Native.Nat.{_+_, _*_, _≤_};
+ghost use Prim.Native.Nat.{_+_, _*_, _/_, _≤_};
 ghost use Rattle.pieces.specs.Pieces.{tooLarge};
 ghost use Rattle.rules.specs.Letters.{byteUnit, firstUnit};
-ghost use Rattle.rules.specs.Rules.{shapely, distance, vital, scaleless, few, bare, pointsOf, many, emptyNo, numberNo, wholeNo};
+ghost use Rattle.rules.specs.Rules.{shapely, distance, scaledBy, vital, scaleless, few, bare, pointsOf, many, emptyNo, numberNo, wholeNo};
 
-// 01, refusals 7 and 9.
+// 01, refusal 7.
 const LEAST_POINTS: usize = 3;
-
-const MOST_POINTS: usize = 1024;
-
-const MOST_TURNS: usize = 32;
 // Above the refusals that a command can meet: none.
 pub const NO_REFUSAL: usize = 10;
 // A layer's name is one number: its first letter counts FIRST_UNIT, and each behind it BYTE_UNIT times less.
@@ -19,7 +15,8 @@ pub const BYTE_UNIT: usize = 256;
 
 pub const FIRST_UNIT: usize = 16_777_216;
 
-fn is_shape(letter: u8) -> bool
+// The letters of shapes: B, P, R and W.
+pub fn is_shape(letter: u8) -> bool
     ensures { λ r. ⌜ r ≡ shapely letter ⌝ }
 {
     if letter == b'B' {
@@ -45,6 +42,28 @@ pub fn is_distance(letter: u8, word: u8, index: usize) -> bool
         return word == b'T';
     }
     is_shape(letter)
+}
+
+// A distance at a scale. Here alone a number is divided, for the check and for the drawing.
+fn scaled_distance(a: usize, b: usize, n: usize) -> usize
+    requires { ⌜ (a ≤ tooLarge) × (1 ≤ b) × (n ≤ tooLarge) ⌝ }
+    ensures { λ r. ⌜ r ≡ a * n / b ⌝ }
+{
+    a * n / b
+}
+
+// A number at a scale, whole or not: refusal 5 is for the check. At a = b, and so outside definitions, nothing is divided.
+pub fn scaled(a: usize, b: usize, letter: u8, word: u8, index: usize, n: usize) -> usize
+    requires { ⌜ (a ≤ tooLarge) × (1 ≤ b) × (n ≤ tooLarge) ⌝ }
+    ensures { λ r. ⌜ r ≡ scaledBy a b letter word index n ⌝ }
+{
+    if a == b {
+        return n;
+    }
+    if is_distance(letter, word, index) {
+        return scaled_distance(a, b, n);
+    }
+    n
 }
 
 // What may not be 0: a length, a width, a diameter, or the second number of a direction whose first is 0.
@@ -103,7 +122,7 @@ pub fn number_no(
     requires { ⌜ (a ≤ tooLarge) × (1 ≤ b) ⌝ }
     ensures { λ r. ⌜ r ≡ numberNo a b letter word index zero n ⌝ }
 {
-    if pieces::LARGEST < n {
+    if definition::LARGEST < n {
         return 3;
     }
     if a == b {
@@ -111,9 +130,9 @@ pub fn number_no(
     }
     if is_distance(letter, word, index) {
         let x = a * n;
-        let scaled = x / b;
+        let scaled = scaled_distance(a, b, n);
         if scaled * b == x {
-            if pieces::LARGEST < scaled {
+            if definition::LARGEST < scaled {
                 return 6;
             }
             return empty_no(letter, word, index, zero, n);
@@ -175,10 +194,10 @@ fn is_many(letter: u8, count: usize, turns: usize) -> bool
     ensures { λ r. ⌜ r ≡ many letter count turns ⌝ }
 {
     if letter == b'C' {
-        return MOST_TURNS < turns;
+        return definition::MOST_TURNS < turns;
     }
     let n = points_of(letter, count);
-    MOST_POINTS < n
+    definition::MOST_POINTS < n
 }
 
 // The lowest refusal that a whole command meets.

@@ -36,11 +36,11 @@ add-number-requires c κs = (c .before .before .before .loop .inv .fair, sane-up
 
 loop-less : tie.Need-loop-less Inv-loop μ-loop
 unfolding number
-loop-less c = step-less (c .before .before .read-number .ensures _ (c .before .before .before .before .next-mark .ensures .led (c .before .before .before .if1 .taken)))
+loop-less c = step-less (c .before .before .read-number .ensures .0 _ (c .before .before .before .before .next-mark .ensures .led (c .before .before .before .if1 .taken)))
 
 loop-again : tie.Need-loop-again Inv-loop μ-loop
 unfolding number
-loop-again c = checking-number (c .before .before .before .before .before .loop .inv) (c .before .before .read-number .ensures _ (c .before .before .before .before .next-mark .ensures .led (c .before .before .before .if1 .taken))) (c .before .add-number .ensures)
+loop-again c = checking-number (c .before .before .before .before .before .loop .inv) (c .before .before .read-number .ensures .0 _ (c .before .before .before .before .next-mark .ensures .led (c .before .before .before .if1 .taken))) (c .before .add-number .ensures)
 
 add-letter-requires : tie.Need-add-letter-requires Inv-loop μ-loop
 add-letter-requires c κs = sane-up _ _ _ (omega arith) (c .before .before .before .loop .inv .sane)

@@ -28,15 +28,15 @@ read-number-requires c κs = search needs
 
 line-number-requires : tie.Need-line-number-requires Inv-loop μ-loop
 unfolding number
-line-number-requires c κs = ((c .before .before .before .before .before .before .before .pre .1 .1, c .before .before .before .before .before .before .before .pre .1 .2, c .before .read-number .ensures _ (c .before .before .before .before .next-mark .ensures .led (c .before .before .before .if1 .taken)) .small), (omega arith, omega arith))
+line-number-requires c κs = ((c .before .before .before .before .before .before .before .pre .1 .1, c .before .before .before .before .before .before .before .pre .1 .2, c .before .read-number .ensures .0 _ (c .before .before .before .before .next-mark .ensures .led (c .before .before .before .if1 .taken)) .small), (omega arith, omega arith))
 
 loop-less : tie.Need-loop-less Inv-loop μ-loop
 unfolding number
-loop-less c = step-less (c .before .before .before .before .read-number .ensures _ (c .before .before .before .before .before .before .before .next-mark .ensures .led (c .before .before .before .before .before .before .if1 .taken)))
+loop-less c = step-less (c .before .before .before .before .read-number .ensures .0 _ (c .before .before .before .before .before .before .before .next-mark .ensures .led (c .before .before .before .before .before .before .if1 .taken)))
 
 loop-again : tie.Need-loop-again Inv-loop μ-loop
 unfolding number
-loop-again c = wording-number (c .before .before .before .before .before .before .before .before .loop .inv) (c .before .before .before .before .read-number .ensures _ (c .before .before .before .before .before .before .before .next-mark .ensures .led (c .before .before .before .before .before .before .if1 .taken))) (c .before .before .line-number .ensures)
+loop-again c = wording-number (c .before .before .before .before .before .before .before .before .loop .inv) (c .before .before .before .before .read-number .ensures .0 _ (c .before .before .before .before .before .before .before .next-mark .ensures .led (c .before .before .before .before .before .before .if1 .taken))) (c .before .before .line-number .ensures)
 
 line-letter-requires : tie.Need-line-letter-requires Inv-loop μ-loop
 line-letter-requires c κs = (omega arith, c .before .before .before .before .loop .inv .roomy)

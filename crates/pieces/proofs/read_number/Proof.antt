@@ -4,7 +4,7 @@ use mathlib.Core.Path.{sym, _∙_, subst}
 use Prim.Native.Nat.{ℕ, _-_}
 use borrow.Author.Needs.{needs}
 use lib.ListN.{length}
-use Rattle.pieces.proofs.Digits.{Digits, digits-start, digits-next, digits-ended, digits-other}
+use Rattle.pieces.proofs.Digits.{Digits, digits-start, digits-next, digits-ended, digits-other, numeral-ended, numeral-other}
 use Rattle.pieces.proofs.read_number.Statement.{statement}
 use Rattle.pieces.proofs.read_number.Tie as tie
 
@@ -39,10 +39,10 @@ loop-again : tie.Need-loop-again Inv-loop μ-loop
 loop-again c = digits-next _ _ _ _ _ _ (c .before .before .before .before .before .loop .inv) (c .before .before .before .before .loop-test .taken) (c .before .before .before .before .before .before .before .shared-slice-known .given (c .before .before .before .before .before .loop .i) .fits) (sym (c .before .before .is-digit .ensures) ∙ c .before .if1 .taken) _ (c .grown .ensures)
 
 returns : tie.Need-returns Inv-loop μ-loop
-returns c = λ s l. digits-other l (subst (λ (u : ℕ). Digits (c .before .before .before .before .before .before .before .args .text .now) (c .before .before .before .before .before .before .before .args .first .to .state) (c .before .before .before .before .before .before .before .args .first .to .at) u (c .before .before .before .before .loop .i) (c .before .before .before .before .loop .v)) (c .before .before .before .before .before .digit .ensures .0) (c .before .before .before .before .loop .inv)) (c .before .before .before .loop-test .taken) (c .before .before .before .before .before .before .shared-slice-known .given (c .before .before .before .before .loop .i) .fits) (sym (c .before .is-digit .ensures) ∙ c .if1 .left)
+returns c = let d = subst (λ (u : ℕ). Digits (c .before .before .before .before .before .before .before .args .text .now) (c .before .before .before .before .before .before .before .args .first .to .state) (c .before .before .before .before .before .before .before .args .first .to .at) u (c .before .before .before .before .loop .i) (c .before .before .before .before .loop .v)) (c .before .before .before .before .before .digit .ensures .0) (c .before .before .before .before .loop .inv) in (λ s l. digits-other l d (c .before .before .before .loop-test .taken) (c .before .before .before .before .before .before .shared-slice-known .given (c .before .before .before .before .loop .i) .fits) (sym (c .before .is-digit .ensures) ∙ c .if1 .left), numeral-other _ _ _ _ _ _ d (c .before .before .before .loop-test .taken) (sym (c .before .is-digit .ensures) ∙ c .if1 .left))
 
 returns-2 : tie.Need-returns-2 Inv-loop μ-loop
-returns-2 c = λ s l. digits-ended l (subst (λ (u : ℕ). Digits (c .before .before .before .before .args .text .now) (c .before .before .before .before .args .first .to .state) (c .before .before .before .before .args .first .to .at) u (c .before .loop .i) (c .before .loop .v)) (c .before .before .digit .ensures .0) (c .before .loop .inv)) (c .loop-test .left)
+returns-2 c = let d = subst (λ (u : ℕ). Digits (c .before .before .before .before .args .text .now) (c .before .before .before .before .args .first .to .state) (c .before .before .before .before .args .first .to .at) u (c .before .loop .i) (c .before .loop .v)) (c .before .before .digit .ensures .0) (c .before .loop .inv) in (λ s l. digits-ended l d (c .loop-test .left), numeral-ended _ _ _ _ _ _ d (c .loop-test .left))
 
 pub read-number-spec : {M : Type 1} → statement M
 read-number-spec =

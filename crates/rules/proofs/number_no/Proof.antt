@@ -23,25 +23,25 @@ is-distance-requires : tie.Need-is-distance-requires
 is-distance-requires c κs = search needs
 
 mul-x : tie.Need-mul-x
-mul-x c = let h = product-fits (c .before .before .before .before .args .a) (c .before .before .before .before .args .n) (c .before .before .before .before .pre .0) (c .before .before .before .if1 .left) in omega arith
+mul-x c = let h = product-fits (c .before .before .before .before .args .a) (c .before .before .before .before .args .n) (c .before .before .before .before .pre .0) (omega (arith, c .before .before .before .if1 .left)) in omega arith
 
-div-scaled : tie.Need-div-scaled
-div-scaled c = search needs
+scaled-distance-requires : tie.Need-scaled-distance-requires
+scaled-distance-requires c κs = (c .before .before .before .before .pre .0, c .before .before .before .before .pre .1, omega (arith, c .before .before .before .if1 .left))
 
 mul-if4 : tie.Need-mul-if4
-mul-if4 c = let h = back-fits (c .before .before .before .before .args .a) (c .before .before .before .before .args .n) (c .before .before .before .before .args .b) (c .before .before .before .before .pre .0) (c .before .before .before .if1 .left) in omega arith
+mul-if4 c = let h = back-fits (c .before .before .before .before .before .args .a) (c .before .before .before .before .before .args .n) (c .before .before .before .before .before .args .b) _ (c .scaled-distance .ensures) (c .before .before .before .before .before .pre .0) (omega (arith, c .before .before .before .before .if1 .left)) in omega arith
 
 returns-3 : tie.Need-returns-3
-returns-3 c = scaled-large (c .before .before .before .before .before .before .args .a) (c .before .before .before .before .before .before .args .b) (c .before .before .before .before .before .before .args .letter) (c .before .before .before .before .before .before .args .word) (c .before .before .before .before .before .before .args .index) (c .before .before .before .before .before .before .args .zero) (c .before .before .before .before .before .before .args .n) (c .before .before .before .before .before .if1 .left) (sym (c .before .before .before .is-distance .ensures) ∙ c .before .before .if3 .taken) (c .before .if4 .taken) (c .if5 .taken)
+returns-3 c = scaled-large (c .before .before .before .before .before .before .before .args .a) (c .before .before .before .before .before .before .before .args .b) (c .before .before .before .before .before .before .before .args .letter) (c .before .before .before .before .before .before .before .args .word) (c .before .before .before .before .before .before .before .args .index) (c .before .before .before .before .before .before .before .args .zero) (c .before .before .before .before .before .before .before .args .n) (c .before .before .before .before .before .before .if1 .left) (sym (c .before .before .before .before .is-distance .ensures) ∙ c .before .before .before .if3 .taken) _ (c .before .before .scaled-distance .ensures) (c .before .if4 .taken) (c .if5 .taken)
 
 empty-no-requires-2 : tie.Need-empty-no-requires-2
 empty-no-requires-2 c κs = search needs
 
 returns-4 : tie.Need-returns-4
-returns-4 c = scaled-small (c .before .before .before .before .before .before .before .args .a) (c .before .before .before .before .before .before .before .args .b) (c .before .before .before .before .before .before .before .args .letter) (c .before .before .before .before .before .before .before .args .word) (c .before .before .before .before .before .before .before .args .index) (c .before .before .before .before .before .before .before .args .zero) (c .before .before .before .before .before .before .before .args .n) (c .before .before .before .before .before .before .if1 .left) (sym (c .before .before .before .before .is-distance .ensures) ∙ c .before .before .before .if3 .taken) (c .before .before .if4 .taken) (c .before .if5 .left) _ (c .empty-no2 .ensures)
+returns-4 c = scaled-small (c .before .before .before .before .before .before .before .before .args .a) (c .before .before .before .before .before .before .before .before .args .b) (c .before .before .before .before .before .before .before .before .args .letter) (c .before .before .before .before .before .before .before .before .args .word) (c .before .before .before .before .before .before .before .before .args .index) (c .before .before .before .before .before .before .before .before .args .zero) (c .before .before .before .before .before .before .before .before .args .n) (c .before .before .before .before .before .before .before .if1 .left) (sym (c .before .before .before .before .before .is-distance .ensures) ∙ c .before .before .before .before .if3 .taken) _ (c .before .before .before .scaled-distance .ensures) (c .before .before .if4 .taken) (c .before .if5 .left) _ (c .empty-no2 .ensures)
 
 returns-5 : tie.Need-returns-5
-returns-5 c = scaled-ragged (c .before .before .before .before .before .args .a) (c .before .before .before .before .before .args .b) (c .before .before .before .before .before .args .letter) (c .before .before .before .before .before .args .word) (c .before .before .before .before .before .args .index) (c .before .before .before .before .before .args .zero) (c .before .before .before .before .before .args .n) (c .before .before .before .before .if1 .left) (sym (c .before .before .is-distance .ensures) ∙ c .before .if3 .taken) (c .if4 .left)
+returns-5 c = scaled-ragged (c .before .before .before .before .before .before .args .a) (c .before .before .before .before .before .before .args .b) (c .before .before .before .before .before .before .args .letter) (c .before .before .before .before .before .before .args .word) (c .before .before .before .before .before .before .args .index) (c .before .before .before .before .before .before .args .zero) (c .before .before .before .before .before .before .args .n) (c .before .before .before .before .before .if1 .left) (sym (c .before .before .before .is-distance .ensures) ∙ c .before .before .if3 .taken) _ (c .before .scaled-distance .ensures) (c .if4 .left)
 
 empty-no-requires-3 : tie.Need-empty-no-requires-3
 empty-no-requires-3 c κs = search needs
@@ -58,7 +58,7 @@ number-no-spec =
     returns-2
     is-distance-requires
     mul-x
-    div-scaled
+    scaled-distance-requires
     mul-if4
     returns-3
     empty-no-requires-2
