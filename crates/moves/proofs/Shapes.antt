@@ -1,8 +1,8 @@
--- A shape in its final place: what is laid for it behind the first two numbers are its numbers, its line is made of them, and it is the definition's
+-- A shape in its final place: what is laid for it behind the first two numbers are its numbers, of which its line is made, and it is the definition's
 -- moved shape under every list of transformations that the net carries.
 -- Assumes nothing.
-use mathlib.Core.Path.{_≡_, refl, sym, ap, _∙_}
-use mathlib.Core.Bool.{Bool, true, false}
+use mathlib.Core.Path.{_≡_, sym, ap, _∙_}
+use mathlib.Core.Bool.{Bool}
 use mathlib.Core.List.{List, [], _∷_, _++_, map}
 use Prim.Native.Nat.{ℕ, _+_, _-_, _≤_}
 use native.Mathlib.Omega.{arith}
@@ -11,16 +11,12 @@ use lib.ListN.{length, take, drop, length-append, length-take}
 use lib.Seq.{sets, sets-eq, take-append-seam}
 use Rattle.definition.specs.Commands.{Shape, Turn}
 use Rattle.definition.specs.Faults.{both}
-use Rattle.definition.specs.Flat.{spaced, numbersOfShape, line}
+use Rattle.definition.specs.Flat.{numbersOfShape}
 use Rattle.definition.specs.Turns.{moved}
 use Rattle.turns.specs.Nets.{apply, turned, Carries}
 use Rattle.turns.specs.declared.Net.{Net}
 use Rattle.turns.proofs.Nets.{moved-by}
-use Rattle.moves.specs.declared.Lined.{Lined}
-use Rattle.moves.specs.declared.Lined.the-variants.{Beyond, Written}
-use Rattle.digits.specs.Writes.{Writes}
-use Rattle.moves.specs.Moves.{mostValues, ShapedAt, placed, placedNumbers, MovesShape, LineOf, PutsShape}
-use Rattle.digits.proofs.Writing.{same-bytes, one-outcome}
+use Rattle.moves.specs.Moves.{mostValues, ShapedAt, placed, placedNumbers, MovesShape}
 use Rattle.moves.proofs.Moves.{map-both}
 
 pub placed-moved : (ts : List (Turn ℤ)) (net : Net) → Carries ts net → (k : Shape ℤ) → placed net k ≡ moved ts k
@@ -58,25 +54,7 @@ module _ {words : List ℤ} {letter end : ℕ} (h : ShapedAt words letter end) w
             ap (λ (z : List ℤ). take j (drop 2 z)) (q ∙ sets-eq ns (x ∷ y ∷ l) 2 (omega (arith, b)))
             ∙ (ap (λ (i : ℕ). take i (ns ++ drop (2 + length ns) (x ∷ y ∷ l))) n ∙ take-append-seam ns (drop (2 + length ns) (x ∷ y ∷ l)))
 
-    -- `put_shape_line`: no line, or the shape's
-    module _ (at : ℕ) (room : List ℕ) where
-      pub far-unlined : far ≡ true → PutsShape net (h .shape) at numbers room Beyond numbers′ room
-      unfolding LineOf
-      far-unlined e = record { laid = m .laid; lined = (sym (m .test) ∙ e, refl) }
-
-      pub near-lined : far ≡ false → end ≤ length numbers → {room′ : List ℕ} {next : ℕ} → Writes room room′ at next (line letter (spaced (take (end - 2) (drop 2 numbers′))))
-          → PutsShape net (h .shape) at numbers room (Written next) numbers′ room′
-      unfolding LineOf
-      near-lined e l w = record {
-        laid = m .laid;
-        lined = (sym (m .test) ∙ e, same-bytes (rw (h .shaped .letter-is, part-placed l)) w);
-      }
-
--- what a shape's words and the net are settles the numbers, the answer and the room
-pub one-line : {net : Net} {k : Shape ℤ} {at : ℕ} {numbers : List ℤ} {room : List ℕ} (r r′ : Lined) {n n′ : List ℤ} {m m′ : List ℕ}
-    → PutsShape net k at numbers room r n m → PutsShape net k at numbers room r′ n′ m′ → (r ≡ r′) × (n ≡ n′) × (m ≡ m′)
-unfolding LineOf
-one-line Beyond Beyond v w = (refl, v .laid ∙ sym (w .laid), v .lined .1 ∙ sym (w .lined .1))
-one-line (Written i) (Written j) v w = let e = one-outcome (v .lined .1) (w .lined .1) in (ap Written (e .1), v .laid ∙ sym (w .laid), e .0)
-one-line Beyond (Written j) v w = absurd (let b : _≡_ {A = Bool} true false = sym (v .lined .0) ∙ w .lined .0 in let z : _≡_ {A = ℕ} 0 1 = cc in omega arith)
-one-line (Written i) Beyond v w = absurd (let b : _≡_ {A = Bool} true false = sym (w .lined .0) ∙ v .lined .0 in let z : _≡_ {A = ℕ} 0 1 = cc in omega arith)
+-- what a shape's words and the net are settles the numbers and whether the shape is far
+pub one-move : {net : Net} {k : Shape ℤ} {numbers : List ℤ} {far far′ : Bool} {n n′ : List ℤ} → MovesShape net k numbers far n → MovesShape net k numbers far′ n′
+    → (far ≡ far′) × (n ≡ n′)
+one-move v w = (v .test ∙ sym (w .test), v .laid ∙ sym (w .laid))

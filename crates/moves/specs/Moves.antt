@@ -2,7 +2,7 @@
 -- shape's line has them in this order. A running account, not to be believed: proofs/Moves.antt proves that they are those of the definition's `moved`.
 -- Assumes nothing.
 use mathlib.Core.Path.{_≡_}
-use mathlib.Core.Bool.{Bool, true, false}
+use mathlib.Core.Bool.{Bool}
 use mathlib.Core.List.{List, _++_, map}
 use Prim.Native.Nat.{ℕ, _+_, _-_, _*_, _≤_}
 use lib.IntN.{ℤ}
@@ -11,12 +11,9 @@ use lib.Seq.{sets}
 use Rattle.definition.specs.Words.{Point, any}
 use Rattle.definition.specs.Commands.{Shape, shapeOf, Kind, box, flash, wire, polygon}
 use Rattle.definition.specs.Faults.{beyond, both}
-use Rattle.definition.specs.Flat.{spaced, letterOf, numbersOfShape, line}
+use Rattle.definition.specs.Flat.{letterOf, numbersOfShape}
 use Rattle.turns.specs.Nets.{apply, turned}
 use Rattle.turns.specs.declared.Net.{Net}
-use Rattle.digits.specs.Writes.{Writes}
-use Rattle.moves.specs.declared.Lined.{Lined}
-use Rattle.moves.specs.declared.Lined.the-variants.{Beyond, Written}
 
 -- ---- the words
 
@@ -94,12 +91,3 @@ isFar net k = any beyond (both (placed net k .points))
 pub record MovesShape (net : Net) (k : Shape ℤ) (numbers : List ℤ) (far : Bool) (numbers′ : List ℤ) : Type 0 where
   pub test : far ≡ isFar net k
   pub laid : numbers′ ≡ sets numbers 2 (placedNumbers net k)
-
--- the line of a shape in its final place, or none, where a point of it is beyond the range
-unfoldable pub LineOf : Net → Shape ℤ → ℕ → List ℕ → Lined → List ℕ → Type 0
-LineOf net k at room Beyond room′ = (isFar net k ≡ true) × (room′ ≡ room)
-LineOf net k at room (Written next) room′ = (isFar net k ≡ false) × Writes room room′ at next (line (letterOf (k .kind)) (spaced (placedNumbers net k)))
-
-pub record PutsShape (net : Net) (k : Shape ℤ) (at : ℕ) (numbers : List ℤ) (room : List ℕ) (r : Lined) (numbers′ : List ℤ) (room′ : List ℕ) : Type 0 where
-  pub laid : numbers′ ≡ sets numbers 2 (placedNumbers net k)
-  pub lined : LineOf net k at room r room′

@@ -1,5 +1,5 @@
-// A shape's numbers moved from its words to their final places, under a net transformation (01, "Drawing"), and its line written of them. Each number
-// comes to stand where its word stands, so the line has them in written order.
+// A shape's numbers moved from its words to their final places, under a net transformation (01, "Drawing"). Each number comes to stand where its word
+// stands, so that a line of them has them in written order.
 ghost use mathlib.Core.Path.{_≡_};
 ghost use mathlib.Core.Bool.{_||_};
 ghost use mathlib.Core.List.{_∷_, []};
@@ -10,13 +10,7 @@ ghost use lib.Seq.{sets};
 ghost use Rattle.definition.specs.Words.{Point, point};
 ghost use Rattle.definition.specs.Faults.{beyond};
 ghost use Rattle.turns.specs.Nets.{Near, apply, turned};
-ghost use Rattle.moves.specs.Moves.{Pointed, Moves, ShapedAt, BeginAt, EndAt, Copied, MovesShape, PutsShape};
-
-// How a shape's line was made from its words: not at all, since a point is beyond the range, or up to the next place.
-pub enum Lined {
-    Beyond,
-    Written(usize),
-}
+ghost use Rattle.moves.specs.Moves.{Pointed, Moves, ShapedAt, BeginAt, EndAt, Copied, MovesShape};
 
 // A size goes to its place as it is.
 fn copy_number(words: &[i32], numbers: &mut [i64], i: usize)
@@ -138,25 +132,4 @@ pub fn move_shape(
     }
     aim_at(words, numbers, last, net);
     far
-}
-
-// A shape's line from its words, for a caller that looks at no limit between moving the shape and writing it.
-pub fn put_shape_line(
-    words: &[i32],
-    numbers: &mut [i64],
-    room: &mut [u8],
-    at: usize,
-    letter: u8,
-    end: usize,
-    net: turns::Net,
-) -> Lined
-    requires { ⌜ ShapedAt (now words) letter end × (end ≤ length (now numbers)) ⌝ }
-    requires { ⌜ Near (2 ^ 61) net × (at ≤ 2 ^ 58) ⌝ }
-    ensures { λ r. ⌜ ((h : ShapedAt (now (words .entry)) letter end) → PutsShape net (h .shape) at (now (numbers .entry)) (now (room .entry)) r (now (numbers .exit)) (now (room .exit))) ⌝ }
-{
-    if move_shape(words, numbers, letter, end, net) {
-        return Lined::Beyond;
-    }
-    let next = pen::put_line(room, at, letter, &numbers[2..end]);
-    Lined::Written(next)
 }
