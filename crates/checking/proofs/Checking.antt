@@ -29,7 +29,7 @@ use Rattle.checking.specs.declared.Ended.the-variants.{Then, Broken}
 use Rattle.checking.specs.declared.Fault.{Fault}
 use Rattle.checking.specs.declared.Fault.the-variants.{Clear, Refused}
 use Rattle.pieces.proofs.Finds.{Finds, none, some}
-use Rattle.rules.proofs.Naming.{name-room}
+use Rattle.names.proofs.Naming.{name-room}
 
 -- the end of a command
 module _ (s : Scope) (c : Doing) (hb : c .busy ≡ true) (y : ℕ) (ey : y ≡ layerOf s) (k : ℕ) (ek : k ≡ wholeNo (c .letter) (c .word) (c .count) (c .turns) (c .a) (c .b) y) where

@@ -114,7 +114,7 @@ fn new_command(busy: bool, place: usize, letter: u8) -> Doing
         count: 0,
         zero: false,
         turns: 0,
-        unit: rules::FIRST_UNIT,
+        unit: names::FIRST_UNIT,
         a: 1,
         b: 1,
         name: 0,
@@ -154,7 +154,7 @@ fn add_letter(c: Doing, w: u8) -> Doing
     ensures { λ r. ⌜ r ≡ worded c w ⌝ }
 {
     let turns = more_turns(c.turns, w);
-    let name = rules::longer_name(c.name, c.unit, w);
+    let name = names::longer_name(c.name, c.unit, w);
     Doing {
         busy: c.busy,
         place: c.place,
@@ -163,7 +163,7 @@ fn add_letter(c: Doing, w: u8) -> Doing
         count: c.count,
         zero: c.zero,
         turns,
-        unit: c.unit / rules::BYTE_UNIT,
+        unit: c.unit / names::BYTE_UNIT,
         a: c.a,
         b: c.b,
         name,

@@ -18,20 +18,23 @@ use mir.Val.{SFits, toZ, ofZ}
 use mir.Facts.{toZ-ofZ, toZ-pos}
 use Rattle.grammar.specs.Notation.{skip, lead, stop, head}
 use Rattle.grammar.specs.Steps.{choose, inside, number}
+use borrow.Author.Tests.{eq-eqb, ne-eqb}
 use Rattle.definition.specs.Words.{if_then_else_}
-use Rattle.pieces.specs.Pieces.{stream, behind, insideAfter, Fit, Step}
+use Rattle.pieces.specs.Pieces.{stream, behind, insideAfter, begun, numeralOf, Fit, Step, Begins}
 use Rattle.pieces.specs.declared.Spot.{Spot}
+use Rattle.pieces.specs.declared.Begun.{Begun}
+use Rattle.pieces.specs.declared.Numeral.{Numeral}
 use Rattle.pieces.specs.declared.Piece.{Piece}
 use Rattle.pieces.specs.declared.Piece.the-variants.{First, Second, Number, Word, Stop}
 use Rattle.rules.specs.Letters.{letterC, letterM, byteUnit, firstUnit}
-use Rattle.rules.specs.Written.{Written, itemsOf, stops, written, writtenAt, letters, lastOf, packedBy, insideBehind}
+use Rattle.rules.specs.Written.{Written, itemsOf, stops, written, writtenAt, letters, lastOf, packedBy, one, insideBehind}
 use Rattle.rules.specs.Rules.{distance}
-use Rattle.commands.specs.Words.{widest, held, signed, word, valueOf, letterWords, bodyOf, tally, kindBy, framed, wordsOf, Writes, lineNumber, lineLetter, Lined, closed, Closed, Tells, insideFirst, ReadsCommand, ReadsItems}
+use Rattle.commands.specs.Words.{widest, held, signed, word, valueOf, letterWords, bodyOf, tally, kindBy, framed, wordsOf, Writes, lineNumber, lineLetter, Lined, closed, Closed, Tells, insideFirst, preceding, lettersOn, pieceEnd, piecesOn, ReadsCommand, ReadsItems}
 use Rattle.commands.specs.declared.Line.{Line}
 use Rattle.commands.specs.declared.Read.{Read}
 use Rattle.commands.specs.declared.Read.the-variants.{Decoded, Nothing}
 use Rattle.pieces.proofs.Finds.{Finds, none, some}
-use Rattle.rules.proofs.Naming.{name-room}
+use Rattle.names.proofs.Naming.{name-room}
 
 never : false ≡ true → ⊥
 never e = let z : _≡_ {A = ℕ} 0 1 = cc in omega arith
@@ -115,6 +118,30 @@ closed-is ws ws₁ ws₂ l p c to end n k r w en ek y ey v = record {
   laid = v .laid ∙ rw (ey, ek, en, w .next, w .laid);
 }
 
+-- where a piece ends: a number behind its last digit, any other behind its letter
+module _ {t : List ℕ} {s : Spot} {m : Begun} (g : Begins t s m) where
+  pub number-end : {n : Numeral} → m .mark ≡ number lead → n ≡ numeralOf t m → n .to ≡ pieceEnd t (begun t s)
+  unfolding number
+  number-end {n} h k = ap (λ (z : Numeral). z .to) k ∙ sym here ∙ ap (λ (z : Begun). pieceEnd t z) (g .exact)
+    where
+      here : pieceEnd t m ≡ numeralOf t m .to
+      here = rw (eq-eqb (m .mark) (number lead) h)
+
+  pub letter-end : (m .mark ≡ number lead → ⊥) → m .to ≡ pieceEnd t (begun t s)
+  unfolding number
+  letter-end h = sym here ∙ ap (λ (z : Begun). pieceEnd t z) (g .exact)
+    where
+      here : pieceEnd t m ≡ m .to
+      here = rw (ne-eqb (m .mark) (number lead) h)
+
+piece-on : (t : List ℕ) (s to : Spot) (n m k : ℕ) → m ≡ suc n → to ≡ pieceEnd t (begun t s) → piecesOn t (n + k) to ≡ piecesOn t (m + k) s
+unfolding piecesOn
+piece-on t s to n m k e x = ap (λ (z : Spot). piecesOn t (n + k) z) x ∙ sym (ap (λ (j : ℕ). piecesOn t j s) (ap (λ (i : ℕ). i + k) e ∙ suc-add n k))
+
+letter-on : (t : List ℕ) (s to : Spot) (n m k : ℕ) → m ≡ suc n → to ≡ begun t s .to → lettersOn t (n + k) to ≡ lettersOn t (m + k) s
+unfolding lettersOn
+letter-on t s to n m k e x = ap (λ (z : Spot). lettersOn t (n + k) z) x ∙ sym (ap (λ (j : ℕ). lettersOn t j s) (ap (λ (i : ℕ). i + k) e ∙ suc-add n k))
+
 -- between the pieces of a command that began at s₀: `drawn` is what has been written of its body
 pub record Wording (t : List ℕ) (s₀ : Spot) (l a b : ℕ) (ws₀ : List ℤ) (s : Spot) (c : Line) (ws : List ℤ) : Type 0 where
   pub fit : Fit t s
@@ -131,6 +158,7 @@ pub record Wording (t : List ℕ) (s₀ : Spot) (l a b : ℕ) (ws₀ : List ℤ)
   pub count : c .count + tally (itemsOf (stream t s)) ≡ tally (itemsOf (stream t s₀))
   pub name : c .name + packedBy (c .unit) (letters (itemsOf (stream t s))) ≡ packedBy firstUnit (letters (itemsOf (stream t s₀)))
   pub stopping : stops (stream t s) ≡ stops (stream t s₀)
+  pub onward : (k : ℕ) → piecesOn t (length (itemsOf (stream t s)) + k) s ≡ piecesOn t (length (itemsOf (stream t s₀)) + k) s₀
   pub opened : insideBehind (inside (s .state)) (itemsOf (stream t s)) ≡ insideBehind (inside (s₀ .state)) (itemsOf (stream t s₀))
 
 pub wording-start : (t : List ℕ) (s : Spot) (l a b : ℕ) (ws : List ℤ) → Fit t s → Wording t s l a b ws s (record { at = 2; word = 0; count = 0; unit = firstUnit; name = 0 }) ws
@@ -149,6 +177,7 @@ wording-start t s l a b ws f = record {
   count = zero-add (tally (itemsOf (stream t s)));
   name = zero-add (packedBy firstUnit (letters (itemsOf (stream t s))));
   stopping = refl;
+  onward = λ k. refl;
   opened = refl;
 }
 
@@ -156,6 +185,7 @@ wording-start t s l a b ws f = record {
 record Turns (l a b : ℕ) (x : Piece) (xs : List Piece) (c c′ : Line) (vs : List ℤ) : Type 0 where
   body : bodyOf a b l (c .word) (c .count) (itemsOf (x ∷ xs)) ≡ vs ++ bodyOf a b l (c′ .word) (c′ .count) (itemsOf xs)
   rest : written (x ∷ xs) ≡ written xs
+  listed : length (itemsOf (x ∷ xs)) ≡ suc (length (itemsOf xs))
   last : lastOf (c .word) (letters (itemsOf (x ∷ xs))) ≡ lastOf (c′ .word) (letters (itemsOf xs))
   count : c .count + tally (itemsOf (x ∷ xs)) ≡ c′ .count + tally (itemsOf xs)
   name : c .name + packedBy (c .unit) (letters (itemsOf (x ∷ xs))) ≡ c′ .name + packedBy (c′ .unit) (letters (itemsOf xs))
@@ -170,6 +200,7 @@ number-turns : (l a b p : ℕ) (σ : Bool) (n : ℕ) (xs : List Piece) (c : Line
     → Turns l a b (Number p σ n) xs c (lineNumber c) (valueOf a b l (c .word) (c .count) σ n ∷ [])
 unfolding bodyOf itemsOf letters written tally stops insideBehind
 number-turns l a b p σ n xs c h = record {
+  listed = refl;
   body = refl;
   rest = refl;
   last = refl;
@@ -196,6 +227,7 @@ word-turns : (l a b x : ℕ) (xs : List Piece) (c : Line) → x < 256 → c .nam
     → Turns l a b (Word x) xs c (lineLetter l c x) (letterWords l x)
 unfolding bodyOf itemsOf letters written tally stops insideBehind lastOf packedBy
 word-turns l a b x xs c hx h = record {
+  listed = refl;
   body = refl;
   rest = refl;
   last = refl;
@@ -216,6 +248,7 @@ unfolding bodyOf itemsOf letters written tally stops insideBehind
 second-turns l a b x xs c hx h =
     let w = word-turns l a b x xs c hx h in
     record {
+      listed = w .listed;
       body = w .body;
       rest = w .rest;
       last = w .last;
@@ -233,8 +266,8 @@ module _ {t : List ℕ} {s₀ : Spot} {l a b : ℕ} {ws₀ : List ℤ} {s : Spot
   pub words-length : length ws ≡ length ws₀
   words-length = ap (λ (z : List ℤ). length z) (g .room) ∙ length-sets ws₀ 2 (g .drawn)
 
-  stepped : {to : Spot} {c′ : Line} {ws′ : List ℤ} {x : Piece} {d : Line} {vs : List ℤ} → Step t s x to → Turns l a b x (stream t to) c d vs → Lined ws (c .at) vs d c′ ws′ → Wording t s₀ l a b ws₀ to c′ ws′
-  stepped {to} {c′} {ws′} {x} {d} {vs} st u w =
+  stepped : {to : Spot} {c′ : Line} {ws′ : List ℤ} {x : Piece} {d : Line} {vs : List ℤ} → Step t s x to → to ≡ pieceEnd t (begun t s) → Turns l a b x (stream t to) c d vs → Lined ws (c .at) vs d c′ ws′ → Wording t s₀ l a b ws₀ to c′ ws′
+  stepped {to} {c′} {ws′} {x} {d} {vs} st end u w =
       let i : itemsOf (stream t s) ≡ itemsOf (x ∷ stream t to) = ap (λ (k : List Piece). itemsOf k) (st .is) in
       let h₁ = st .ahead in
       let h₂ = g .from in
@@ -266,6 +299,7 @@ module _ {t : List ℕ} {s₀ : Spot} {l a b : ℕ} {ws₀ : List ℤ} {s : Spot
         last = sym (u .last) ∙ ap (λ (k : List Piece). lastOf (c .word) (letters k)) (sym i) ∙ g .last;
         count = sym (u .count) ∙ ap (λ (k : List Piece). c .count + tally k) (sym i) ∙ g .count;
         name = sym (u .name) ∙ ap (λ (k : List Piece). c .name + packedBy (c .unit) (letters k)) (sym i) ∙ g .name;
+        onward = λ k. piece-on t s to (length (itemsOf (stream t to))) (length (itemsOf (stream t s))) k (ap (λ (z : List Piece). length z) i ∙ u .listed) end ∙ g .onward k;
         stopping = sym (u .stopping) ∙ ap (λ (k : List Piece). stops k) (sym (st .is)) ∙ g .stopping;
         opened =
             ap (λ (j : Bool). insideBehind j (itemsOf (stream t to))) (st .crosses)
@@ -274,12 +308,12 @@ module _ {t : List ℕ} {s₀ : Spot} {l a b : ℕ} {ws₀ : List ℤ} {s : Spot
             ∙ g .opened;
       })
 
-  pub wording-number : {to : Spot} {c′ : Line} {ws′ : List ℤ} {p : ℕ} {σ : Bool} {n : ℕ} → Step t s (Number p σ n) to → Lined ws (c .at) (valueOf a b l (c .word) (c .count) σ n ∷ []) (lineNumber c) c′ ws′ → Wording t s₀ l a b ws₀ to c′ ws′
-  wording-number {to} {p} {σ} {n} st w = stepped st (number-turns l a b p σ n (stream t to) c (g .roomy)) w
+  pub wording-number : {to : Spot} {c′ : Line} {ws′ : List ℤ} {p : ℕ} {σ : Bool} {n : ℕ} → Step t s (Number p σ n) to → to ≡ pieceEnd t (begun t s) → Lined ws (c .at) (valueOf a b l (c .word) (c .count) σ n ∷ []) (lineNumber c) c′ ws′ → Wording t s₀ l a b ws₀ to c′ ws′
+  wording-number {to} {p} {σ} {n} st end w = stepped st end (number-turns l a b p σ n (stream t to) c (g .roomy)) w
 
-  pub wording-letter : {to : Spot} {c′ : Line} {ws′ : List ℤ} {x : ℕ} → Step t s (Second x) to ⊎ Step t s (Word x) to → Lined ws (c .at) (letterWords l x) (lineLetter l c x) c′ ws′ → Wording t s₀ l a b ws₀ to c′ ws′
-  wording-letter {to} {x} (inl st) w = stepped st (second-turns l a b x (stream t to) c (st .small) (g .roomy)) w
-  wording-letter {to} {x} (inr st) w = stepped st (word-turns l a b x (stream t to) c (st .small) (g .roomy)) w
+  pub wording-letter : {to : Spot} {c′ : Line} {ws′ : List ℤ} {x : ℕ} → Step t s (Second x) to ⊎ Step t s (Word x) to → to ≡ pieceEnd t (begun t s) → Lined ws (c .at) (letterWords l x) (lineLetter l c x) c′ ws′ → Wording t s₀ l a b ws₀ to c′ ws′
+  wording-letter {to} {x} (inl st) end w = stepped st end (second-turns l a b x (stream t to) c (st .small) (g .roomy)) w
+  wording-letter {to} {x} (inr st) end w = stepped st end (word-turns l a b x (stream t to) c (st .small) (g .roomy)) w
 
   -- the end of the command
   module _ (no-items : itemsOf (stream t s) ≡ []) (p : ℕ) where
@@ -307,9 +341,12 @@ module _ {t : List ℕ} {s₀ : Spot} {l a b : ℕ} {ws₀ : List ℤ} {s : Spot
     unfolding wordsOf
     words-are = rw (last-is, count-is, name-is, body-is)
 
-    wording-done : (to : Spot) → written (stream t s) ≡ written (stream t to) → Fit t to → s .at ≤ to .at → (stops (stream t s) ≡ true → to ≡ behind (inside (s .state)) (to .at))
+    left-over : (k : ℕ) → piecesOn t (length (itemsOf (stream t s)) + k) s ≡ piecesOn t k s
+    left-over k = ap (λ (z : List Piece). piecesOn t (length z + k) s) no-items ∙ ap (λ (j : ℕ). piecesOn t j s) (zero-add k)
+
+    wording-done : (to : Spot) → to ≡ piecesOn t (one (stops (stream t s))) s → written (stream t s) ≡ written (stream t to) → Fit t to → s .at ≤ to .at → (stops (stream t s) ≡ true → to ≡ behind (inside (s .state)) (to .at))
         → (r : Read) (ws′ : List ℤ) → Closed ws l p c to r ws′ → ReadsItems t s₀ p l a b ws₀ r ws′
-    wording-done to ec f h st r ws′ k =
+    wording-done to end ec f h st r ws′ k =
         let D = g .drawn in
         let cl = closed l c in
         let h₂ = g .from in
@@ -318,6 +355,7 @@ module _ {t : List ℕ} {s₀ : Spot} {l a b : ℕ} {ws₀ : List ℤ} {s : Spot
         let front : ℕ → List ℤ = λ n. word false (kindBy l (c .word) + byteUnit * held n) ∷ word false p ∷ [] in
         let out : ReadsItems t s₀ p l a b ws₀ (Decoded (kindBy l (c .word)) p (c .at + length cl) to) ws′ = record {
           is = sym (g .rest) ∙ ec;
+          exact = end ∙ sym (left-over (one (stops (stream t s)))) ∙ g .onward (one (stops (stream t s))) ∙ ap (λ (z : Bool). piecesOn t (length (itemsOf (stream t s₀)) + one z) s₀) (g .stopping);
           tells = record {
             kind = ap (λ (w : ℕ). kindBy l w) (sym last-is);
             place = refl;
@@ -337,8 +375,10 @@ module _ {t : List ℕ} {s₀ : Spot} {l a b : ℕ} {ws₀ : List ℤ} {s : Spot
         subst (λ (q : Read). ReadsItems t s₀ p l a b ws₀ q ws′) (sym (k .is)) out
 
   ended : {p : ℕ} {r : Read} {ws′ : List ℤ} (xs : List Piece) → stream t s ≡ xs → itemsOf xs ≡ [] → stops xs ≡ false → Closed ws l p c s r ws′ → ReadsItems t s₀ p l a b ws₀ r ws′
+  unfolding piecesOn
   ended {p} {r} {ws′} xs e i o k =
-      wording-done (ap (λ (z : List Piece). itemsOf z) e ∙ i) p s refl (g .fit) (omega arith) (λ h. absurd (never (sym (ap (λ (z : List Piece). stops z) e ∙ o) ∙ h))) r ws′ k
+      wording-done (ap (λ (z : List Piece). itemsOf z) e ∙ i) p s
+      (sym (ap (λ (z : Bool). piecesOn t (one z) s) (ap (λ (z : List Piece). stops z) e ∙ o))) refl (g .fit) (omega arith) (λ h. absurd (never (sym (ap (λ (z : List Piece). stops z) e ∙ o) ∙ h))) r ws′ k
 
   -- where no piece is left, or before the next command's first letter
   pub wording-ended : {to : Spot} {n p : ℕ} {r : Read} {ws′ : List ℤ} → Finds t s to n → (n ≡ number lead → ⊥) → n ≤ number head → (n ≡ number stop → ⊥) → Closed ws l p c s r ws′ → ReadsItems t s₀ p l a b ws₀ r ws′
@@ -350,36 +390,40 @@ module _ {t : List ℕ} {s₀ : Spot} {l a b : ℕ} {ws₀ : List ℤ} {s : Spot
   wording-ended (some (Word y) z st) d u e k = absurd (omega arith)
   wording-ended (some Stop z st) d u e k = absurd (e z)
 
-  pub wording-stop : {to : Spot} {p : ℕ} {r : Read} {ws′ : List ℤ} → Step t s Stop to → Closed ws l p c to r ws′ → ReadsItems t s₀ p l a b ws₀ r ws′
-  unfolding itemsOf written
-  wording-stop {to} {p} {r} {ws′} st k =
+  pub wording-stop : {to : Spot} {p : ℕ} {r : Read} {ws′ : List ℤ} → Step t s Stop to → to ≡ pieceEnd t (begun t s) → Closed ws l p c to r ws′ → ReadsItems t s₀ p l a b ws₀ r ws′
+  unfolding itemsOf written stops piecesOn
+  wording-stop {to} {p} {r} {ws′} st end k =
       let h = st .ahead in
-      wording-done (ap (λ (z : List Piece). itemsOf z) (st .is)) p to (ap (λ (z : List Piece). written z) (st .is)) (st .fit) (omega arith) (λ e. st .stops refl) r ws′ k
+      wording-done (ap (λ (z : List Piece). itemsOf z) (st .is)) p to
+      (end ∙ sym (ap (λ (z : Bool). piecesOn t (one z) s) (ap (λ (z : List Piece). stops z) (st .is)))) (ap (λ (z : List Piece). written z) (st .is)) (st .fit) (omega arith) (λ e. st .stops refl) r ws′ k
 
 -- up to a command's first letter
 pub record Seeking (t : List ℕ) (s₀ s : Spot) : Type 0 where
   pub fit : Fit t s
   pub from : s₀ .at ≤ s .at
   pub is : written (stream t s) ≡ written (stream t s₀)
+  pub onward : (k : ℕ) → lettersOn t (preceding (stream t s) + k) s ≡ lettersOn t (preceding (stream t s₀) + k) s₀
   pub opened : insideFirst (inside (s .state)) (stream t s) ≡ insideFirst (inside (s₀ .state)) (stream t s₀)
 
 pub seeking-start : (t : List ℕ) (s : Spot) → Fit t s → Seeking t s s
-seeking-start t s f = record { fit = f; from = omega arith; is = refl; opened = refl }
+seeking-start t s f = record { fit = f; from = omega arith; is = refl; onward = λ k. refl; opened = refl }
 
 module _ {t : List ℕ} {s₀ s : Spot} (g : Seeking t s₀ s) where
   pub seeking-ended : stream t s ≡ [] → written (stream t s₀) ≡ []
   unfolding written
   seeking-ended e = sym (g .is) ∙ ap (λ (z : List Piece). written z) e
 
-  past : {to : Spot} {x : Piece} → Step t s x to → written (x ∷ stream t to) ≡ written (stream t to)
+  past : {to : Spot} {x : Piece} → Step t s x to → to ≡ begun t s .to → preceding (x ∷ stream t to) ≡ suc (preceding (stream t to))
+      → written (x ∷ stream t to) ≡ written (stream t to)
       → ((i : Bool) → insideFirst i (x ∷ stream t to) ≡ insideFirst (insideAfter x i) (stream t to)) → Seeking t s₀ to
-  past {to} {x} st e o =
+  past {to} {x} st end n e o =
       let h₁ = st .ahead in
       let h₂ = g .from in
       record {
         fit = st .fit;
         from = omega arith;
         is = sym e ∙ ap (λ (z : List Piece). written z) (sym (st .is)) ∙ g .is;
+        onward = λ k. letter-on t s to (preceding (stream t to)) (preceding (stream t s)) k (ap (λ (z : List Piece). preceding z) (st .is) ∙ n) end ∙ g .onward k;
         opened =
             ap (λ (j : Bool). insideFirst j (stream t to)) (st .crosses)
             ∙ sym (o (inside (s .state)))
@@ -388,22 +432,26 @@ module _ {t : List ℕ} {s₀ s : Spot} (g : Seeking t s₀ s) where
       }
 
   -- a piece that begins no command is passed over
-  pub seeking-past : {to : Spot} {n : ℕ} → Finds t s to n → (n ≡ number skip → ⊥) → (n ≡ number head → ⊥) → Seeking t s₀ to
-  unfolding written insideFirst
-  seeking-past (none z h) k e = absurd (k z)
-  seeking-past (some (First p b) z st) k e = absurd (e z)
-  seeking-past (some (Second b) z st) k e = past st refl (λ i. refl)
-  seeking-past (some (Number p σ v) z st) k e = past st refl (λ i. refl)
-  seeking-past (some (Word b) z st) k e = past st refl (λ i. refl)
-  seeking-past (some Stop z st) k e = past st refl (λ i. refl)
+  pub seeking-past : {to : Spot} {n : ℕ} → Finds t s to n → to ≡ begun t s .to → (n ≡ number skip → ⊥) → (n ≡ number head → ⊥) → Seeking t s₀ to
+  unfolding written insideFirst preceding
+  seeking-past (none z h) end k e = absurd (k z)
+  seeking-past (some (First p b) z st) end k e = absurd (e z)
+  seeking-past (some (Second b) z st) end k e = past st end refl refl (λ i. refl)
+  seeking-past (some (Number p σ v) z st) end k e = past st end refl refl (λ i. refl)
+  seeking-past (some (Word b) z st) end k e = past st end refl refl (λ i. refl)
+  seeking-past (some Stop z st) end k e = past st end refl refl (λ i. refl)
 
   open-first : {to : Spot} {p l : ℕ} → Step t s (First p l) to → inside (to .state) ≡ insideFirst (inside (s₀ .state)) (stream t s₀)
   unfolding insideFirst
   open-first st = st .crosses ∙ sym (ap (λ (z : List Piece). insideFirst (inside (s .state)) z) (st .is)) ∙ g .opened
 
-  pub seeking-found : {to : Spot} {p l : ℕ} {ws ws₁ : List ℤ} → Step t s (First p l) to → ws₁ ≡ ws → (a b : ℕ) (r : Read) (ws′ : List ℤ) → ReadsItems t to p l a b ws₁ r ws′ → ReadsCommand t s₀ a b ws r ws′
+  first-on : {to : Spot} {p l : ℕ} → Step t s (First p l) to → begun t s .to ≡ lettersOn t (preceding (stream t s₀) + 1) s₀
+  unfolding preceding lettersOn
+  first-on st = sym (ap (λ (z : List Piece). lettersOn t (preceding z + 1) s) (st .is)) ∙ g .onward 1
+
+  pub seeking-found : {to : Spot} {p l : ℕ} {ws ws₁ : List ℤ} → Step t s (First p l) to → to ≡ begun t s .to → ws₁ ≡ ws → (a b : ℕ) (r : Read) (ws′ : List ℤ) → ReadsItems t to p l a b ws₁ r ws′ → ReadsCommand t s₀ a b ws r ws′
   unfolding written
-  seeking-found {to} {p} {l} {ws} st e a b (Decoded k q n end) ws′ d =
+  seeking-found {to} {p} {l} {ws} st x e a b (Decoded k q n end) ws′ d =
       let c = writtenAt p l (stream t to) in
       let h₁ = st .ahead in
       let h₂ = g .from in
@@ -412,9 +460,10 @@ module _ {t : List ℕ} {s₀ s : Spot} (g : Seeking t s₀ s) where
         c,
         record {
           is = sym (g .is) ∙ ap (λ (z : List Piece). written z) (st .is) ∙ ap (λ (z : List Written). c ∷ z) (d .is);
+          exact = d .exact ∙ ap (λ (z : Spot). piecesOn t (length (c .items) + one (c .stopped)) z) (x ∙ first-on st);
           tells = subst (λ (i : Bool). Tells a b c i ws k q n end ws′) (open-first st) u;
           fit = d .fit;
           ahead = omega arith;
         },
       )
-  seeking-found st e a b Nothing ws′ d = absurd d
+  seeking-found st x e a b Nothing ws′ d = absurd d

@@ -4,19 +4,21 @@
 use mathlib.Core.Path.{_≡_}
 use mathlib.Core.Bool.{Bool, true, false}
 use mathlib.Core.List.{List, [], _∷_, _++_}
-use Prim.Native.Nat.{ℕ, _+_, _-_, _*_, _/_, _≤_, _<_}
+use Prim.Native.Nat.{ℕ, zero, suc, _+_, _-_, _*_, _/_, _≤_, _<_}
 use lib.Dec.{ltb, eqb}
 use lib.IntN.{ℤ, pos, negℤ}
 use lib.ListN.{length}
 use lib.Seq.{sets}
-use Rattle.grammar.specs.Steps.{inside}
+use Rattle.grammar.specs.Notation.{lead}
+use Rattle.grammar.specs.Steps.{inside, number}
 use Rattle.definition.specs.Words.{if_then_else_}
-use Rattle.pieces.specs.Pieces.{letterS, farthest, stream, behind, insideAfter, Fit}
+use Rattle.pieces.specs.Pieces.{letterS, farthest, stream, behind, insideAfter, begun, numeralOf, Fit}
 use Rattle.pieces.specs.declared.Spot.{Spot}
+use Rattle.pieces.specs.declared.Begun.{Begun}
 use Rattle.pieces.specs.declared.Piece.{Piece}
 use Rattle.pieces.specs.declared.Piece.the-variants.{First, Second, Number, Word, Stop}
 use Rattle.rules.specs.Letters.{letterB, letterC, letterD, letterL, letterM, byteUnit, firstUnit}
-use Rattle.rules.specs.Written.{Written, written, writtenAt, letters, lastLetter, packedBy, insideBehind}
+use Rattle.rules.specs.Written.{Written, written, writtenAt, letters, lastLetter, packedBy, one, insideBehind}
 use Rattle.rules.specs.Rules.{scaledBy}
 use Rattle.commands.specs.declared.Line.{Line}
 use Rattle.commands.specs.declared.Read.{Read}
@@ -134,9 +136,32 @@ insideFirst i (Number p σ n ∷ xs) = insideFirst i xs
 insideFirst i (Word b ∷ xs) = insideFirst i xs
 insideFirst i (Stop ∷ xs) = insideFirst i xs
 
+-- how many pieces come before the first letter
+unfoldable pub preceding : List Piece → ℕ
+preceding [] = 0
+preceding (First p b ∷ xs) = 0
+preceding (Second b ∷ xs) = suc (preceding xs)
+preceding (Number p σ n ∷ xs) = suc (preceding xs)
+preceding (Word b ∷ xs) = suc (preceding xs)
+preceding (Stop ∷ xs) = suc (preceding xs)
+
+-- where a reader stands after the letters that begin the next n pieces, and after the n pieces
+unfoldable pub lettersOn : List ℕ → ℕ → Spot → Spot
+lettersOn t zero s = s
+lettersOn t (suc n) s = lettersOn t n (begun t s .to)
+
+abbrev pub pieceEnd : List ℕ → Begun → Spot
+unfolding number
+pieceEnd t m = if eqb (m .mark) (number lead) then numeralOf t m .to else m .to
+
+unfoldable pub piecesOn : List ℕ → ℕ → Spot → Spot
+piecesOn t zero s = s
+piecesOn t (suc n) s = piecesOn t n (pieceEnd t (begun t s))
+
 -- the contract of `read_command`: from s on, the first command
 pub record DecodedOne (t : List ℕ) (s : Spot) (a b : ℕ) (c : Written) (ws : List ℤ) (k p n : ℕ) (to : Spot) (ws′ : List ℤ) : Type 0 where
   pub is : written (stream t s) ≡ c ∷ written (stream t to)
+  pub exact : to ≡ piecesOn t (length (c .items) + one (c .stopped)) (lettersOn t (preceding (stream t s) + 1) s)
   pub tells : Tells a b c (insideFirst (inside (s .state)) (stream t s)) ws k p n to ws′
   pub fit : Fit t to
   pub ahead : s .at < to .at
@@ -148,6 +173,7 @@ ReadsCommand t s a b ws Nothing ws′ = (written (stream t s) ≡ []) × (ws′ 
 -- the same, behind its first letter
 pub record DecodedItems (t : List ℕ) (s : Spot) (a b : ℕ) (c : Written) (ws : List ℤ) (k p n : ℕ) (to : Spot) (ws′ : List ℤ) : Type 0 where
   pub is : written (stream t s) ≡ written (stream t to)
+  pub exact : to ≡ piecesOn t (length (c .items) + one (c .stopped)) s
   pub tells : Tells a b c (inside (s .state)) ws k p n to ws′
   pub fit : Fit t to
   pub ahead : s .at ≤ to .at

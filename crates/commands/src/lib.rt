@@ -153,12 +153,12 @@ fn line_letter(words: &mut [i32], c: Line, letter: u8, x: u8) -> Line
     ensures { λ r. ⌜ Lined (now (words .entry)) (c .at) (letterWords letter x) (lineLetter letter c x) r (now (words .exit)) ⌝ }
 {
     let at = put_letter(words, c.at, letter, x);
-    let name = rules::longer_name(c.name, c.unit, x);
+    let name = names::longer_name(c.name, c.unit, x);
     Line {
         at,
         word: x,
         count: c.count,
-        unit: c.unit / rules::BYTE_UNIT,
+        unit: c.unit / names::BYTE_UNIT,
         name,
     }
 }
@@ -179,7 +179,7 @@ fn close(words: &mut [i32], letter: u8, place: usize, c: Line, to: pieces::Spot)
     let end = put_closing(words, c.at, letter, c.word, c.count, c.name);
     let n = held_of(end - 2);
     let kind = kind_by(letter, c.word);
-    let h = wide(kind) + rules::BYTE_UNIT * n;
+    let h = wide(kind) + names::BYTE_UNIT * n;
     put_two(words, 0, h, place);
     Read::Decoded(kind, place, end, to)
 }
@@ -206,7 +206,7 @@ fn read_items(
         at: 2,
         word: 0,
         count: 0,
-        unit: rules::FIRST_UNIT,
+        unit: names::FIRST_UNIT,
         name: 0,
     };
     loop {

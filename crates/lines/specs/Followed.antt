@@ -6,7 +6,9 @@ use Prim.Native.Nat.{ℕ, _+_, _-_, _*_, _/_, _%_, _≤_}
 use lib.Dec.{eqb, ltb}
 use lib.IntN.{ℤ, pos, negℤ}
 use lib.Signed.{leZ}
+use Rattle.definition.specs.Limits.{largest}
 use Rattle.definition.specs.Words.{if_then_else_}
+use Rattle.names.specs.Names.{byteUnit, firstUnit, longer}
 use Rattle.lines.specs.declared.Line.{Line}
 use Rattle.lines.specs.declared.Numeral.{Numeral}
 use Rattle.lines.specs.declared.Span.{Span}
@@ -22,12 +24,12 @@ fresh n l = line n l 0 0
 
 unfoldable pub opened : Line → ℕ → Line  -- with its letter
 opened s b =
-    if eqb b 76 then line (s .count) 0 16777216 b
+    if eqb b 76 then line (s .count) 0 firstUnit b
     else if eqb b 69 then line (s .count) (s .layer) (s .unit) b
     else line (s .count + 1) (s .layer) (s .unit) b
 
-unfoldable pub named : Line → ℕ → Line  -- with a letter of a layer's name, which is packed as the pen has it
-named s b = if eqb b 59 then s else line (s .count) (s .layer + b * s .unit) (s .unit / 256) (s .letter)
+unfoldable pub named : Line → ℕ → Line  -- with a letter of a layer's name, which is packed
+named s b = if eqb b 59 then s else line (s .count) (longer (s .layer) (s .unit) b) (s .unit / byteUnit) (s .letter)
 
 unfoldable pub lineAfter : Line → ℕ → Line
 lineAfter s b =
@@ -46,8 +48,8 @@ pub record Fits (s : Line) : Type 0 where
 abbrev pub numeral : (index : ℕ) (negative : Bool) (value : ℕ) → Numeral
 numeral i n v = record { index = i; negative = n; value = v }
 
-abbrev pub pushed : ℕ → ℕ → ℕ  -- with one digit more; values are held where they pass 16,777,215
-pushed v b = if ltb b 48 then v else if ltb 57 b then v else if ltb 16777215 v then v else 10 * v + (b - 48)
+abbrev pub pushed : ℕ → ℕ → ℕ  -- with one digit more; values are held where they pass the largest
+pushed v b = if ltb b 48 then v else if ltb 57 b then v else if ltb largest v then v else 10 * v + (b - 48)
 
 abbrev pub ends : ℕ → Bool  -- a number ends at a space and at a semicolon
 ends b = if eqb b 32 then true else eqb b 59

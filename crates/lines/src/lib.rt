@@ -6,9 +6,11 @@ ghost use Rattle.lines.specs.Followed.{opened, named, lineAfter, pushed,
 ghost use Rattle.lines.specs.Followed.{nowhere, lower, higher, includes, alternate, behindSize, axisOf, spanAfter, Fits, unread, seenAfter};
 
 // No number of a flat file is larger.
-const LARGEST: u32 = 16_777_215;
-// A packed layer's name: its first letter counts so much, and each behind it 256 times less.
-const FIRST_UNIT: u32 = 16_777_216;
+const LARGEST: u32 = definition::LARGEST as u32;
+// What letters count in a packed name, which has 32 bits.
+const FIRST_UNIT: u32 = names::FIRST_UNIT as u32;
+
+const BYTE_UNIT: u32 = names::BYTE_UNIT as u32;
 
 const LINE_FEED: u8 = 10;
 // Where the numbers of a point go.
@@ -88,10 +90,11 @@ fn add_letter(line: Line, b: u8) -> Line
     if b == b';' {
         return line;
     }
+    let name = names::longer_name(line.layer as usize, line.unit as usize, b);
     Line {
         count: line.count,
-        layer: line.layer + b as u32 * line.unit,
-        unit: line.unit / 256,
+        layer: name as u32,
+        unit: line.unit / BYTE_UNIT,
         letter: line.letter,
     }
 }

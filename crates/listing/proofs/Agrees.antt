@@ -19,7 +19,7 @@ use Rattle.laws.proofs.FlatFile.Sound.{Sound, all-sound}
 use Rattle.laws.proofs.FlatFile.Flattened.{reading, within-limit, shapes-counted}
 use Rattle.laws.proofs.Demands.Demand1.{located}
 use Rattle.digits.specs.Writes.{Writes}
-use Rattle.pen.specs.Names.{packed}
+use Rattle.pen.specs.Names.{packedBy, packed}
 use Rattle.digits.proofs.Writing.{nothing, both, same-bytes, one-outcome}
 use Rattle.lines.specs.Followed.{fresh, nowhere}
 use Rattle.listing.specs.Account.{printed, spanOf, totalLine, windowOf, refusedLine, account}
@@ -35,11 +35,11 @@ abbrev pointsOf : List Drawn → List (Point ℤ)
 pointsOf ds = flatMap (λ (d : Drawn). d .itself .points) ds
 
 shapes-printed : (ds : List Drawn) → All Sound ds → printed (fresh 1 0) (flat ds) ≡ shapeLines 1 ds
-unfolding flat packed
+unfolding flat packed packedBy
 shapes-printed ds h = lines-printed 1 [] ds h
 
 window-printed : (ds : List Drawn) → All Sound ds → windowOf (spanOf 1 (flat ds)) (spanOf 2 (flat ds)) ≡ windowLine (pointsOf ds)
-unfolding flat packed
+unfolding flat packed packedBy
 window-printed ds h =
     ap₂ windowOf (lines-taken 1 (λ (p : Point ℤ). p .x) along-x 1 [] ds nowhere h) (lines-taken 2 (λ (p : Point ℤ). p .y) along-y 1 [] ds nowhere h) ∙ window-is (pointsOf ds)
 

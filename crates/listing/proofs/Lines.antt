@@ -23,7 +23,7 @@ use Rattle.definition.proofs.Rows.{same-eq}
 use Rattle.laws.proofs.FlatFile.Decimals.{DigitByte, shortest-is, digit-low, digit-high}
 use Rattle.laws.proofs.FlatFile.Spelling.{NameChar}
 use Rattle.laws.proofs.FlatFile.Sound.{Sound}
-use Rattle.pen.specs.Names.{packed, nameOf}
+use Rattle.pen.specs.Names.{packedBy, packed, nameOf}
 use Rattle.pen.proofs.Names.{name-back, sound-name}
 use Rattle.lines.specs.Followed.{line, fresh, opened, named, lineAfter, pushed, ends}
 use Rattle.lines.specs.declared.Line.{Line}
@@ -83,7 +83,7 @@ gathered y u [] = y
 gathered y u (b ∷ l) = gathered (y + b * u) (u / 256) l
 
 pub layer-read : (l : List ℕ) → length l ≤ 4 → gathered 0 16777216 l ≡ packed l
-unfolding gathered packed
+unfolding gathered packed packedBy
 layer-read [] h = refl
 layer-read (a ∷ []) h = omega arith
 layer-read (a ∷ b ∷ []) h = omega arith

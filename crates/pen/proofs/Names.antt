@@ -20,11 +20,11 @@ use Rattle.definition.proofs.Rows.{same-eq}
 use Rattle.laws.proofs.FlatFile.Spelling.{NameChar}
 use Rattle.laws.proofs.FlatFile.Sound.{Sound}
 use Rattle.pen.specs.Lines.{layerLine}
-use Rattle.pen.specs.Names.{packed, behind, unpacked, nameOf, earlier}
+use Rattle.pen.specs.Names.{packedBy, packed, behind, unpacked, nameOf, earlier}
 
 -- CM is the bytes 67 and 77, and two of zero
 cm : packed (67 ∷ 77 ∷ []) ≡ ((67 * 256 + 77) * 256 + 0) * 256 + 0
-unfolding packed
+unfolding packed packedBy
 cm = refl
 
 -- ---- a name's bytes
@@ -89,14 +89,27 @@ name-length n = unpacked-length 4 n
 
 -- ---- there and back
 
-below : (l : List ℕ) → All NameByte l → packed l < 4294967296
-unfolding packed All
-below [] h = omega arith
-below (a ∷ l) h = let q = below l (h .1) in let b = h .0 .1 in omega (arith, q, b)
+-- the first letter counts most, and what comes after it is moved down
+packed-first : (a : ℕ) (l : List ℕ) → length l ≤ 3 → packed (a ∷ l) ≡ a * 16777216 + packed l / 256
+unfolding packed packedBy
+packed-first a [] h = omega arith
+packed-first a (b ∷ []) h = omega arith
+packed-first a (b ∷ c ∷ []) h = omega arith
+packed-first a (b ∷ c ∷ d ∷ []) h = omega arith
+packed-first a (b ∷ c ∷ d ∷ e ∷ l) h = absurd (omega (arith, h))
+
+packed-empty : packed [] ≡ 0
+unfolding packed packedBy
+packed-empty = refl
+
+below : (l : List ℕ) → length l ≤ 4 → All NameByte l → packed l < 4294967296
+unfolding All
+below [] n h = omega (arith, packed-empty)
+below (a ∷ l) n h = let q = below l (omega (arith, n)) (h .1) in let b = h .0 .1 in omega (arith, q, b, packed-first a l (omega (arith, n)))
 
 -- three bytes leave the lowest free
 lowest-free : (l : List ℕ) → length l ≤ 3 → packed l % 256 ≡ 0
-unfolding packed
+unfolding packed packedBy
 lowest-free [] h = omega arith
 lowest-free (a ∷ []) h = omega arith
 lowest-free (a ∷ b ∷ []) h = omega arith
@@ -104,13 +117,14 @@ lowest-free (a ∷ b ∷ c ∷ []) h = omega arith
 lowest-free (a ∷ b ∷ c ∷ d ∷ l) h = absurd (omega (arith, h))
 
 unpacks : (k : ℕ) (l : List ℕ) → length l ≤ k → k ≤ 4 → All NameByte l → unpacked k (packed l) ≡ l
-unfolding packed unpacked All
+unfolding unpacked All
 unpacks zero [] h i b = refl
 unpacks zero (a ∷ l) h i b = absurd (omega (arith, h))
-unpacks (suc k) [] h i b = refl
+unpacks (suc k) [] h i b = rw (packed-empty)
 unpacks (suc k) (a ∷ l) h i b =
-    let n = a * 16777216 + packed l / 256 in
-    let p : packed l < 4294967296 = below l (b .1) in
+    let n = packed (a ∷ l) in
+    let e : n ≡ a * 16777216 + packed l / 256 = packed-first a l (omega (arith, h, i)) in
+    let p : packed l < 4294967296 = below l (omega (arith, h, i)) (b .1) in
     let f : packed l % 256 ≡ 0 = lowest-free l (omega (arith, h)) in
     let some : 0 < a = b .0 .0 in
     let rest : behind n ≡ packed l = omega arith in
@@ -125,19 +139,24 @@ name-back l h = unpacks 4 l (h .short) (omega arith) (h .bytes)
 pub packed-same : (l m : List ℕ) → Name l → Name m → packed l ≡ packed m → l ≡ m
 packed-same l m h i e = sym (name-back l h) ∙ ap nameOf e ∙ name-back m i
 
-packs : (k n : ℕ) → packed (unpacked k (behind n)) ≡ behind n → packed (unpacked (suc k) n) ≡ n
-unfolding packed unpacked
-packs k n e = go (eqb n 0) refl
+packs : (k n : ℕ) → k ≤ 3 → packed (unpacked k (behind n)) ≡ behind n → packed (unpacked (suc k) n) ≡ n
+unfolding unpacked
+packs k n h e = go (eqb n 0) refl
   where
     go : (b : Bool) → eqb n 0 ≡ b → packed (if b then [] else (n / 16777216) ∷ unpacked k (behind n)) ≡ n
-    go true q = sym (eqb-true n 0 q)
-    go false q = let x = packed (unpacked k (behind n)) in omega (arith, e)
+    go true q = packed-empty ∙ sym (eqb-true n 0 q)
+    go false q =
+        let x = packed (unpacked k (behind n)) in
+        omega (arith, e, packed-first (n / 16777216) (unpacked k (behind n)) (omega (arith, h, unpacked-length k (behind n))))
 
 -- the number comes back
 pub packed-back : (n : ℕ) → n < 4294967296 → packed (nameOf n) ≡ n
-unfolding packed unpacked
+unfolding unpacked
 packed-back n h =
-    let a = behind n in let b = behind a in let c = behind b in packs 3 n (packs 2 a (packs 1 b (packs 0 c (omega arith))))
+    let a = behind n in
+    let b = behind a in
+    let c = behind b in
+    packs 3 n (omega arith) (packs 2 a (omega arith) (packs 1 b (omega arith) (packs 0 c (omega arith) (packed-empty ∙ omega arith))))
 
 pub packed-none : (l : List ℕ) → Name l → packed l ≡ 0 → l ≡ []
 packed-none l h e = sym (name-back l h) ∙ no-name (packed l) e
@@ -152,17 +171,18 @@ ltb-alike a b x y f g = go (ltb x y) refl
     go false e = le-ltb a b (let h = ltb-false x y e in let not : ¬ (a < b) = λ l. (let k = f l in omega (arith, h, k)) in omega (arith, not))
 
 order : (l m : List ℕ) → length l ≤ 4 → length m ≤ 4 → All NameByte l → All NameByte m → ltb (packed l) (packed m) ≡ earlier l m
-unfolding packed earlier All
-order [] [] h i x y = refl
-order (a ∷ l) [] h i x y = le-ltb (packed (a ∷ l)) 0 (omega arith)
-order [] (b ∷ m) h i x y = let some : 0 < b = y .0 .0 in lt-ltb 0 (packed (b ∷ m)) (omega arith)
+unfolding earlier All
+order [] [] h i x y = le-ltb (packed []) (packed []) (omega arith)
+order (a ∷ l) [] h i x y = le-ltb (packed (a ∷ l)) (packed []) (omega (arith, packed-empty))
+order [] (b ∷ m) h i x y =
+    let some : 0 < b = y .0 .0 in lt-ltb (packed []) (packed (b ∷ m)) (omega (arith, packed-empty, packed-first b m (omega (arith, i))))
 order (a ∷ l) (b ∷ m) h i x y = go (eqb a b) refl (order l m (omega (arith, h)) (omega (arith, i)) (x .1) (y .1))
   where
     p : packed l < 4294967296
-    p = below l (x .1)
+    p = below l (omega (arith, h)) (x .1)
 
     q : packed m < 4294967296
-    q = below m (y .1)
+    q = below m (omega (arith, i)) (y .1)
 
     u : packed l % 256 ≡ 0
     u = lowest-free l (omega (arith, h))
@@ -170,13 +190,19 @@ order (a ∷ l) (b ∷ m) h i x y = go (eqb a b) refl (order l m (omega (arith, 
     v : packed m % 256 ≡ 0
     v = lowest-free m (omega (arith, i))
 
+    f : packed (a ∷ l) ≡ a * 16777216 + packed l / 256
+    f = packed-first a l (omega (arith, h))
+
+    g : packed (b ∷ m) ≡ b * 16777216 + packed m / 256
+    g = packed-first b m (omega (arith, i))
+
     go : (t : Bool) → eqb a b ≡ t → ltb (packed l) (packed m) ≡ earlier l m → ltb (packed (a ∷ l)) (packed (b ∷ m)) ≡ (if t then earlier l m else ltb a b)
     go true e r =
         let s = eqb-true a b e in
-        ltb-alike (packed (a ∷ l)) (packed (b ∷ m)) (packed l) (packed m) (λ k. omega (arith, k, s, u, v)) (λ k. omega (arith, k, s, u, v)) ∙ r
+        ltb-alike (packed (a ∷ l)) (packed (b ∷ m)) (packed l) (packed m) (λ k. omega (arith, k, s, u, v, f, g)) (λ k. omega (arith, k, s, u, v, f, g)) ∙ r
     go false e r =
         let d = eqb-false a b e in
-        ltb-alike (packed (a ∷ l)) (packed (b ∷ m)) a b (λ k. omega (arith, k, d, p, q)) (λ k. omega (arith, k, p, q))
+        ltb-alike (packed (a ∷ l)) (packed (b ∷ m)) a b (λ k. omega (arith, k, d, p, q, f, g)) (λ k. omega (arith, k, p, q, f, g))
 
 pub packed-order : (l m : List ℕ) → Name l → Name m → ltb (packed l) (packed m) ≡ earlier l m
 packed-order l m h i = order l m (h .short) (i .short) (h .bytes) (i .bytes)

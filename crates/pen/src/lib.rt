@@ -8,6 +8,11 @@ ghost use Rattle.digits.specs.Writes.{Writes};
 ghost use Rattle.pen.specs.Lines.{space, number, layerLine};
 ghost use Rattle.pen.specs.Names.{nameOf};
 
+// What letters count in a packed name, which has 32 bits.
+const FIRST_UNIT: u32 = names::FIRST_UNIT as u32;
+
+const BYTE_UNIT: u32 = names::BYTE_UNIT as u32;
+
 // A space stands before every number but a line's first.
 fn put_space(room: &mut [u8], at: usize, first: bool) -> usize
     requires { ⌜ at ≤ 2 ^ 60 ⌝ }
@@ -68,8 +73,8 @@ pub fn put_name(room: &mut [u8], start: usize, name: u32) -> usize
     let mut at = start;
     let mut rest = name;
     while rest != 0 {
-        at = digits::put(room, at, (rest / 16777216) as u8);
-        rest = rest % 16777216 * 256;
+        at = digits::put(room, at, (rest / FIRST_UNIT) as u8);
+        rest = rest % FIRST_UNIT * BYTE_UNIT;
     }
     at
 }

@@ -1,3 +1,2 @@
--- How a number is scaled, and that a layer's name has room for its letters.
+-- How a number is scaled.
 pub mod Scaling
-pub mod Naming

@@ -1,6 +1,7 @@
 -- The letters and the limits that the account names.
 -- Assumes nothing.
 use Prim.Native.Nat.{ℕ}
+pub use Rattle.names.specs.Names.{byteUnit, firstUnit}
 
 -- first letters of commands; the S and the F of DS and DF are in crates/pieces
 abbrev pub letterB : ℕ
@@ -38,10 +39,3 @@ leastPoints = 3
 -- above the numbers of the refusals that a command can meet: no refusal
 abbrev pub noRefusal : ℕ
 noRefusal = 10
-
--- a layer's name as one number: a letter counts 256 times the next, and the last of four counts 1
-abbrev pub byteUnit : ℕ
-byteUnit = 256
-
-abbrev pub firstUnit : ℕ
-firstUnit = 16777216

@@ -6,10 +6,11 @@ use mathlib.Core.List.{List, [], _∷_}
 use Prim.Native.Nat.{ℕ, _+_, _*_, _/_}
 use lib.Dec.{eqb}
 use Rattle.definition.specs.Words.{if_then_else_}
+unfoldable pub use Rattle.names.specs.Names.{packedBy}
 use Rattle.pieces.specs.Pieces.{insideAfter}
 use Rattle.pieces.specs.declared.Piece.{Piece}
 use Rattle.pieces.specs.declared.Piece.the-variants.{First, Second, Number, Word, Stop}
-use Rattle.rules.specs.Letters.{letterT, letterM, letterR, byteUnit}
+use Rattle.rules.specs.Letters.{letterT, letterM, letterR}
 
 -- a command: its place, its first letter, its other pieces, and whether a semicolon ends it
 pub record Written : Type 0 where
@@ -91,11 +92,6 @@ lastOf w (b ∷ bs) = lastOf b bs
 -- of a D command this is S, F or D
 abbrev pub lastLetter : Written → ℕ
 lastLetter c = lastOf 0 (letters (c .items))
-
--- letters as one number: the first counts u, and each behind it 256 times less than the one before
-unfoldable pub packedBy : ℕ → List ℕ → ℕ
-packedBy u [] = 0
-packedBy u (b ∷ bs) = b * u + packedBy (u / byteUnit) bs
 
 -- how many letters begin a transformation
 abbrev pub turning : ℕ → Bool

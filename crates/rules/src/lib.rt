@@ -1,19 +1,14 @@
-// The rules for one command of a CIF text, in refusals 3 to 9: the lowest that a number meets, and the lowest that a whole command meets; what is scaled;
-// and a layer's name as one number. They stand below both passes over a text, the check and the drawing, so that both go by the same rules.
+// The rules for one command of a CIF text, in refusals 3 to 9: the lowest that a number meets, and the lowest that a whole command meets; and what is
+// scaled. They stand below both passes over a text, the check and the drawing, so that both go by the same rules.
 ghost use mathlib.Core.Path.{_≡_};
 ghost use Prim.Native.Nat.{_+_, _*_, _/_, _≤_};
 ghost use Rattle.pieces.specs.Pieces.{tooLarge};
-ghost use Rattle.rules.specs.Letters.{byteUnit, firstUnit};
 ghost use Rattle.rules.specs.Rules.{shapely, distance, scaledBy, vital, scaleless, few, bare, pointsOf, many, emptyNo, numberNo, wholeNo};
 
 // 01, refusal 7.
 const LEAST_POINTS: usize = 3;
 // Above the refusals that a command can meet: none.
 pub const NO_REFUSAL: usize = 10;
-// A layer's name is one number: its first letter counts FIRST_UNIT, and each behind it BYTE_UNIT times less.
-pub const BYTE_UNIT: usize = 256;
-
-pub const FIRST_UNIT: usize = 16_777_216;
 
 // The letters of shapes: B, P, R and W.
 pub fn is_shape(letter: u8) -> bool
@@ -225,13 +220,4 @@ pub fn whole_no(
         return 9;
     }
     NO_REFUSAL
-}
-
-// A layer's name with one more letter, which counts the unit.
-pub fn longer_name(name: usize, unit: usize, letter: u8) -> usize
-    requires { ⌜ name + byteUnit * unit ≤ byteUnit * firstUnit ⌝ }
-    ensures { λ r. ⌜ r ≡ name + letter * unit ⌝ }
-{
-    let x = letter as usize;
-    name + x * unit
 }

@@ -6,6 +6,7 @@ use Prim.Native.Nat.{_-_}
 use lib.IntN.{ℤ}
 use lib.ListN.{length}
 use Rattle.grammar.specs.Steps.{number}
+use Rattle.pieces.specs.declared.Begun.{Begun}
 use Rattle.pieces.proofs.Finds.{finds, mark-less}
 use Rattle.commands.proofs.Wording.{Seeking, seeking-start, seeking-ended, seeking-past, seeking-found}
 use Rattle.commands.proofs.read_command.Statement.{statement}
@@ -39,7 +40,7 @@ same-length-2 c = c .before .read-items .kept .1 .1 .1 .0 ∙ ap (λ (z : List �
 
 returns-2 : tie.Need-returns-2 Inv-loop μ-loop
 unfolding number
-returns-2 c = seeking-found (c .before .before .before .before .before .before .loop .inv .0) (c .before .before .before .before .before .next-mark .ensures .first (c .before .before .before .if2 .taken)) (c .before .before .before .before .before .before .loop .inv .1) (c .before .before .before .before .before .before .before .before .args .a) (c .before .before .before .before .before .before .before .before .args .b) (c .before .read-items .result) _ (c .before .read-items .ensures)
+returns-2 c = seeking-found (c .before .before .before .before .before .before .loop .inv .0) (c .before .before .before .before .before .next-mark .ensures .first (c .before .before .before .if2 .taken)) (ap (λ (m : Begun). m .to) (c .before .before .before .before .before .next-mark .ensures .exact)) (c .before .before .before .before .before .before .loop .inv .1) (c .before .before .before .before .before .before .before .before .args .a) (c .before .before .before .before .before .before .before .before .args .b) (c .before .read-items .result) _ (c .before .read-items .ensures)
 
 loop-less : tie.Need-loop-less Inv-loop μ-loop
 unfolding number
@@ -47,7 +48,7 @@ loop-less c = mark-less (c .before .before .before .next-mark .ensures) (c .befo
 
 loop-again : tie.Need-loop-again Inv-loop μ-loop
 unfolding number
-loop-again c = (seeking-past (c .before .before .before .before .loop .inv .0) (finds (c .before .before .before .next-mark .ensures)) (c .before .before .if1 .left) (c .before .if2 .left), c .before .before .before .before .loop .inv .1)
+loop-again c = (seeking-past (c .before .before .before .before .loop .inv .0) (finds (c .before .before .before .next-mark .ensures)) (ap (λ (m : Begun). m .to) (c .before .before .before .next-mark .ensures .exact)) (c .before .before .if1 .left) (c .before .if2 .left), c .before .before .before .before .loop .inv .1)
 
 pub read-command-spec : {M : Type 1} → statement M
 read-command-spec =

@@ -7,7 +7,7 @@ use borrow.Author.Needs.{needs}
 use lib.ListN.{length}
 use Rattle.grammar.specs.Steps.{number}
 use Rattle.pieces.proofs.Finds.{finds, step-less, mark-less}
-use Rattle.commands.proofs.Wording.{Wording, wording-start, words-length, wording-number, wording-letter, wording-ended, wording-stop}
+use Rattle.commands.proofs.Wording.{Wording, wording-start, words-length, wording-number, wording-letter, wording-ended, wording-stop, number-end, letter-end}
 use Rattle.commands.proofs.read_items.Statement.{statement}
 use Rattle.commands.proofs.read_items.Tie as tie
 
@@ -36,7 +36,7 @@ loop-less c = step-less (c .before .before .before .before .read-number .ensures
 
 loop-again : tie.Need-loop-again Inv-loop μ-loop
 unfolding number
-loop-again c = wording-number (c .before .before .before .before .before .before .before .before .loop .inv) (c .before .before .before .before .read-number .ensures .0 _ (c .before .before .before .before .before .before .before .next-mark .ensures .led (c .before .before .before .before .before .before .if1 .taken))) (c .before .before .line-number .ensures)
+loop-again c = wording-number (c .before .before .before .before .before .before .before .before .loop .inv) (c .before .before .before .before .read-number .ensures .0 _ (c .before .before .before .before .before .before .before .next-mark .ensures .led (c .before .before .before .before .before .before .if1 .taken))) (number-end (c .before .before .before .before .before .before .before .next-mark .ensures) (c .before .before .before .before .before .before .if1 .taken) (c .before .before .before .before .read-number .ensures .1)) (c .before .before .line-number .ensures)
 
 line-letter-requires : tie.Need-line-letter-requires Inv-loop μ-loop
 line-letter-requires c κs = (omega arith, c .before .before .before .before .loop .inv .roomy)
@@ -47,7 +47,7 @@ loop-less-2 c = mark-less (c .before .before .before .before .before .before .ne
 
 loop-again-2 : tie.Need-loop-again-2 Inv-loop μ-loop
 unfolding number
-loop-again-2 c = wording-letter (c .before .before .before .before .before .before .before .loop .inv) (c .before .before .before .before .before .before .next-mark .ensures .letter (c .before .before .before .before .if2 .taken)) (c .before .before .line-letter .ensures)
+loop-again-2 c = wording-letter (c .before .before .before .before .before .before .before .loop .inv) (c .before .before .before .before .before .before .next-mark .ensures .letter (c .before .before .before .before .if2 .taken)) (letter-end (c .before .before .before .before .before .before .next-mark .ensures) (c .before .before .before .before .before .if1 .left)) (c .before .before .line-letter .ensures)
 
 close-requires : tie.Need-close-requires Inv-loop μ-loop
 close-requires c κs = (omega arith, omega arith)
@@ -57,7 +57,7 @@ same-length c = c .before .close .kept .0 ∙ words-length (c .before .before .b
 
 returns : tie.Need-returns Inv-loop μ-loop
 unfolding number
-returns c = wording-stop (c .before .before .before .before .before .before .before .loop .inv) (c .before .before .before .before .before .before .next-mark .ensures .stop (c .before .before .before .if3 .taken)) (c .before .close .ensures)
+returns c = wording-stop (c .before .before .before .before .before .before .before .loop .inv) (c .before .before .before .before .before .before .next-mark .ensures .stop (c .before .before .before .if3 .taken)) (letter-end (c .before .before .before .before .before .before .next-mark .ensures) (c .before .before .before .before .before .if1 .left)) (c .before .close .ensures)
 
 close-requires-2 : tie.Need-close-requires-2 Inv-loop μ-loop
 close-requires-2 c κs = (omega arith, omega arith)

@@ -2,9 +2,9 @@
 -- Assumes nothing.
 use native.Mathlib.Omega.{arith}
 use borrow.Author.Needs.{needs}
-use Rattle.rules.proofs.Naming.{name-room}
-use Rattle.rules.proofs.longer_name.Statement.{statement}
-use Rattle.rules.proofs.longer_name.Tie as tie
+use Rattle.names.proofs.Naming.{name-room}
+use Rattle.names.proofs.longer_name.Statement.{statement}
+use Rattle.names.proofs.longer_name.Tie as tie
 
 mul-result : tie.Need-mul-result
 mul-result c = let h = name-room (c .args .letter) (c .args .unit) (c .args .name) (c .fits .letter .fits) (c .pre) in omega arith
