@@ -10,6 +10,7 @@ use lib.Dec.{lit≤}
 use lib.IntN.{pos}
 use lib.ListN.{length}
 use Rattle.definition.specs.Words.{bytesOf}
+use Rattle.definition.specs.Rules.{textTooLong, refuse}
 use Rattle.definition.specs.Flat.{decimal}
 use Rattle.definition.specs.Answer.{rejected, Answers, too-long}
 use Rattle.definition.specs.Listing.{Lists, over}
@@ -111,7 +112,7 @@ unfolding all-hold rooms
 rooms-hold = each rooms tt
 
 -- 1: whatever the bytes of a longer text are, and for the list program those of one over 32,768
-pub text-too-long : (t : List ℕ) (room : ℕ) → length t ≡ 16777217 → Answers t room (rejected 1 0 [])
+pub text-too-long : (t : List ℕ) (room : ℕ) → length t ≡ 16777217 → Answers t room (rejected (refuse textTooLong 0) [])
 text-too-long t room h = too-long (omega (arith, h))
 
 pub list-too-long : Lists (times 32769 ";" []) (bytesOf "refused\t1\t0\n")
