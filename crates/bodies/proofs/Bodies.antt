@@ -14,8 +14,8 @@ use Rattle.pen.proofs.Names.{no-name}
 use Rattle.pieces.specs.Pieces.{stream, behind}
 use Rattle.pieces.specs.declared.Spot.{Spot}
 use Rattle.rules.specs.Written.{written}
-use Rattle.counts.specs.declared.Counts.{Counts}
-use Rattle.shapes.specs.declared.Pen.{Pen}
+use Rattle.definition.specs.declared.Refusal.{Refusal}
+use Rattle.shapes.specs.declared.Ink.{Ink}
 use Rattle.shapes.specs.declared.Drawn.the-variants.{Done, Refused}
 use Rattle.shapes.specs.Painting.{Reached, Painted}
 use Rattle.bodies.specs.Voices.{Told}
@@ -24,9 +24,9 @@ use Rattle.shapes.proofs.Painting.{Going, begun, goes-on, skips, stops, over}
 use Rattle.bodies.proofs.Reading.{Met, none-met}
 use Rattle.bodies.proofs.Steps.{shape-left, call-left, layer-left, nothing-left, finish-left}
 
--- between two commands: the spot, the packed layer, the counts, the pen and the room as they are
-pub record Along (t : List ℕ) (a b : ℕ) (f : ℕ → ℕ → List (Turn ℤ) → List Event) (chain : Chain) (net : List (Turn ℤ)) (all : List Event) (c₀ : Counts) (pen₀ : Pen) (room₀ : List ℕ)
-    (spot : Spot) (layer : ℕ) (c : Counts) (pen : Pen) (room : List ℕ) : Type 0 where
+-- between two commands: the spot, the packed layer, the ink and the room as they are
+pub record Along (t : List ℕ) (a b : ℕ) (f : ℕ → ℕ → List (Turn ℤ) → List Event) (chain : Chain) (net : List (Turn ℤ)) (all : List Event) (ink₀ : Ink) (room₀ : List ℕ)
+    (spot : Spot) (layer : ℕ) (ink : Ink) (room : List ℕ) : Type 0 where
   pub standing : Standing
   pub commands : List (Placed Command)
   pub told : Told standing (written (stream t spot)) commands
@@ -34,11 +34,11 @@ pub record Along (t : List ℕ) (a b : ℕ) (f : ℕ → ℕ → List (Turn ℤ)
   pub same-a : standing .a ≡ a
   pub same-b : standing .b ≡ b
   pub layer-is : nameOf layer ≡ standing .layer-set
-  pub going : Going all c₀ pen₀ room₀ (drawBody f chain net (retained standing commands)) c pen room
+  pub going : Going all ink₀ room₀ (drawBody f chain net (retained standing commands)) ink room
 
-pub start-body : {t : List ℕ} {from a b : ℕ} (k : Body t from a b) (f : ℕ → ℕ → List (Turn ℤ) → List Event) (chain : Chain) (net : List (Turn ℤ)) (c : Counts) (pen : Pen) (room : List ℕ) → Reached c pen
-    → Along t a b f chain net (drawBody f chain net (retained (k .standing) (k .commands))) c pen room (behind true from) 0 c pen room
-start-body k f chain net c pen room r = record {
+pub start-body : {t : List ℕ} {from a b : ℕ} (k : Body t from a b) (f : ℕ → ℕ → List (Turn ℤ) → List Event) (chain : Chain) (net : List (Turn ℤ)) (ink : Ink) (room : List ℕ) → Reached ink
+    → Along t a b f chain net (drawBody f chain net (retained (k .standing) (k .commands))) ink room (behind true from) 0 ink room
+start-body k f chain net ink room r = record {
   standing = k .standing;
   commands = k .commands;
   told = k .told;
@@ -46,16 +46,16 @@ start-body k f chain net c pen room r = record {
   same-a = k .same-a;
   same-b = k .same-b;
   layer-is = no-name 0 refl ∙ sym (k .no-layer);
-  going = begun _ c pen room r;
+  going = begun _ ink room r;
 }
 
-module _ {t : List ℕ} {a b : ℕ} {f : ℕ → ℕ → List (Turn ℤ) → List Event} {chain : Chain} {net : List (Turn ℤ)} {all : List Event} {c₀ : Counts} {pen₀ : Pen} {room₀ : List ℕ}
-    {spot : Spot} {l : ℕ} {c : Counts} {pen : Pen} {room : List ℕ} (g : Along t a b f chain net all c₀ pen₀ room₀ spot l c pen room) where
+module _ {t : List ℕ} {a b : ℕ} {f : ℕ → ℕ → List (Turn ℤ) → List Event} {chain : Chain} {net : List (Turn ℤ)} {all : List Event} {ink₀ : Ink} {room₀ : List ℕ}
+    {spot : Spot} {l : ℕ} {ink : Ink} {room : List ℕ} (g : Along t a b f chain net all ink₀ room₀ spot l ink room) where
   abbrev σ : Standing
   σ = g .standing
 
   -- no command is left
-  pub body-out : written (stream t spot) ≡ [] → Painted c₀ pen₀ all room₀ (Done c pen) room
+  pub body-out : written (stream t spot) ≡ [] → Painted ink₀ all room₀ (Done ink) room
   unfolding retained drawBody
   body-out e = over (g .going) (ap (λ (ds : List (Placed Command)). drawBody f chain net (retained σ ds)) (none-met t spot (g .told) e))
 
@@ -67,12 +67,12 @@ module _ {t : List ℕ} {a b : ℕ} {f : ℕ → ℕ → List (Turn ℤ) → Lis
     told-then e = subst (λ (d : Command). Told (after d σ) (written (stream t to)) (m .rest)) e (m .told)
 
     -- its DF
-    pub body-ended : m .command ≡ finish → Painted c₀ pen₀ all room₀ (Done c pen) room
+    pub body-ended : m .command ≡ finish → Painted ink₀ all room₀ (Done ink) room
     body-ended e = over (g .going) (left-is e ∙ finish-left f chain net σ (g .opened) p (m .rest))
 
     -- a command that leaves what stands: it draws these events
     module _ (now : List Event) (stays : after (m .command) σ ≡ σ) (left : drawBody f chain net (retained σ (g .commands)) ≡ now ++ drawBody f chain net (retained (after (m .command) σ) (m .rest))) where
-      pub body-did : {c′ : Counts} {pen′ : Pen} {room′ : List ℕ} → Painted c pen now room (Done c′ pen′) room′ → Along t a b f chain net all c₀ pen₀ room₀ to l c′ pen′ room′
+      pub body-did : {ink′ : Ink} {room′ : List ℕ} → Painted ink now room (Done ink′) room′ → Along t a b f chain net all ink₀ room₀ to l ink′ room′
       body-did x = record {
         standing = σ;
         commands = m .rest;
@@ -84,7 +84,7 @@ module _ {t : List ℕ} {a b : ℕ} {f : ℕ → ℕ → List (Turn ℤ) → Lis
         going = goes-on (g .going) now (drawBody f chain net (retained σ (m .rest))) (left ∙ ap (λ (s : Standing). now ++ drawBody f chain net (retained s (m .rest))) stays) x;
       }
 
-      pub body-stopped : {i q : ℕ} {room′ : List ℕ} → Painted c pen now room (Refused i q) room′ → Painted c₀ pen₀ all room₀ (Refused i q) room′
+      pub body-stopped : {why : Refusal} {room′ : List ℕ} → Painted ink now room (Refused why) room′ → Painted ink₀ all room₀ (Refused why) room′
       body-stopped x = stops (g .going) now (drawBody f chain net (retained (after (m .command) σ) (m .rest))) left x
 
     -- a shape, a call
@@ -108,7 +108,7 @@ module _ {t : List ℕ} {a b : ℕ} {f : ℕ → ℕ → List (Turn ℤ) → Lis
     )
 
     -- a layer is set, and nothing drawn
-    pub body-layer : (v : ℕ) → m .command ≡ layer (nameOf v) → Along t a b f chain net all c₀ pen₀ room₀ to v c pen room
+    pub body-layer : (v : ℕ) → m .command ≡ layer (nameOf v) → Along t a b f chain net all ink₀ room₀ to v ink room
     unfolding after
     body-layer v e = record {
       standing = after (layer (nameOf v)) σ;
@@ -121,7 +121,7 @@ module _ {t : List ℕ} {a b : ℕ} {f : ℕ → ℕ → List (Turn ℤ) → Lis
       going = skips (g .going) _ (left-is e ∙ layer-left f chain net σ (g .opened) p (m .rest) (nameOf v));
     }
 
-    pub body-idle : m .command ≡ nothing → Along t a b f chain net all c₀ pen₀ room₀ to l c pen room
+    pub body-idle : m .command ≡ nothing → Along t a b f chain net all ink₀ room₀ to l ink room
     unfolding after
     body-idle e = record {
       standing = σ;

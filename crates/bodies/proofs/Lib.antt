@@ -2,9 +2,7 @@ pub mod Rows
 pub mod Letters
 pub mod Reading
 pub mod Steps
-pub mod Opened
 pub mod Calls
-pub mod CallWords
 pub mod Bodies
 pub mod Carried
 pub mod Scenes

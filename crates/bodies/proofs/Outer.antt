@@ -6,7 +6,7 @@ use mathlib.Core.List.{List, [], _∷_, map}
 use Prim.Native.Nat.{ℕ, _+_, _≤_}
 use native.Mathlib.Omega.{arith}
 use lib.Dec.{eqb}
-use lib.IntN.{ℤ}
+use lib.IntN.{ℤ, natAbs}
 use lib.ListN.{length, length-map}
 use Rattle.definition.specs.Words.{any}
 use Rattle.definition.specs.Commands.{Number, Shape, Turn, Kind, Command, draw, call}
@@ -21,23 +21,22 @@ use Rattle.table.specs.declared.Row.{Row}
 use Rattle.pen.specs.Names.{nameOf}
 use Rattle.rules.specs.Letters.{letterC}
 use Rattle.rules.specs.Written.{Written}
-use Rattle.counts.specs.declared.Counts.{Counts}
-use Rattle.shapes.specs.declared.Pen.{Pen}
+use Rattle.shapes.specs.declared.Ink.{Ink}
 use Rattle.shapes.specs.declared.Drawn.{Drawn}
 use Rattle.shapes.specs.declared.Drawn.the-variants.{Done}
-use Rattle.bodies.specs.declared.Call.{Call}
-use Rattle.shapes.specs.Painting.{Reached, Painted}
+use Rattle.calls.specs.declared.Call.{Call}
+use Rattle.shapes.specs.Painting.{Reached, Painted, ShapeDraws}
 use Rattle.bodies.specs.Voices.{Voice, a-shape, a-call, a-layer, a-start, a-finish, a-delete, a-nothing}
 use Rattle.moves.specs.Moves.{mostValues, Shaped}
 use Rattle.bodies.specs.Rows.{Stands}
 use Rattle.bodies.specs.Scenes.{Scene}
 use Rattle.moves.specs.Moves.{ShapedAt}
-use Rattle.bodies.specs.Calls.{CalledAt, ReadsCall}
+use Rattle.calls.specs.Calls.{CalledAt, ReadsCall}
 use Rattle.bodies.specs.Outer.{drawnBy, Speaks}
 use Rattle.bodies.proofs.Letters.{is-shape, is-call, some-kind, no-kind}
 use Rattle.shapes.proofs.Painting.{still}
 use Rattle.bodies.proofs.Reading.{spoken-shape, spoken-call}
-use Rattle.bodies.proofs.Underway.{CallDraws, ShapeDraws}
+use Rattle.bodies.specs.Draws.{CallDraws}
 
 -- outside of definitions no call is open
 abbrev pub outer-scene : {t : List ℕ} {rows : List Row} (drawing : List ℕ) (table : Table) → Stands t rows table → Scene t rows drawing 0
@@ -56,16 +55,17 @@ module _ {words : List ℤ} {kind end : ℕ} (h : Speaks words kind end) where
     abbrev pub outer-called : CalledAt words end
     outer-called = let i = one-call in spoken-call h (i .0 .what) (map (scaledTurn σ) (i .1)) (i .3) (omega (arith, length-map (i .1) (scaledTurn σ), i .4))
 
-    pub call-painted : (p : ℕ) {t : List ℕ} {rows : List Row} {drawing : List ℕ} {outer : Net} {r : Call} {c : Counts} {pen : Pen} {room room′ : List ℕ} {d : Drawn} → Carries [] outer
-        → ReadsCall (outer-called .symbol) (outer-called .turns) outer r → CallDraws t rows drawing (r .net) 32 (r .askew) p (r .symbol) c pen room d room′
-        → (table : Table) → Stands t rows table → Painted c pen (drawnBy table σ p (h .command)) room d room′
+    pub call-painted : (p : ℕ) {t : List ℕ} {rows : List Row} {drawing : List ℕ} {outer : Net} {r : Call} {ink : Ink} {room room′ : List ℕ} {d : Drawn} → Carries [] outer
+        → ReadsCall (outer-called .symbol) (outer-called .turns) outer p r → CallDraws t rows drawing 32 r ink room d room′
+        → (table : Table) → Stands t rows table → Painted ink (drawnBy table σ p (h .command)) room d room′
     unfolding drawnBy
-    call-painted p {drawing = drawing} {c = c} {pen = pen} {room = room} {room′ = room′} {d = d} fixed reads drawn table s =
+    call-painted p {drawing = drawing} {r = r} {ink = ink} {room = room} {room′ = room′} {d = d} fixed reads drawn table s =
         let i = one-call in
         let ts = map (scaledTurn σ) (i .1) in
-        subst (λ (x : Command). Painted c pen (drawnBy table σ p x) room d room′) (sym (i .2))
-        (subst (λ (n : ℕ). Painted c pen (drawCall 32 table [] [] p n ts) room d room′) (reads .symbol)
-        (drawn (outer-scene drawing table s) [] ts (reads .askew) (reads .carries [] fixed)))
+        subst (λ (x : Command). Painted ink (drawnBy table σ p x) room d room′) (sym (i .2))
+        (subst (λ (q : ℕ). Painted ink (drawCall 32 table [] [] q (natAbs (i .0 .what)) ts) room d room′) (reads .at-place)
+        (subst (λ (n : ℕ). Painted ink (drawCall 32 table [] [] (r .place) n ts) room d room′) (reads .symbol)
+        (drawn (outer-scene drawing table s) [] ts (reads .askew) (reads .carries [] fixed))))
 
   -- ---- a shape
 
@@ -79,14 +79,14 @@ module _ {words : List ℤ} {kind end : ℕ} (h : Speaks words kind end) where
     pub outer-within : {m : ℕ} → mostValues + 2 ≤ m → end ≤ m
     outer-within le = let q = h .ends in let f = h .few in omega (arith, q, f)
 
-    pub shape-painted : (l p : ℕ) {outer : Net} {c : Counts} {pen : Pen} {room room′ : List ℕ} {d : Drawn} → Carries [] outer → ShapeDraws words kind end outer l p c pen room d room′
-        → nameOf l ≡ σ .layer-set → (table : Table) → Painted c pen (drawnBy table σ p (h .command)) room d room′
+    pub shape-painted : (l p : ℕ) {outer : Net} {ink : Ink} {room room′ : List ℕ} {d : Drawn} → Carries [] outer → ShapeDraws words kind end outer l p ink room d room′
+        → nameOf l ≡ σ .layer-set → (table : Table) → Painted ink (drawnBy table σ p (h .command)) room d room′
     unfolding drawnBy
-    shape-painted l p {c = c} {pen = pen} {room = room} {room′ = room′} {d = d} fixed drawn q table =
+    shape-painted l p {ink = ink} {room = room} {room′ = room′} {d = d} fixed drawn q table =
         let i = one-shape in
         let k = scaledShape σ (i .0) in
-        subst (λ (x : Command). Painted c pen (drawnBy table σ p x) room d room′) (sym (i .1))
-        (subst (λ (n : List ℕ). Painted c pen (drawShape [] [] p n k ∷ []) room d room′) q (drawn outer-shaped [] [] fixed))
+        subst (λ (x : Command). Painted ink (drawnBy table σ p x) room d room′) (sym (i .1))
+        (subst (λ (n : List ℕ). Painted ink (drawShape [] [] p n k ∷ []) room d room′) q (drawn outer-shaped [] [] fixed))
 
   -- ---- any other
 
@@ -101,7 +101,7 @@ module _ {words : List ℤ} {kind end : ℕ} (h : Speaks words kind end) where
   none-drawn table p (a-delete e v o) f g = refl
   none-drawn table p (a-nothing s) f g = refl
 
-  pub nothing-painted : (kind ≡ letterC → ⊥) → any (λ x. eqb kind x) (66 ∷ 82 ∷ 87 ∷ 80 ∷ []) ≡ false → {c : Counts} {pen : Pen} → Reached c pen → (table : Table) (p : ℕ) (room : List ℕ)
-      → Painted c pen (drawnBy table σ p (h .command)) room (Done c pen) room
-  nothing-painted g e {c} {pen} r table p room =
-      subst (λ (es : List Event). Painted c pen es room (Done c pen) room) (sym (none-drawn table p (h .voice) (no-kind kind e) g)) (still c pen room r)
+  pub nothing-painted : (kind ≡ letterC → ⊥) → any (λ x. eqb kind x) (66 ∷ 82 ∷ 87 ∷ 80 ∷ []) ≡ false → {ink : Ink} → Reached ink → (table : Table) (p : ℕ) (room : List ℕ)
+      → Painted ink (drawnBy table σ p (h .command)) room (Done ink) room
+  nothing-painted g e {ink} r table p room =
+      subst (λ (es : List Event). Painted ink es room (Done ink) room) (sym (none-drawn table p (h .voice) (no-kind kind e) g)) (still ink room r)

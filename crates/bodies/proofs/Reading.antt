@@ -24,7 +24,7 @@ use Rattle.commands.specs.Words.{wordsOf, insideFirst, DecodedOne, ReadsCommand
 use Rattle.bodies.specs.Voices.{Voice, Voiced, Told, none-told, one-told}
 use Rattle.moves.specs.Moves.{mostValues, Shaped}
 use Rattle.moves.specs.Moves.{ShapedAt}
-use Rattle.bodies.specs.Calls.{CalledAt}
+use Rattle.calls.specs.Calls.{CalledAt}
 use Rattle.bodies.specs.Outer.{Speaks}
 use Rattle.bodies.proofs.Letters.{is-layer}
 

@@ -1,37 +1,31 @@
--- A call where a scene stands: what is found of its symbol, whether it is open, and the scene in which its body is drawn.
+-- A call where a scene stands: what the code's numbers stand for, and the scene in which its body is drawn.
 -- Assumes nothing.
 use mathlib.Core.Path.{_≡_, refl, sym, ap, _∙_, subst}
-use mathlib.Core.Bool.{Bool, false}
 use mathlib.Core.List.{List, [], _∷_, _++_, map}
 use mathlib.Core.Option.{Option, none, some}
 use Prim.Native.Nat.{ℕ, _-_, _≤_}
 use native.Mathlib.Omega.{arith}
-use lib.Dec.{eqb}
 use lib.IntN.{ℤ}
 use lib.ListN.{length, take, set}
-use Rattle.definition.specs.Words.{Placed, at, any}
+use Rattle.definition.specs.Words.{Placed, at, none?}
 use Rattle.definition.specs.Commands.{Turn}
 use Rattle.definition.specs.Turns.{offAxes}
 use Rattle.definition.specs.Table.{Definition, Table, find}
 use Rattle.definition.specs.Drawing.{Chain, drawBody, drawCall}
-use Rattle.turns.specs.declared.Net.{Net}
 use Rattle.turns.specs.Nets.{Carries}
 use Rattle.table.specs.declared.Row.{Row}
-use Rattle.table.specs.declared.Found.{Found}
-use Rattle.table.specs.declared.Found.the-variants.{Live, Nothing}
-use Rattle.table.specs.Rows.{findRow, foundBy}
+use Rattle.table.specs.Rows.{findRow}
 use Rattle.counts.specs.declared.Counts.{Counts}
-use Rattle.counts.specs.declared.Counted.{Counted}
-use Rattle.counts.specs.declared.Counted.the-variants.{More}
-use Rattle.counts.specs.Counting.{CountsCall}
-use Rattle.shapes.specs.declared.Pen.{Pen}
+use Rattle.shapes.specs.declared.Ink.{Ink}
 use Rattle.shapes.specs.declared.Drawn.{Drawn}
-use Rattle.shapes.specs.Painting.{Reached, Painted}
+use Rattle.shapes.specs.Painting.{inked, Reached, Painted}
+use Rattle.calls.specs.declared.Call.{Call}
+use Rattle.calls.specs.Opening.{Fitting, Descent}
 use Rattle.bodies.specs.Rows.{Means, Stands}
 use Rattle.bodies.specs.Scenes.{Scene}
+use Rattle.bodies.specs.Draws.{Draws}
 use Rattle.bodies.proofs.Rows.{Both, neither, these, find-stands}
-use Rattle.bodies.proofs.Calls.{symbols-any, call-drawn, pushed}
-use Rattle.bodies.proofs.Underway.{Draws}
+use Rattle.bodies.proofs.Calls.{call-drawn, pushed}
 
 -- a row that is found, and what it means
 pub record Known (t : List ℕ) (n : ℕ) (row : Row) (table : Table) : Type 0 where
@@ -39,31 +33,32 @@ pub record Known (t : List ℕ) (n : ℕ) (row : Row) (table : Table) : Type 0 w
   pub is : find n table ≡ some definition
   pub means : Means t row definition
 
-nothing-live : (row : Row) → Nothing ≡ Live row → ⊥
-nothing-live row e = let z : _≡_ {A = ℕ} 0 1 = cc in omega arith
-
-module _ {t : List ℕ} {rows : List Row} {table : Table} (n : ℕ) (s : Stands t rows table) {r : Found} (e : r ≡ foundBy (findRow n rows)) where
-  pub not-found : r ≡ Nothing → find n table ≡ none
-  not-found q = go (find-stands n s) (sym e ∙ q)
+module _ {t : List ℕ} {rows : List Row} {table : Table} (n : ℕ) (s : Stands t rows table) where
+  -- a definition is found where a row is
+  both-known : none? (find n table) ≡ none? (findRow n rows)
+  both-known = go (find-stands n s)
     where
-      go : {x : Option Row} {y : Option Definition} → Both t x y → foundBy x ≡ Nothing → y ≡ none
-      go neither f = refl
-      go (these {r = row} m) f = absurd (nothing-live row (sym f))
+      go : {x : Option Row} {y : Option Definition} → Both t x y → none? y ≡ none? x
+      go neither = refl
+      go (these m) = refl
 
-  pub found-live : {row : Row} → r ≡ Live row → Known t n row table
-  found-live {row} q = go (find-stands n s) (sym e ∙ q) refl
+  pub known-row : {row : Row} → findRow n rows ≡ some row → Known t n row table
+  known-row {row} q = go (find-stands n s) q refl
     where
-      same : {x row : Row} → Live x ≡ Live row → x ≡ row
+      none-some : none ≡ some row → ⊥
+      none-some e = let z : _≡_ {A = ℕ} 0 1 = cc in omega arith
+
+      same : {x : Row} → some x ≡ some row → x ≡ row
       same f = cc
 
-      go : {x : Option Row} {y : Option Definition} → Both t x y → foundBy x ≡ Live row → find n table ≡ y → Known t n row table
-      go neither f g = absurd (nothing-live row f)
+      go : {x : Option Row} {y : Option Definition} → Both t x y → x ≡ some row → find n table ≡ y → Known t n row table
+      go neither f g = absurd (none-some f)
       go (these {d = d} m) f g = record { definition = d; is = g; means = subst (λ (k : Row). Means t k d) (same f) m }
 
--- `is_open` says whether the symbol is one of the open calls
-pub open-test : {t : List ℕ} {rows : List Row} {drawing : List ℕ} {level : ℕ} (s : Scene t rows drawing level) (n : ℕ) {r : Bool} → r ≡ any (λ x. eqb x n) (take level drawing)
-    → any (λ c. eqb (c .what) n) (s .chain) ≡ r
-open-test s n e = symbols-any n (s .chain) ∙ ap (any (λ x. eqb x n)) (s .open-are) ∙ sym e
+-- the call that the code's numbers stand for in a scene
+pub fitting : {t : List ℕ} {rows : List Row} {drawing : List ℕ} {level : ℕ} (s : Scene t rows drawing level) (call : Call) {ts : List (Turn ℤ)} → call .askew ≡ offAxes ts
+    → Fitting rows (take level drawing) call (find (call .symbol) (s .table)) (s .chain) ts
+fitting s call e = record { known = both-known (call .symbol) (s .stands); open-are = s .open-are; askew = e }
 
 pub joined-symbols : (chain : Chain) (p n : ℕ) → map (λ c. c .what) (chain ++ (at p n ∷ [])) ≡ map (λ c. c .what) chain ++ (n ∷ [])
 joined-symbols [] p n = refl
@@ -80,13 +75,15 @@ inner-scene {drawing = drawing} left s p n z h e = record {
 }
 
 -- what the body draws, the call draws
-module _ {t : List ℕ} {rows : List Row} {drawing : List ℕ} {left : ℕ} (s : Scene t rows drawing (32 - left)) {n : ℕ} {row : Row} (k : Known t n row (s .table))
-    (some-left : left ≡ 0 → ⊥) (h : left ≤ 32) (long : length drawing ≡ 32) (c : Counts) (pen : Pen) {a : Counted} (count : CountsCall c a) (more : Counts) (q : a ≡ More more) (reach : Reached c pen) where
-  pub body-drawn : {net : Net} {room room′ : List ℕ} {r : Drawn} → Draws t rows (set drawing (32 - left) n) net (left - 1) (row .start) (row .a) (row .b) more pen room r room′
-      → (p : ℕ) (outer ts : List (Turn ℤ)) → offAxes ts ≡ false → any (λ c. eqb (c .what) n) (s .chain) ≡ false → Carries (ts ++ outer) net
-      → Painted c pen (drawCall left (s .table) (s .chain) outer p n ts) room r room′
-  body-drawn {room = room} {room′ = room′} {r = r} drawn p outer ts e o carries =
-      let chain′ = s .chain ++ (at p n ∷ []) in
-      call-drawn (s .table) (s .chain) outer p n ts c pen room (k .definition) e (k .is) left some-left o count more q reach
-      (subst (λ (b : List (Placed _)). Painted more pen (drawBody (drawCall (left - 1) (s .table) chain′ (ts ++ outer)) chain′ (ts ++ outer) b) room r room′) (sym (k .means .retains))
-      (drawn (inner-scene left s p n some-left h long) (k .means .body) (ts ++ outer) carries))
+module _ {t : List ℕ} {rows : List Row} {drawing : List ℕ} {left : ℕ} (s : Scene t rows drawing (32 - left)) {call : Call} {ink : Ink} {row : Row} {more : Counts}
+    (o : Descent rows (take (32 - left) drawing) left call (ink .counts) row more) (h : left ≤ 32) (long : length drawing ≡ 32) (reach : Reached ink) where
+  pub body-drawn : {room room′ : List ℕ} {r : Drawn}
+      → Draws t rows (set drawing (32 - left) (call .symbol)) (call .net) (left - 1) (row .start) (row .a) (row .b) (inked more (ink .pen)) room r room′
+      → (outer ts : List (Turn ℤ)) → call .askew ≡ offAxes ts → Carries (ts ++ outer) (call .net)
+      → Painted ink (drawCall left (s .table) (s .chain) outer (call .place) (call .symbol) ts) room r room′
+  body-drawn {room} {room′} {r} drawn outer ts e carries =
+      let k = known-row (call .symbol) (s .stands) (o .is-row) in
+      let chain′ = s .chain ++ (at (call .place) (call .symbol) ∷ []) in
+      call-drawn (s .table) (s .chain) outer call ts (fitting s call e) left ink room o reach (k .definition) (k .is)
+      (subst (λ (b : List (Placed _)). Painted (inked more (ink .pen)) (drawBody (drawCall (left - 1) (s .table) chain′ (ts ++ outer)) chain′ (ts ++ outer) b) room r room′) (sym (k .means .retains))
+      (drawn (inner-scene left s (call .place) (call .symbol) (o .some-left) h long) (k .means .body) (ts ++ outer) carries))

@@ -1,5 +1,5 @@
 pub mod Voices
 pub mod Rows
 pub mod Scenes
-pub mod Calls
 pub mod Outer
+pub mod Draws

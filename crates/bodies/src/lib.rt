@@ -1,72 +1,28 @@
-// A body draws its calls and a call draws its body, with refusals 11 to 15 (01, "Drawing"). The same code measures, on an empty part, and writes: what is
-// stored past the room's end is dropped.
+// A body draws its calls and a call draws its body (01, "Drawing"); which calls are refused is asked of crate calls. The same code measures, on an empty
+// part, and writes: what is stored past the room's end is dropped.
 use shapes::Drawn;
-use shapes::Pen;
+use shapes::Ink;
 ghost use mathlib.Core.Path.{_≡_};
 ghost use mathlib.Core.Bool.{true};
-ghost use mathlib.Core.List.{List, [], _∷_, _++_};
-ghost use Prim.Native.Nat.{_+_, _-_, _*_, _^_, _<_, _≤_};
+ghost use mathlib.Core.List.{[], _∷_};
+ghost use Prim.Native.Nat.{_+_, _-_, _*_, _^_, _≤_};
 ghost use lib.Dec.{eqb};
-ghost use lib.IntN.{ℤ};
 ghost use lib.ListN.{length, take};
 ghost use Rattle.grammar.specs.Steps.{KindsLent, NextLent};
 ghost use Rattle.definition.specs.Words.{any};
-ghost use Rattle.definition.specs.Commands.{Turn};
-ghost use Rattle.definition.specs.Turns.{offAxes};
+ghost use Rattle.definition.specs.Limits.{mostBytes, deepest};
 ghost use Rattle.definition.specs.Table.{Table};
-ghost use Rattle.definition.specs.Drawing.{retained, drawBody, drawCall};
-ghost use Rattle.turns.specs.Nets.{Near, Carries};
+ghost use Rattle.turns.specs.Nets.{Near};
 ghost use Rattle.table.specs.Rows.{columns, rowsOf, Sorted};
-ghost use Rattle.pen.specs.Names.{nameOf};
 ghost use Rattle.moves.specs.Moves.{mostValues};
 ghost use Rattle.pieces.specs.Pieces.{behind};
-ghost use Rattle.shapes.specs.Painting.{Reached, Painted};
+ghost use Rattle.shapes.specs.Painting.{Reached};
 ghost use Rattle.bodies.specs.Rows.{Body, Stands};
 ghost use Rattle.bodies.specs.Scenes.{Scene};
-ghost use Rattle.bodies.specs.Calls.{CalledAt, ReadsCall};
-ghost use Rattle.bodies.specs.Outer.{drawnBy, Speaks};
+ghost use Rattle.bodies.specs.Outer.{Speaks};
+ghost use Rattle.bodies.specs.Draws.{Draws, CallDraws, OuterDraws};
 
-// 01, refusal 14: the deepest call.
-pub const DEEPEST: usize = 32;
-
-// Whether a symbol is being drawn: the first `level` of these are (refusal 13).
-fn is_open(symbols: &[usize], level: usize, symbol: usize) -> bool
-    requires { ⌜ level ≤ length (now symbols) ⌝ }
-    ensures { λ r. ⌜ r ≡ any (λ x. eqb x symbol) (take level (now (symbols .entry))) ⌝ }
-{
-    let mut i = 0;
-    while i < level {
-        if symbols[i] == symbol {
-            return true;
-        }
-        i += 1;
-    }
-    false
-}
-
-// What a call's words say where this net transformation is in force: its symbol, whether an R of its list is off the axes, and what its list and
-// those of the open calls do together.
-struct Call {
-    symbol: usize,
-    askew: bool,
-    net: turns::Net,
-}
-
-fn read_call(words: &[i32], end: usize, outer: turns::Net) -> Call
-    requires { ⌜ CalledAt (now words) end × Near (32 * 2 ^ 36) outer ⌝ }
-    ensures { λ r. ⌜ ((h : CalledAt (now (words .entry)) end) → ReadsCall (h .symbol) (h .turns) outer r) ⌝ }
-{
-    let list = turns::list_net(words, 3, end);
-    let own = list.net;
-    let net = turns::compose(own, outer);
-    Call {
-        symbol: shapes::size_at(words, 2),
-        askew: list.askew,
-        net,
-    }
-}
-
-// Where a body is read from: the state behind the semicolon of a DS is known.
+// Where a body is read from: the state after the semicolon of a DS is known.
 fn body_at(from: usize) -> pieces::Spot
     ensures { λ r. ⌜ r ≡ behind true from ⌝ }
 {
@@ -76,7 +32,7 @@ fn body_at(from: usize) -> pieces::Spot
     }
 }
 
-// One call (refusals 11 to 15): its body is drawn one level down, with its symbol open. `net` is what the call's list and those of the open calls do.
+// One call: refused, or its body is drawn one level down, with its symbol open.
 fn draw_call<'a>(
     text: &[u8],
     kinds: &[u8; 256],
@@ -92,26 +48,19 @@ fn draw_call<'a>(
     numbers: &mut [i64],
     drawing: &mut [usize],
     room: &mut [u8],
-    net: turns::Net,
-    depth: usize,
-    askew: bool,
-    place: usize,
-    symbol: usize,
-    counts: counts::Counts,
-    before: Pen,
+    left: usize,
+    call: calls::Call,
+    ink: Ink,
 ) -> Drawn
     requires { ⌜ KindsLent (now kinds) × NextLent (now next) ⌝ }
-    requires { ⌜ Sorted (now symbols) count × Scene (now text) (rowsOf (columns (now symbols) (now places) (now starts) (now ends) (now factors) (now divisors)) count) (now drawing) (32 - depth) ⌝ }
-    requires { ⌜ (length (now text) ≤ 16777216) × (depth ≤ 32) × (length (now drawing) ≡ 32) ⌝ }
+    requires { ⌜ Sorted (now symbols) count × Scene (now text) (rowsOf (columns (now symbols) (now places) (now starts) (now ends) (now factors) (now divisors)) count) (now drawing) (deepest - left) ⌝ }
+    requires { ⌜ (length (now text) ≤ mostBytes) × (left ≤ deepest) × (length (now drawing) ≡ deepest) ⌝ }
     requires { ⌜ (mostValues + 2 ≤ length (now words)) × (mostValues + 2 ≤ length (now numbers)) ⌝ }
-    requires { ⌜ Near ((33 - depth) * 2 ^ 36) net × Reached counts before ⌝ }
-    ensures { λ r. ⌜ ((s : Scene (now (text .entry)) (rowsOf (columns (now (symbols .entry)) (now (places .entry)) (now (starts .entry)) (now (ends .entry)) (now (factors .entry)) (now (divisors .entry))) count) (now (drawing .entry)) (32 - depth)) (outer ts : List (Turn ℤ)) → askew ≡ offAxes ts → Carries (ts ++ outer) net → Painted counts before (drawCall depth (s .table) (s .chain) outer place symbol ts) (now (room .entry)) r (now (room .exit))) ⌝ }
-    ensures { λ r. ⌜ take (32 - depth) (now (drawing .exit)) ≡ take (32 - depth) (now (drawing .entry)) ⌝ }
+    requires { ⌜ Near ((33 - left) * 2 ^ 36) (call .net) × Reached ink ⌝ }
+    ensures { λ r. ⌜ CallDraws (now (text .entry)) (rowsOf (columns (now (symbols .entry)) (now (places .entry)) (now (starts .entry)) (now (ends .entry)) (now (factors .entry)) (now (divisors .entry))) count) (now (drawing .entry)) left call ink (now (room .entry)) r (now (room .exit)) ⌝ }
+    ensures { λ r. ⌜ take (deepest - left) (now (drawing .exit)) ≡ take (deepest - left) (now (drawing .entry)) ⌝ }
 {
-    if askew {
-        return Drawn::Refused(11, place);
-    }
-    match table::find(
+    match calls::open_call(
         symbols,
         places,
         starts,
@@ -119,55 +68,43 @@ fn draw_call<'a>(
         factors,
         divisors,
         count,
-        symbol,
+        drawing,
+        left,
+        call,
+        ink.counts,
     ) {
-        table::Found::Nothing => {
-            return Drawn::Refused(12, place);
+        calls::Opened::Refused(refusal) => {
+            return Drawn::Refused(refusal);
         }
-        table::Found::Live(row) => {
-            let level = DEEPEST - depth;
-            if is_open(drawing, level, symbol) {
-                return Drawn::Refused(13, place);
-            }
-            if depth == 0 {
-                return Drawn::Refused(14, place);
-            }
-            match counts::count_call(counts) {
-                counts::Counted::Full(refusal) => {
-                    return Drawn::Refused(refusal, place);
-                }
-                counts::Counted::More(more) => {
-                    drawing[level] = symbol;
-                    draw_body(
-                        text,
-                        kinds,
-                        next,
-                        symbols,
-                        places,
-                        starts,
-                        ends,
-                        factors,
-                        divisors,
-                        count,
-                        words,
-                        numbers,
-                        drawing,
-                        room,
-                        net,
-                        depth - 1,
-                        row.start,
-                        row.a,
-                        row.b,
-                        more,
-                        before,
-                    )
-                }
-            }
+        calls::Opened::Descends(row, counts) => {
+            drawing[definition::DEEPEST - left] = call.symbol;
+            let pen = ink.pen;
+            let more = Ink { counts, pen };
+            draw_body(
+                text,
+                kinds,
+                next,
+                symbols,
+                places,
+                starts,
+                ends,
+                factors,
+                divisors,
+                count,
+                words,
+                numbers,
+                drawing,
+                room,
+                left - 1,
+                row,
+                call.net,
+                more,
+            )
         }
     }
 }
 
-// A body: its commands in written order, from the place behind its DS up to its DF. The layer that is set in it is its own.
+// A body: its commands in written order, from the place after its DS up to its DF. The layer that is set in it is its own, and so are its a and b.
 fn draw_body<'a>(
     text: &[u8],
     kinds: &[u8; 256],
@@ -183,41 +120,37 @@ fn draw_body<'a>(
     numbers: &mut [i64],
     drawing: &mut [usize],
     room: &mut [u8],
+    left: usize,
+    row: table::Row,
     net: turns::Net,
-    depth: usize,
-    from: usize,
-    a: usize,
-    b: usize,
-    counts: counts::Counts,
-    before: Pen,
+    before: Ink,
 ) -> Drawn
     requires { ⌜ KindsLent (now kinds) × NextLent (now next) ⌝ }
-    requires { ⌜ Sorted (now symbols) count × Scene (now text) (rowsOf (columns (now symbols) (now places) (now starts) (now ends) (now factors) (now divisors)) count) (now drawing) (32 - depth) ⌝ }
-    requires { ⌜ (length (now text) ≤ 16777216) × (depth ≤ 32) × (length (now drawing) ≡ 32) ⌝ }
+    requires { ⌜ Sorted (now symbols) count × Scene (now text) (rowsOf (columns (now symbols) (now places) (now starts) (now ends) (now factors) (now divisors)) count) (now drawing) (deepest - left) ⌝ }
+    requires { ⌜ (length (now text) ≤ mostBytes) × (left ≤ deepest) × (length (now drawing) ≡ deepest) ⌝ }
     requires { ⌜ (mostValues + 2 ≤ length (now words)) × (mostValues + 2 ≤ length (now numbers)) ⌝ }
-    requires { ⌜ Near ((32 - depth) * 2 ^ 36) net × Reached counts before ⌝ }
-    requires { ⌜ Body (now text) from a b ⌝ }
-    ensures { λ r. ⌜ ((s : Scene (now (text .entry)) (rowsOf (columns (now (symbols .entry)) (now (places .entry)) (now (starts .entry)) (now (ends .entry)) (now (factors .entry)) (now (divisors .entry))) count) (now (drawing .entry)) (32 - depth)) (k : Body (now (text .entry)) from a b) (outer : List (Turn ℤ)) → Carries outer net → Painted counts before (drawBody (drawCall depth (s .table) (s .chain) outer) (s .chain) outer (retained (k .standing) (k .commands))) (now (room .entry)) r (now (room .exit))) ⌝ }
-    ensures { λ r. ⌜ take (32 - depth) (now (drawing .exit)) ≡ take (32 - depth) (now (drawing .entry)) ⌝ }
+    requires { ⌜ Near ((deepest - left) * 2 ^ 36) net × Reached before ⌝ }
+    requires { ⌜ Body (now text) (row .start) (row .a) (row .b) ⌝ }
+    ensures { λ r. ⌜ Draws (now (text .entry)) (rowsOf (columns (now (symbols .entry)) (now (places .entry)) (now (starts .entry)) (now (ends .entry)) (now (factors .entry)) (now (divisors .entry))) count) (now (drawing .entry)) net left (row .start) (row .a) (row .b) before (now (room .entry)) r (now (room .exit)) ⌝ }
+    ensures { λ r. ⌜ take (deepest - left) (now (drawing .exit)) ≡ take (deepest - left) (now (drawing .entry)) ⌝ }
 {
-    let mut spot = body_at(from);
+    let mut spot = body_at(row.start);
     let mut layer: u32 = 0;
-    let mut done = counts;
-    let mut pen = before;
+    let mut ink = before;
     loop {
-        match commands::read_command(text, kinds, next, words, spot, a, b) {
+        match commands::read_command(text, kinds, next, words, spot, row.a, row.b) {
             commands::Read::Nothing => {
-                return Drawn::Done(done, pen);
+                return Drawn::Done(ink);
             }
             commands::Read::Decoded(kind, place, end, to) => {
                 if kind == b'F' {
-                    return Drawn::Done(done, pen);
+                    return Drawn::Done(ink);
                 }
                 spot = to;
                 if kind == b'L' {
                     layer = words[2] as u32;
                 } else if kind == b'C' {
-                    let call = read_call(words, end, net);
+                    let call = calls::read_call(words, end, net, place);
                     match draw_call(
                         text,
                         kinds,
@@ -233,20 +166,15 @@ fn draw_body<'a>(
                         numbers,
                         drawing,
                         room,
-                        call.net,
-                        depth,
-                        call.askew,
-                        place,
-                        call.symbol,
-                        done,
-                        pen,
+                        left,
+                        call,
+                        ink,
                     ) {
-                        Drawn::Done(c, q) => {
-                            done = c;
-                            pen = q;
+                        Drawn::Done(called) => {
+                            ink = called;
                         }
-                        Drawn::Refused(no, p) => {
-                            return Drawn::Refused(no, p);
+                        Drawn::Refused(refusal) => {
+                            return Drawn::Refused(refusal);
                         }
                     }
                 } else if is_drawable(kind) {
@@ -259,15 +187,13 @@ fn draw_body<'a>(
                         net,
                         layer,
                         place,
-                        done,
-                        pen,
+                        ink,
                     ) {
-                        Drawn::Done(c, q) => {
-                            done = c;
-                            pen = q;
+                        Drawn::Done(shown) => {
+                            ink = shown;
                         }
-                        Drawn::Refused(no, p) => {
-                            return Drawn::Refused(no, p);
+                        Drawn::Refused(refusal) => {
+                            return Drawn::Refused(refusal);
                         }
                     }
                 }
@@ -315,19 +241,18 @@ pub fn draw_outer<'a>(
     place: usize,
     end: usize,
     layer: u32,
-    counts: counts::Counts,
-    before: Pen,
+    ink: Ink,
 ) -> Drawn
     requires { ⌜ KindsLent (now kinds) × NextLent (now next) ⌝ }
     requires { ⌜ Sorted (now symbols) count × ((table : Table) × Stands (now text) (rowsOf (columns (now symbols) (now places) (now starts) (now ends) (now factors) (now divisors)) count) table) ⌝ }
-    requires { ⌜ (length (now text) ≤ 16777216) × (length (now drawing) ≡ 32) ⌝ }
+    requires { ⌜ (length (now text) ≤ mostBytes) × (length (now drawing) ≡ deepest) ⌝ }
     requires { ⌜ (mostValues + 2 ≤ length (now words)) × (mostValues + 2 ≤ length (now numbers)) ⌝ }
-    requires { ⌜ Speaks (now words) kind end × Reached counts before ⌝ }
-    ensures { λ r. ⌜ ((h : Speaks (now (words .entry)) kind end) (table : Table) → Stands (now (text .entry)) (rowsOf (columns (now (symbols .entry)) (now (places .entry)) (now (starts .entry)) (now (ends .entry)) (now (factors .entry)) (now (divisors .entry))) count) table → nameOf layer ≡ h .standing .layer-set → Painted counts before (drawnBy table (h .standing) place (h .command)) (now (room .entry)) r (now (room .exit))) ⌝ }
+    requires { ⌜ Speaks (now words) kind end × Reached ink ⌝ }
+    ensures { λ r. ⌜ OuterDraws (now (text .entry)) (rowsOf (columns (now (symbols .entry)) (now (places .entry)) (now (starts .entry)) (now (ends .entry)) (now (factors .entry)) (now (divisors .entry))) count) (now (words .entry)) kind place end layer ink (now (room .entry)) r (now (room .exit)) ⌝ }
 {
     let still = turns::still();
     if kind == b'C' {
-        let call = read_call(words, end, still);
+        let call = calls::read_call(words, end, still, place);
         return draw_call(
             text,
             kinds,
@@ -343,28 +268,13 @@ pub fn draw_outer<'a>(
             numbers,
             drawing,
             room,
-            call.net,
-            DEEPEST,
-            call.askew,
-            place,
-            call.symbol,
-            counts,
-            before,
+            definition::DEEPEST,
+            call,
+            ink,
         );
     }
     if is_drawable(kind) {
-        return shapes::draw_shape(
-            words,
-            numbers,
-            room,
-            kind,
-            end,
-            still,
-            layer,
-            place,
-            counts,
-            before,
-        );
+        return shapes::draw_shape(words, numbers, room, kind, end, still, layer, place, ink);
     }
-    Drawn::Done(counts, before)
+    Drawn::Done(ink)
 }

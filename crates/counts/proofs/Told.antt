@@ -16,7 +16,8 @@ use Rattle.definition.specs.Counts.{End, finished, stopped, counted}
 use Rattle.counts.specs.declared.Counts.{Counts}
 use Rattle.counts.specs.declared.Counted.{Counted}
 use Rattle.counts.specs.declared.Counted.the-variants.{More, Full}
-use Rattle.counts.specs.Counting.{mostCalls, mostShapes, tally, withCalls, withShapes, withRedefinitions, tried, answered, endOf}
+use Rattle.definition.specs.Limits.{mostCalls, mostShapes}
+use Rattle.counts.specs.Counting.{tally, withCalls, withShapes, withRedefinitions, tried, answered, endOf}
 use Rattle.counts.specs.Counting.{AddsCall, AddsShape, CountsCall, CountsShape, CountsRedefinition}
 
 -- ---- the two answers

@@ -10,16 +10,11 @@ use Rattle.definition.specs.Table.{Definition, Table, find}
 use Rattle.definition.specs.Drawing.{Chain, Drawn, called, drew, entered}
 use Rattle.definition.specs.Counts.{counts, End, finished, stopped, counted}
 use Rattle.definition.specs.Counts.{Counts as Tally}
+use Rattle.definition.specs.Limits.{mostCalls, mostShapes}
 use Rattle.counts.specs.declared.Counts.{Counts}
 use Rattle.counts.specs.declared.Tried.{Tried}
 use Rattle.counts.specs.declared.Counted.{Counted}
 use Rattle.counts.specs.declared.Counted.the-variants.{More, Full}
-
-abbrev pub mostCalls : ℕ
-mostCalls = 1048576
-
-abbrev pub mostShapes : ℕ
-mostShapes = 1048576
 
 -- the record, as the definition has it
 abbrev pub tally : Counts → Tally

@@ -4,11 +4,6 @@ ghost use mathlib.Core.Path.{_≡_};
 ghost use Prim.Native.Nat.{_+_, _<_, _^_};
 ghost use Rattle.counts.specs.Counting.{noCounts, withRedefinitions, tried, answered, AddsCall, AddsShape, CountsCall, CountsShape, CountsRedefinition};
 
-// 01, refusals 15 and 17: the most calls and the most shapes that are drawn.
-const MOST_CALLS: usize = 1_048_576;
-
-const MOST_SHAPES: usize = 1_048_576;
-
 pub struct Counts {
     pub calls: usize,
     pub shapes: usize,
@@ -79,7 +74,7 @@ fn answer(refusal: usize, counts: Counts) -> Counted
 fn add_call(counts: &mut Counts) -> usize
     ensures { λ r. ⌜ AddsCall (now (counts .entry)) r (now (counts .exit)) ⌝ }
 {
-    let tried = one_more(counts.calls, MOST_CALLS, 15);
+    let tried = one_more(counts.calls, definition::MOST_CALLS, 15);
     counts.calls = tried.count;
     tried.refusal
 }
@@ -88,7 +83,7 @@ fn add_call(counts: &mut Counts) -> usize
 fn add_shape(counts: &mut Counts) -> usize
     ensures { λ r. ⌜ AddsShape (now (counts .entry)) r (now (counts .exit)) ⌝ }
 {
-    let tried = one_more(counts.shapes, MOST_SHAPES, 17);
+    let tried = one_more(counts.shapes, definition::MOST_SHAPES, 17);
     counts.shapes = tried.count;
     tried.refusal
 }

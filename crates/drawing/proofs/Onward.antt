@@ -21,15 +21,15 @@ use Rattle.pieces.specs.Pieces.{start as textStart}
 use Rattle.pieces.specs.declared.Spot.{Spot}
 use Rattle.rules.specs.Letters.{letterD, letterL}
 use Rattle.rules.specs.Written.{Written, written}
-use Rattle.counts.specs.declared.Counts.{Counts}
-use Rattle.shapes.specs.declared.Pen.{Pen}
+use Rattle.definition.specs.declared.Refusal.{Refusal}
+use Rattle.shapes.specs.declared.Ink.{Ink}
 use Rattle.shapes.specs.declared.Drawn.the-variants.{Done, Refused}
 use Rattle.shapes.specs.Painting.{Painted}
 use Rattle.bodies.specs.Voices.{Voice, a-shape, a-call, a-layer, a-start, a-finish, a-delete, a-nothing, Told}
 use Rattle.bodies.specs.Rows.{Stands, none-stand}
 use Rattle.bodies.specs.Outer.{drawnBy}
-use Rattle.drawing.specs.Outside.{Opens, behindStart, definitionAt, Passes}
-use Rattle.drawing.specs.Passed.{Passed, toDraw, noneYet, atStart}
+use Rattle.definitions.specs.Defining.{Opens, behindStart, definitionAt, Passes}
+use Rattle.drawing.specs.Passed.{Passed, toDraw, dry}
 use Rattle.shapes.proofs.Painting.{Going, begun, so-far, goes-on, skips, stops, over, quiet}
 use Rattle.bodies.proofs.Reading.{Met, none-met}
 use Rattle.bodies.proofs.Letters.{is-start}
@@ -37,8 +37,8 @@ use Rattle.bodies.proofs.Rows.{forget-stands}
 use Rattle.bodies.proofs.Steps.{start-told, delete-told, layer-told, nothing-told, outer-shape, outer-call}
 use Rattle.drawing.proofs.Voices.{told-text}
 
--- between two commands: the rows, the spot, the packed layer, the counts, the pen and the room as they are
-pub record Onward (t : List ℕ) (all : List Event) (room₀ : List ℕ) (rows : List Row) (spot : Spot) (layer : ℕ) (c : Counts) (pen : Pen) (room : List ℕ) : Type 0 where
+-- between two commands: the rows, the spot, the packed layer, the ink and the room as they are
+pub record Onward (t : List ℕ) (all : List Event) (room₀ : List ℕ) (rows : List Row) (spot : Spot) (layer : ℕ) (ink : Ink) (room : List ℕ) : Type 0 where
   pub standing : Standing
   pub commands : List (Placed Command)
   pub told : Told standing (written (stream t spot)) commands
@@ -48,9 +48,9 @@ pub record Onward (t : List ℕ) (all : List Event) (room₀ : List ℕ) (rows :
   pub layer-is : nameOf layer ≡ standing .layer-set
   pub table : Table
   pub stands : Stands t rows table
-  pub going : Going all noneYet atStart room₀ (story table (deeds standing commands)) c pen room
+  pub going : Going all dry room₀ (story table (deeds standing commands)) ink room
 
-pub start-text : {t : List ℕ} (p : Passed t) (room : List ℕ) → Onward t (toDraw p) room [] textStart 0 noneYet atStart room
+pub start-text : {t : List ℕ} (p : Passed t) (room : List ℕ) → Onward t (toDraw p) room [] textStart 0 dry room
 start-text p room = record {
   standing = outside [];
   commands = commands 0 (p .letters);
@@ -61,7 +61,7 @@ start-text p room = record {
   layer-is = no-name 0 refl;
   table = [];
   stands = none-stand;
-  going = begun (toDraw p) noneYet atStart room (record { calls-most = omega arith; shapes-most = omega arith; place-most = omega arith });
+  going = begun (toDraw p) dry room (record { calls-most = omega arith; shapes-most = omega arith; place-most = omega arith });
 }
 
 -- a command that is no L, DS or DD draws its events and leaves what stands
@@ -76,16 +76,16 @@ outer-step (a-delete e v i) o f g h t p ds = absurd (g e)
 outer-step (a-start e v i m s k j) o f g h t p ds = absurd (h e)
 outer-step (a-finish e i) o f g h t p ds = absurd (let z : _≡_ {A = Bool} false true = sym o ∙ i in let y : _≡_ {A = ℕ} 0 1 = cc in omega arith)
 
-module _ {t : List ℕ} {all : List Event} {room₀ : List ℕ} {rows : List Row} {spot : Spot} {l : ℕ} {c : Counts} {pen : Pen} {room : List ℕ}
-    (g : Onward t all room₀ rows spot l c pen room) where
+module _ {t : List ℕ} {all : List Event} {room₀ : List ℕ} {rows : List Row} {spot : Spot} {l : ℕ} {ink : Ink} {room : List ℕ}
+    (g : Onward t all room₀ rows spot l ink room) where
   abbrev σ : Standing
   σ = g .standing
 
-  abbrev Next : List Row → Spot → ℕ → Counts → Pen → List ℕ → Type 0
-  Next rows′ to l′ c′ pen′ room′ = Onward t all room₀ rows′ to l′ c′ pen′ room′
+  abbrev Next : List Row → Spot → ℕ → Ink → List ℕ → Type 0
+  Next rows′ to l′ ink′ room′ = Onward t all room₀ rows′ to l′ ink′ room′
 
   -- no command is left
-  pub text-out : written (stream t spot) ≡ [] → Painted noneYet atStart all room₀ (Done c pen) room
+  pub text-out : written (stream t spot) ≡ [] → Painted dry all room₀ (Done ink) room
   unfolding deeds story
   text-out e = over (g .going) (ap (λ (ds : List (Placed Command)). story (g .table) (deeds σ ds)) (none-met t spot (g .told) e))
 
@@ -97,7 +97,7 @@ module _ {t : List ℕ} {all : List Event} {room₀ : List ℕ} {rows : List Row
     told-then e = subst (λ (d : Command). Told (after d σ) (written (stream t to)) (m .rest)) e (m .told)
 
     -- a layer is set
-    pub text-layer : (v : ℕ) → m .command ≡ layer (nameOf v) → Next rows to v c pen room
+    pub text-layer : (v : ℕ) → m .command ≡ layer (nameOf v) → Next rows to v ink room
     unfolding after
     text-layer v e = record {
       standing = after (layer (nameOf v)) σ;
@@ -113,7 +113,7 @@ module _ {t : List ℕ} {all : List Event} {room₀ : List ℕ} {rows : List Row
     }
 
     -- entries of this number or more are removed
-    pub text-delete : (i : _) → m .command ≡ delete i → {rows′ : List Row} → rows′ ≡ forgetRow (natAbs (i .what)) rows → Next rows′ to l c pen room
+    pub text-delete : (i : _) → m .command ≡ delete i → {rows′ : List Row} → rows′ ≡ forgetRow (natAbs (i .what)) rows → Next rows′ to l ink room
     unfolding after counted shapesOf
     text-delete i e q = record {
       standing = σ;
@@ -127,7 +127,7 @@ module _ {t : List ℕ} {all : List Event} {room₀ : List ℕ} {rows : List Row
       stands = subst (λ (rs : List Row). Stands t rs (forget (natAbs (i .what)) (g .table))) (sym q) (forget-stands (natAbs (i .what)) (g .stands));
       going =
           goes-on (g .going) (removed (at p (natAbs (i .what))) (g .table) ∷ []) (story (forget (natAbs (i .what)) (g .table)) (deeds σ (m .rest)))
-          (left-is e ∙ delete-told (g .table) σ p (m .rest) i) (quiet c c pen (removed (at p (natAbs (i .what))) (g .table)) room refl refl (so-far (g .going)));
+          (left-is e ∙ delete-told (g .table) σ p (m .rest) i) (quiet ink (ink .counts) (removed (at p (natAbs (i .what))) (g .table)) room refl refl (so-far (g .going)));
     }
 
     -- ---- a definition
@@ -154,8 +154,8 @@ module _ {t : List ℕ} {all : List Event} {room₀ : List ℕ} {rows : List Row
           story (g .table) (deeds σ (g .commands)) ≡ happens (g .table) (define d) ++ story (enter d (g .table)) (deeds (behindStart h) (h .commands))
       defined-left = left-is (is-start (m .voice) e .is) ∙ start-told (g .table) σ p (m .rest) (is-start (m .voice) e .n) (is-start (m .voice) e .a) (is-start (m .voice) e .b)
 
-      pub text-defined : {to′ : Spot} {rows′ : List Row} {c′ : Counts} → let h = text-opens e in let d = definitionAt h p in Stands t rows′ (enter d (g .table))
-          → Painted c pen (happens (g .table) (define d)) room (Done c′ pen) room → Passes t (behindStart h) (h .commands) to′ → Next rows′ to′ l c′ pen room
+      pub text-defined : {to′ : Spot} {rows′ : List Row} {ink′ : Ink} → let h = text-opens e in let d = definitionAt h p in Stands t rows′ (enter d (g .table))
+          → Painted ink (happens (g .table) (define d)) room (Done ink′) room → Passes t (behindStart h) (h .commands) to′ → Next rows′ to′ l ink′ room
       unfolding after
       text-defined s painted passes =
           let d = definitionAt (text-opens e) p in
@@ -174,8 +174,8 @@ module _ {t : List ℕ} {all : List Event} {room₀ : List ℕ} {rows : List Row
                 (defined-left ∙ ap (λ (es : List Event). happens (g .table) (define d) ++ es) (passes .left (enter d (g .table)))) painted;
           }
 
-      pub text-overfull : {q : ℕ} → let d = definitionAt (text-opens e) p in Painted c pen (happens (g .table) (define d)) room (Refused 10 q) room
-          → Painted noneYet atStart all room₀ (Refused 10 q) room
+      pub text-overfull : {why : Refusal} → let d = definitionAt (text-opens e) p in Painted ink (happens (g .table) (define d)) room (Refused why) room
+          → Painted dry all room₀ (Refused why) room
       text-overfull painted =
           let h = text-opens e in
           let d = definitionAt h p in
@@ -195,7 +195,7 @@ module _ {t : List ℕ} {all : List Event} {room₀ : List ℕ} {rows : List Row
           left-is refl
           ∙ (outer-step (m .voice) (g .closed) no-l no-d no-s (g .table) p (m .rest) .1 ∙ ap (λ (s : Standing). drawn-now ++ story (g .table) (deeds s (m .rest))) stays)
 
-      pub text-drawn : {c′ : Counts} {pen′ : Pen} {room′ : List ℕ} → Painted c pen drawn-now room (Done c′ pen′) room′ → Next rows to l c′ pen′ room′
+      pub text-drawn : {ink′ : Ink} {room′ : List ℕ} → Painted ink drawn-now room (Done ink′) room′ → Next rows to l ink′ room′
       text-drawn x = record {
         standing = σ;
         commands = m .rest;
@@ -209,5 +209,5 @@ module _ {t : List ℕ} {all : List Event} {room₀ : List ℕ} {rows : List Row
         going = goes-on (g .going) drawn-now (story (g .table) (deeds σ (m .rest))) drawn-left x;
       }
 
-      pub text-stopped : {i q : ℕ} {room′ : List ℕ} → Painted c pen drawn-now room (Refused i q) room′ → Painted noneYet atStart all room₀ (Refused i q) room′
+      pub text-stopped : {why : Refusal} {room′ : List ℕ} → Painted ink drawn-now room (Refused why) room′ → Painted dry all room₀ (Refused why) room′
       text-stopped x = stops (g .going) drawn-now (story (g .table) (deeds σ (m .rest))) drawn-left x

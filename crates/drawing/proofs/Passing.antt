@@ -16,7 +16,6 @@ use Rattle.definition.specs.Commands.{layer}
 use Rattle.definition.specs.Table.{Table}
 use Rattle.pen.specs.Names.{nameOf}
 use Rattle.table.specs.Rows.{Columns, rowsFrom, rowsOf, Sorted, Sized, Forgets, forgetRow}
-use Rattle.table.specs.declared.Row.{Row}
 use Rattle.pieces.specs.Pieces.{letterS, Fit}
 use Rattle.pieces.specs.Pieces.{start as textStart}
 use Rattle.pieces.specs.declared.Spot.{Spot}
@@ -26,17 +25,19 @@ use Rattle.commands.specs.declared.Read.{Read}
 use Rattle.commands.specs.declared.Read.the-variants.{Nothing}
 use Rattle.commands.specs.Words.{DecodedOne, ReadsCommand}
 use Rattle.counts.specs.declared.Counts.{Counts}
-use Rattle.shapes.specs.declared.Pen.{Pen}
+use Rattle.definition.specs.declared.Refusal.{Refusal}
+use Rattle.shapes.specs.declared.Ink.{Ink}
 use Rattle.shapes.specs.declared.Drawn.{Drawn}
 use Rattle.shapes.specs.declared.Drawn.the-variants.{Done, Refused}
-use Rattle.drawing.specs.declared.Defined.{Defined}
-use Rattle.drawing.specs.declared.Defined.the-variants.{Taken, Overfull}
-use Rattle.shapes.specs.Painting.{Reached, Answered, Painted}
+use Rattle.definitions.specs.declared.Defined.{Defined}
+use Rattle.definitions.specs.declared.Defined.the-variants.{Taken, Overfull}
+use Rattle.shapes.specs.Painting.{inked, Reached, Answered, Painted}
 use Rattle.moves.specs.Moves.{mostValues}
 use Rattle.bodies.specs.Rows.{Stands}
 use Rattle.bodies.specs.Outer.{drawnBy, Speaks}
-use Rattle.drawing.specs.Outside.{Opens, Takes, Defines}
-use Rattle.drawing.specs.Passed.{Passed, toDraw, noneYet, atStart}
+use Rattle.bodies.specs.Draws.{OuterDraws}
+use Rattle.definitions.specs.Defining.{Opens, Takes, Defines, DefinesAt}
+use Rattle.drawing.specs.Passed.{Passed, toDraw, dry}
 use Rattle.shapes.proofs.Painting.{so-far, room-kept}
 use Rattle.bodies.proofs.Reading.{Met, meets, run-kept, read-none, speaks, spoken-layer, third-word}
 use Rattle.bodies.proofs.Letters.{is-delete}
@@ -45,23 +46,23 @@ use Rattle.bodies.proofs.Underway.{natural-fits}
 use Rattle.drawing.proofs.Onward.{Onward, start-text, text-out, text-layer, text-delete, text-opens, text-defined, text-overfull, text-drawn, text-stopped}
 
 pub record Passing (t : List ℕ) (words₀ numbers₀ : List ℤ) (drawing₀ room₀ : List ℕ) (cols : Columns) (words numbers : List ℤ) (drawing room : List ℕ) (spot : Spot) (layer count : ℕ)
-    (c : Counts) (pen : Pen) : Type 0 where
+    (ink : Ink) : Type 0 where
   pub passed : Passed t
-  pub onward : (p : Passed t) → Onward t (toDraw p) room₀ (rowsOf cols count) spot layer c pen room
+  pub onward : (p : Passed t) → Onward t (toDraw p) room₀ (rowsOf cols count) spot layer ink room
   pub fit : Fit t spot
   pub sorted : Sorted (cols .symbols) count
   pub sized : Sized cols
   pub words-kept : length words ≡ length words₀
   pub numbers-kept : length numbers ≡ length numbers₀
   pub drawing-kept : length drawing ≡ length drawing₀
-  pub redefined : c .redefinitions ≤ spot .at
+  pub redefined : ink .counts .redefinitions ≤ spot .at
 
-pub passing-begin : {t : List ℕ} (words numbers : List ℤ) (drawing room : List ℕ) (cols : Columns) → Passed t → Sized cols → {c : Counts} → c ≡ noneYet
-    → Passing t words numbers drawing room cols words numbers drawing room textStart 0 0 c atStart
+pub passing-begin : {t : List ℕ} (words numbers : List ℤ) (drawing room : List ℕ) (cols : Columns) → Passed t → Sized cols → {c : Counts} → c ≡ dry .counts
+    → Passing t words numbers drawing room cols words numbers drawing room textStart 0 0 (inked c (dry .pen))
 unfolding rowsFrom
-passing-begin {t} words numbers drawing room cols p s e = subst (λ (c : Counts). Passing t words numbers drawing room cols words numbers drawing room textStart 0 0 c atStart) (sym e) begin
+passing-begin {t} words numbers drawing room cols p s e = subst (λ (c : Counts). Passing t words numbers drawing room cols words numbers drawing room textStart 0 0 (inked c (dry .pen))) (sym e) begin
   where
-    begin : Passing t words numbers drawing room cols words numbers drawing room textStart 0 0 noneYet atStart
+    begin : Passing t words numbers drawing room cols words numbers drawing room textStart 0 0 dry
     begin = record {
       passed = p;
       onward = λ q. start-text q room;
@@ -74,26 +75,18 @@ passing-begin {t} words numbers drawing room cols p s e = subst (λ (c : Counts)
       redefined = omega arith;
     }
 
--- what `define` and `draw_outer` promise of their answers
-abbrev pub DefinesAt : (t : List ℕ) (old new : Columns) (words : List ℤ) (from : Spot) (place : ℕ) (c : Counts) (count : ℕ) → Defined → Type 0
-DefinesAt t old new words from place c count r = (h : Opens t words from) (table : Table) → Stands t (rowsOf old count) table → Defines t new words from place c h table r
-
-abbrev pub OuterDraws : (t : List ℕ) (rows : List Row) (words : List ℤ) (kind end layer place : ℕ) → Counts → Pen → List ℕ → Drawn → List ℕ → Type 0
-OuterDraws t rows words kind end l place c pen room r room′ =
-    (h : Speaks words kind end) (table : Table) → Stands t rows table → nameOf l ≡ h .standing .layer-set → Painted c pen (drawnBy table (h .standing) place (h .command)) room r room′
-
-module _ {t : List ℕ} {words₀ numbers₀ : List ℤ} {drawing₀ room₀ : List ℕ} {cols : Columns} {words numbers : List ℤ} {drawing room : List ℕ} {spot : Spot} {l count : ℕ} {c : Counts} {pen : Pen}
-    (w : Passing t words₀ numbers₀ drawing₀ room₀ cols words numbers drawing room spot l count c pen) where
+module _ {t : List ℕ} {words₀ numbers₀ : List ℤ} {drawing₀ room₀ : List ℕ} {cols : Columns} {words numbers : List ℤ} {drawing room : List ℕ} {spot : Spot} {l count : ℕ} {ink : Ink}
+    (w : Passing t words₀ numbers₀ drawing₀ room₀ cols words numbers drawing room spot l count ink) where
   abbrev Answers : Drawn → List ℕ → Type 0
-  Answers r room′ = (p : Passed t) → Painted noneYet atStart (toDraw p) room₀ r room′
+  Answers r room′ = (p : Passed t) → Painted dry (toDraw p) room₀ r room′
 
-  abbrev Next : Columns → List ℤ → List ℤ → List ℕ → List ℕ → Spot → ℕ → ℕ → Counts → Pen → Type 0
-  Next cols′ ws ns drawing′ room′ to l′ count′ c′ pen′ = Passing t words₀ numbers₀ drawing₀ room₀ cols′ ws ns drawing′ room′ to l′ count′ c′ pen′
+  abbrev Next : Columns → List ℤ → List ℤ → List ℕ → List ℕ → Spot → ℕ → ℕ → Ink → Type 0
+  Next cols′ ws ns drawing′ room′ to l′ count′ ink′ = Passing t words₀ numbers₀ drawing₀ room₀ cols′ ws ns drawing′ room′ to l′ count′ ink′
 
-  here : Onward t (toDraw (w .passed)) room₀ (rowsOf cols count) spot l c pen room
+  here : Onward t (toDraw (w .passed)) room₀ (rowsOf cols count) spot l ink room
   here = w .onward (w .passed)
 
-  pub reached-there : Reached c pen
+  pub reached-there : Reached ink
   reached-there = so-far (here .going)
 
   pub room-there : length room ≡ length room₀
@@ -102,18 +95,18 @@ module _ {t : List ℕ} {words₀ numbers₀ : List ℤ} {drawing₀ room₀ : L
   pub table-there : (table : Table) × Stands t (rowsOf cols count) table
   table-there = (here .table, here .stands)
 
-  pub few-redefined : c .redefinitions ≤ length t
+  pub few-redefined : ink .counts .redefinitions ≤ length t
   few-redefined = omega (arith, w .redefined, w .fit .within)
 
   -- nothing is left
-  pub passing-out : (r : Read) (words′ : List ℤ) → ReadsCommand t spot 1 1 words r words′ → r ≡ Nothing → Answers (Done c pen) room
+  pub passing-out : (r : Read) (words′ : List ℤ) → ReadsCommand t spot 1 1 words r words′ → r ≡ Nothing → Answers (Done ink) room
   passing-out r words′ x e p = text-out (w .onward p) (read-none t spot 1 1 words r words′ x e)
 
   module _ {account : Written} {kind place n : ℕ} {to : Spot} {words′ : List ℤ} (big : mostValues + 2 ≤ length words₀) (r : DecodedOne t spot 1 1 account words kind place n to words′) where
     pub words-then : mostValues + 2 ≤ length words′
     words-then = let e = run-kept r in omega (arith, big, w .words-kept)
 
-    met : {all : List _} (g : Onward t all room₀ (rowsOf cols count) spot l c pen room) → Met t (g .standing) (g .commands) kind place n to words′
+    met : {all : List _} (g : Onward t all room₀ (rowsOf cols count) spot l ink room) → Met t (g .standing) (g .commands) kind place n to words′
     met g = meets (g .told) (g .same-a) (g .same-b) (omega (arith, big, w .words-kept)) r
 
     -- ---- a layer
@@ -121,7 +114,7 @@ module _ {t : List ℕ} {words₀ numbers₀ : List ℤ} {drawing₀ room₀ : L
     pub layer-fits : kind ≡ letterL → SFits w32 (getD words′ 2 (pos 0)) → let z = toZ w32 (ofZ w32 (getD words′ 2 (pos 0))) in T (nonNeg z) × Fits w32 (natAbs z)
     layer-fits e h = let i = spoken-layer (speaks (met here)) e in natural-fits (getD words′ 2 (pos 0)) (i .0) (i .2) h
 
-    pub passing-layer : kind ≡ letterL → SFits w32 (getD words′ 2 (pos 0)) → Next cols words′ numbers drawing room to (natAbs (toZ w32 (ofZ w32 (getD words′ 2 (pos 0))))) count c pen
+    pub passing-layer : kind ≡ letterL → SFits w32 (getD words′ 2 (pos 0)) → Next cols words′ numbers drawing room to (natAbs (toZ w32 (ofZ w32 (getD words′ 2 (pos 0))))) count ink
     passing-layer e h = record {
       passed = w .passed;
       onward =
@@ -141,7 +134,7 @@ module _ {t : List ℕ} {words₀ numbers₀ : List ℤ} {drawing₀ room₀ : L
     -- ---- a deletion
 
     pub passing-delete : kind ≡ letterD → {symbol left : ℕ} → symbol ≡ natAbs (getD words′ 2 (pos 0)) → Forgets (cols .symbols) count symbol left
-        → Next cols words′ numbers drawing room to l left c pen
+        → Next cols words′ numbers drawing room to l left ink
     passing-delete e {symbol} {left} q f = record {
       passed = w .passed;
       onward =
@@ -166,21 +159,21 @@ module _ {t : List ℕ} {words₀ numbers₀ : List ℤ} {drawing₀ room₀ : L
       pub passing-opens : Opens t words′ to
       passing-opens = text-opens here (met here) e
 
-      module _ (new : Columns) {d : Defined} (defines : DefinesAt t cols new words′ to place c count d) where
+      module _ (new : Columns) {d : Defined} (defines : DefinesAt t cols new words′ to place (ink .counts) count d) where
         takes : (p : Passed t) {count′ : ℕ} {c′ : Counts} {to′ : Spot} → d ≡ Taken count′ c′ to′ → let g = w .onward p in
-            Takes t new words′ to place c (text-opens g (met g) e) (g .table) count′ c′ to′
+            Takes t new words′ to place (ink .counts) (text-opens g (met g) e) (g .table) count′ c′ to′
         unfolding Defines
-        takes p q = let g = w .onward p in subst (Defines t new words′ to place c (text-opens g (met g) e) (g .table)) q (defines (text-opens g (met g) e) (g .table) (g .stands))
+        takes p q = let g = w .onward p in subst (Defines t new words′ to place (ink .counts) (text-opens g (met g) e) (g .table)) q (defines (text-opens g (met g) e) (g .table) (g .stands))
 
         pub defined-on : {count′ : ℕ} {c′ : Counts} {to′ : Spot} → d ≡ Taken count′ c′ to′ → (length t - to′ .at < length t - spot .at)
         defined-on q = let k = takes (w .passed) q in omega (arith, k .ahead, k .fit .within, r .ahead)
 
-        pub passing-defined : {count′ : ℕ} {c′ : Counts} {to′ : Spot} {ws : List ℤ} → d ≡ Taken count′ c′ to′ → length ws ≡ length words′ → Next new ws numbers drawing room to′ l count′ c′ pen
+        pub passing-defined : {count′ : ℕ} {c′ : Counts} {to′ : Spot} {ws : List ℤ} → d ≡ Taken count′ c′ to′ → length ws ≡ length words′ → Next new ws numbers drawing room to′ l count′ (inked c′ (ink .pen))
         passing-defined q kept =
             let k = takes (w .passed) q in
             record {
               passed = w .passed;
-              onward = λ p. let g = w .onward p in let x = takes p q in text-defined g (met g) e (x .stands) (x .happened pen room (so-far (g .going))) (x .passes);
+              onward = λ p. let g = w .onward p in let x = takes p q in text-defined g (met g) e (x .stands) (x .happened (ink .pen) room (so-far (g .going))) (x .passes);
               fit = k .fit;
               sorted = k .sorted;
               sized = k .sized;
@@ -190,11 +183,11 @@ module _ {t : List ℕ} {words₀ numbers₀ : List ℤ} {drawing₀ room₀ : L
               redefined = omega (arith, w .redefined, k .redefined, k .ahead, r .ahead);
             }
 
-        pub passing-overfull : d ≡ Overfull → Answers (Refused 10 place) room
+        pub passing-overfull : d ≡ Overfull → Answers (Refused (record { number = 10; place = place })) room
         unfolding Defines
         passing-overfull q p =
             let g = w .onward p in
-            text-overfull g (met g) e (subst (Defines t new words′ to place c (text-opens g (met g) e) (g .table)) q (defines (text-opens g (met g) e) (g .table) (g .stands)) pen room)
+            text-overfull g (met g) e (subst (Defines t new words′ to place (ink .counts) (text-opens g (met g) e) (g .table)) q (defines (text-opens g (met g) e) (g .table) (g .stands)) (ink .pen) room)
 
     -- ---- any other command
 
@@ -202,14 +195,14 @@ module _ {t : List ℕ} {words₀ numbers₀ : List ℤ} {drawing₀ room₀ : L
     passing-speaks = speaks (met here)
 
     module _ (no-l : kind ≡ letterL → ⊥) (no-d : kind ≡ letterD → ⊥) (no-s : kind ≡ letterS → ⊥) {room′ : List ℕ} {d : Drawn}
-        (draws : OuterDraws t (rowsOf cols count) words′ kind n l place c pen room d room′) where
-      painted : (p : Passed t) {x : Drawn} → d ≡ x → let g = w .onward p in Painted c pen (drawnBy (g .table) (g .standing) place (met g .command)) room x room′
+        (draws : OuterDraws t (rowsOf cols count) words′ kind place n l ink room d room′) where
+      painted : (p : Passed t) {x : Drawn} → d ≡ x → let g = w .onward p in Painted ink (drawnBy (g .table) (g .standing) place (met g .command)) room x room′
       painted p q =
           let g = w .onward p in
-          subst (λ (y : Drawn). Painted c pen (drawnBy (g .table) (g .standing) place (met g .command)) room y room′) q (draws (speaks (met g)) (g .table) (g .stands) (g .layer-is))
+          subst (λ (y : Drawn). Painted ink (drawnBy (g .table) (g .standing) place (met g .command)) room y room′) q (draws (speaks (met g)) (g .table) (g .stands) (g .layer-is))
 
-      pub passing-drawn : {c′ : Counts} {pen′ : Pen} {ws ns : List ℤ} {drawing′ : List ℕ} → d ≡ Done c′ pen′ → length ws ≡ length words′ → length ns ≡ length numbers → length drawing′ ≡ length drawing
-          → Next cols ws ns drawing′ room′ to l count c′ pen′
+      pub passing-drawn : {ink′ : Ink} {ws ns : List ℤ} {drawing′ : List ℕ} → d ≡ Done ink′ → length ws ≡ length words′ → length ns ≡ length numbers → length drawing′ ≡ length drawing
+          → Next cols ws ns drawing′ room′ to l count ink′
       unfolding Answered here
       passing-drawn q kw kn kd = record {
         passed = w .passed;
@@ -225,5 +218,5 @@ module _ {t : List ℕ} {words₀ numbers₀ : List ℤ} {drawing₀ room₀ : L
             omega (arith, w .redefined, r .ahead, same);
       }
 
-      pub passing-stopped : {i q : ℕ} → d ≡ Refused i q → Answers (Refused i q) room′
+      pub passing-stopped : {why : Refusal} → d ≡ Refused why → Answers (Refused why) room′
       passing-stopped e p = let g = w .onward p in text-stopped g (met g) no-l no-d no-s (painted p e)

@@ -16,8 +16,7 @@ use Rattle.definition.specs.Turns.{moved}
 use Rattle.definition.specs.Table.{Step, shape, instance, setting, Definition, Table, find}
 use Rattle.definition.specs.Drawing.{Chain, Event, called, drew, entered, removed, refused, drawShape, drawStep, drawBody, callFault, unless, drawCall}
 use Rattle.laws.proofs.Story.Counting.{redefinitionsOf, counted-all}
-use Rattle.counts.specs.declared.Counts.{Counts}
-use Rattle.shapes.specs.declared.Pen.{Pen}
+use Rattle.shapes.specs.declared.Ink.{Ink}
 use Rattle.counts.specs.Counting.{tally}
 use Rattle.shapes.specs.Painting.{Goes}
 use Rattle.bodies.specs.Outer.{drawnBy}
@@ -83,8 +82,8 @@ drawn-bare t σ p (delete n) = refl
 drawn-bare t σ p nothing = refl
 
 -- so a command that is drawn leaves the count as it is
-pub drawn-same : (t : Table) (σ : Standing) (p : ℕ) (d : Command) {c c′ : Counts} {pen pen′ : Pen} → Goes c pen (drawnBy t σ p d) c′ pen′ → c′ .redefinitions ≡ c .redefinitions
-drawn-same t σ p d {c} {c′} g =
-    let k = counted-all (tally c) (drawnBy t σ p d) (tally c′) (g .ends) in
+pub drawn-same : (t : Table) (σ : Standing) (p : ℕ) (d : Command) {ink ink′ : Ink} → Goes ink (drawnBy t σ p d) ink′ → ink′ .counts .redefinitions ≡ ink .counts .redefinitions
+drawn-same t σ p d {ink} {ink′} g =
+    let k = counted-all (tally (ink .counts)) (drawnBy t σ p d) (tally (ink′ .counts)) (g .ends) in
     let n : length (redefinitionsOf (drawnBy t σ p d)) ≡ 0 = ap length (drawn-bare t σ p d) in
     omega (arith, k .redefinitions-are, n)

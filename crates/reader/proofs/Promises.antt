@@ -11,6 +11,7 @@ use Rattle.grammar.specs.Viable.{Judged}
 use Rattle.grammar.specs.declared.Verdict.{Verdict}
 use Rattle.grammar.specs.declared.Verdict.the-variants.{InGrammar, StuckAt}
 use Rattle.definition.specs.declared.Answer.{Answer}
+use Rattle.definition.specs.declared.Refusal.{Refusal as Reason}
 use Rattle.definition.specs.Commands.{commands}
 use Rattle.definition.specs.Faults.{Refusal, firstFault}
 use Rattle.definition.specs.Drawing.{Chain, Event}
@@ -28,13 +29,12 @@ use Rattle.pen.specs.Names.{nameOf}
 use Rattle.digits.specs.Writes.{Writes}
 use Rattle.pen.proofs.Names.{no-name}
 use Rattle.digits.proofs.Writing.{both, written, begins}
-use Rattle.counts.specs.declared.Counts.{Counts}
 use Rattle.counts.specs.Counting.{tally}
-use Rattle.shapes.specs.declared.Pen.{Pen}
+use Rattle.shapes.specs.declared.Ink.{Ink}
 use Rattle.shapes.specs.declared.Drawn.{Drawn}
 use Rattle.shapes.specs.declared.Drawn.the-variants as drawing
 use Rattle.shapes.specs.Painting.{bytesOf, Goes, Answered, Painted}
-use Rattle.drawing.specs.Passed.{Passed, toDraw, noneYet, atStart}
+use Rattle.drawing.specs.Passed.{Passed, toDraw, dry}
 use Rattle.shapes.proofs.Painting.{until-all}
 use Rattle.reader.specs.Host.{answerWords, Told}
 use Rattle.reader.specs.Screened.{Screened, over, within}
@@ -89,33 +89,33 @@ module _ {t : List ℕ} (p : Passed t) where
   let-pass : Outcomes.Passed t (p .letters)
   let-pass = record { within = p .short; marked = p .marked; unbroken = no-first-fault (p .marked) .0 (p .clear) }
 
-  pub stopped-told : {scrap scrap′ room : List ℕ} {r : Answer} {d : Drawn} {n q : ℕ} → Painted noneYet atStart (toDraw p) scrap d scrap′ → d ≡ drawing.Refused n q
-      → r ≡ answer n q 0 (counts 0 0 0) → Promised t room r room
+  pub stopped-told : {scrap scrap′ room : List ℕ} {r : Answer} {d : Drawn} {why : Reason} → Painted dry (toDraw p) scrap d scrap′ → d ≡ drawing.Refused why
+      → r ≡ answer (why .number) (why .place) 0 (counts 0 0 0) → Promised t room r room
   unfolding Answered
-  stopped-told x is e = let y = subst (Answered noneYet atStart (toDraw p)) is (x .answer) in refusing (y .0) (refusal .1 (by-drawing let-pass (y .1))) e
+  stopped-told x is e = let y = subst (Answered dry (toDraw p)) is (x .answer) in refusing (y .0) (refusal .1 (by-drawing let-pass (y .1))) e
 
   -- the drawing finished on some room, with these counts and the pen there
-  module _ {scrap scrap′ : List ℕ} {d : Drawn} (x : Painted noneYet atStart (toDraw p) scrap d scrap′) {c : Counts} {pen : Pen} (is : d ≡ drawing.Done c pen) where
-    goes : Goes noneYet atStart (toDraw p) c pen
+  module _ {scrap scrap′ : List ℕ} {d : Drawn} (x : Painted dry (toDraw p) scrap d scrap′) {ink : Ink} (is : d ≡ drawing.Done ink) where
+    goes : Goes dry (toDraw p) ink
     unfolding Answered
-    goes = subst (Answered noneYet atStart (toDraw p)) is (x .answer)
+    goes = subst (Answered dry (toDraw p)) is (x .answer)
 
-    pub far-below : pen .at ≤ 2 ^ 60
+    pub far-below : ink .pen .at ≤ 2 ^ 60
     far-below = omega (arith, goes .reached .place-most, goes .reached .shapes-most)
 
     -- no layer stands before the first shape
     first-lines : lines (nameOf 0) (shapesOf (toDraw p)) ≡ lines [] (shapesOf (toDraw p))
     first-lines = ap (λ (l : List ℕ). lines l (shapesOf (toDraw p))) (no-name 0 refl)
 
-    pub file-length : flatLength (p .letters) ≡ pen .at + 2
+    pub file-length : flatLength (p .letters) ≡ ink .pen .at + 2
     unfolding flat
     file-length = omega (arith, goes .next, ap length first-lines, length-append (lines [] (shapesOf (toDraw p))) (69 ∷ 10 ∷ []))
 
-    pub over-told : {room : List ℕ} {r : Answer} → TooLong (pen .at + 2) (length room) → r ≡ answer 18 0 0 (counts 0 0 0) → Promised t room r room
+    pub over-told : {room : List ℕ} {r : Answer} → TooLong (ink .pen .at + 2) (length room) → r ≡ answer 18 0 0 (counts 0 0 0) → Promised t room r room
     over-told {room} h e =
         refusing [] (refusal .1 (by-flat-file let-pass (goes .ends) (subst (λ (n : ℕ). TooLong n (length room)) (sym file-length) h))) e
 
-    accepting : {room : ℕ} → pen .at + 2 ≤ room → pen .at + 2 ≤ 16777216 → Accepting t room (tally c) (toDraw p)
+    accepting : {room : ℕ} → ink .pen .at + 2 ≤ room → ink .pen .at + 2 ≤ 16777216 → Accepting t room (tally (ink .counts)) (toDraw p)
     accepting h k = record {
       roles = p .letters;
       passed = let-pass;
@@ -126,23 +126,23 @@ module _ {t : List ℕ} (p : Passed t) where
     }
 
     -- all is before the end, so the lines in the room are those of all shapes
-    all-lines : bytesOf noneYet atStart (toDraw p) ≡ lines [] (shapesOf (toDraw p))
+    all-lines : bytesOf dry (toDraw p) ≡ lines [] (shapesOf (toDraw p))
     all-lines =
-        ap (λ (es : List Event). lines (nameOf 0) (shapesOf es)) (until-all (counts 0 0 0) (toDraw p) (tally c) (goes .ends)) ∙ first-lines
+        ap (λ (es : List Event). lines (nameOf 0) (shapesOf es)) (until-all (counts 0 0 0) (toDraw p) (tally (ink .counts)) (goes .ends)) ∙ first-lines
 
-    file-in : {room left : List ℕ} → left ≡ sets (sets room 0 (bytesOf noneYet atStart (toDraw p))) (pen .at) (69 ∷ 10 ∷ [])
-        → Writes room left 0 (pen .at + 2) (flat (shapesOf (toDraw p)))
+    file-in : {room left : List ℕ} → left ≡ sets (sets room 0 (bytesOf dry (toDraw p))) (ink .pen .at) (69 ∷ 10 ∷ [])
+        → Writes room left 0 (ink .pen .at + 2) (flat (shapesOf (toDraw p)))
     unfolding flat
     file-in {room} {left} e =
         both {a = lines [] (shapesOf (toDraw p))} (written (ap (sets room 0) all-lines) (goes .next ∙ ap (λ (l : List ℕ). 0 + length l) first-lines)) (written {bytes = 69 ∷ 10 ∷ []} e refl)
 
-    pub written-told : {room left : List ℕ} {r : Answer} → pen .at + 2 ≤ length room → pen .at + 2 ≤ 16777216
-        → left ≡ sets (sets room 0 (bytesOf noneYet atStart (toDraw p))) (pen .at) (69 ∷ 10 ∷ []) → r ≡ answer 0 0 (pen .at + 2) (tally c) → Promised t room r left
+    pub written-told : {room left : List ℕ} {r : Answer} → ink .pen .at + 2 ≤ length room → ink .pen .at + 2 ≤ 16777216
+        → left ≡ sets (sets room 0 (bytesOf dry (toDraw p))) (ink .pen .at) (69 ∷ 10 ∷ []) → r ≡ answer 0 0 (ink .pen .at + 2) (tally (ink .counts)) → Promised t room r left
     unfolding given-back flatFile
     written-told h k e g = record {
-      outcome = accepted (tally c) (toDraw p);
+      outcome = accepted (tally (ink .counts)) (toDraw p);
       answers = acceptance .1 (accepting h k);
-      given = g ∙ ap (λ (n : ℕ). answer 0 0 n (tally c)) (sym file-length);
+      given = g ∙ ap (λ (n : ℕ). answer 0 0 n (tally (ink .counts))) (sym file-length);
       kept = begins (file-in e) (omega (arith, h, file-length));
     }
 

@@ -11,7 +11,7 @@ ghost use lib.Seq.{sets};
 ghost use Rattle.definition.specs.Counts.{counts};
 ghost use Rattle.definition.specs.Answer.{answer, Promised};
 ghost use Rattle.shapes.specs.Painting.{bytesOf};
-ghost use Rattle.drawing.specs.Passed.{Passed, toDraw, noneYet, atStart};
+ghost use Rattle.drawing.specs.Passed.{Passed, toDraw, dry};
 ghost use Rattle.reader.specs.Host.{Told};
 ghost use Rattle.reader.specs.Screened.{Screened};
 
@@ -44,7 +44,7 @@ fn refused(number: usize, place: usize) -> Answer
 // The lines of the shapes, and at their end the last one.
 fn write_file(text: &[u8], room: &mut [u8], end: usize)
     requires { ⌜ Passed (now text) × (end ≤ 2 ^ 60) ⌝ }
-    ensures { λ _. ⌜ ((p : Passed (now (text .entry))) → now (room .exit) ≡ sets (sets (now (room .entry)) 0 (bytesOf noneYet atStart (toDraw p))) end (69 ∷ 10 ∷ [])) ⌝ }
+    ensures { λ _. ⌜ ((p : Passed (now (text .entry))) → now (room .exit) ≡ sets (sets (now (room .entry)) 0 (bytesOf dry (toDraw p))) end (69 ∷ 10 ∷ [])) ⌝ }
 {
     drawing::draw(text, room);
     pen::put_end(room, end);
@@ -57,9 +57,10 @@ fn flatten_passed(text: &[u8], scrap: &mut [u8], room: &mut [u8]) -> Answer
     ensures { λ r. ⌜ Promised (now (text .entry)) (now (room .entry)) r (now (room .exit)) ⌝ }
 {
     match drawing::draw(text, scrap) {
-        Drawn::Refused(number, place) => refused(number, place),
-        Drawn::Done(counts, last) => {
-            let end = last.at;
+        Drawn::Refused(refusal) => refused(refusal.number, refusal.place),
+        Drawn::Done(ink) => {
+            let counts = ink.counts;
+            let end = ink.pen.at;
             let length = end + LAST_LINE;
             if room.len() < length {
                 return refused_after(18, 0, counts);

@@ -12,16 +12,17 @@ use Rattle.definition.specs.Drawing.{Drawn as Shown}
 use Rattle.definition.specs.Counts.{End, finished, stopped, counted, goOn, ending, shapesOf}
 use Rattle.definition.specs.Counts.{Counts as Tally}
 use Rattle.definition.specs.Flat.{lines}
+use Rattle.definition.specs.declared.Refusal.{Refusal}
 use Rattle.laws.proofs.Lists.Joined.{ending-++, shapesOf-++}
 use Rattle.pen.specs.Names.{nameOf}
 use Rattle.digits.specs.Writes.{Writes}
 use Rattle.digits.proofs.Writing.{both, written}
 use Rattle.counts.specs.declared.Counts.{Counts}
-use Rattle.shapes.specs.declared.Pen.{Pen}
+use Rattle.shapes.specs.declared.Ink.{Ink}
 use Rattle.shapes.specs.declared.Drawn.{Drawn}
 use Rattle.shapes.specs.declared.Drawn.the-variants.{Done, Refused}
 use Rattle.counts.specs.Counting.{tally}
-use Rattle.shapes.specs.Painting.{goingBy, until, bytesOf, Reached, Goes, Answered, Painted}
+use Rattle.shapes.specs.Painting.{goingBy, until, inked, bytesOf, Reached, Goes, Answered, Painted}
 
 pub never : (n p : ℕ) (chain : Chain) (c : Tally) → stopped n p chain ≡ finished c → ⊥
 never n p chain c e = let z : _≡_ {A = ℕ} 0 1 = cc in omega arith
@@ -54,21 +55,21 @@ until-all c (x ∷ es) c′ e = go (counted c x) (λ d. until-all d es c′) e
 -- ---- one after another
 
 -- nothing happens
-pub still : (c : Counts) (pen : Pen) (room : List ℕ) → Reached c pen → Painted c pen [] room (Done c pen) room
+pub still : (ink : Ink) (room : List ℕ) → Reached ink → Painted ink [] room (Done ink) room
 unfolding Answered until ending shapesOf lines
-still c pen room h = record {
-  answer = record { ends = refl; next = sym (add-zero (pen .at)); on = λ ds. refl; reached = h };
+still ink room h = record {
+  answer = record { ends = refl; next = sym (add-zero (ink .pen .at)); on = λ ds. refl; reached = h };
   laid = refl;
 }
 
 -- an event that is counted and no shape
-pub quiet : (c c′ : Counts) (pen : Pen) (e : Event) (room : List ℕ) → counted (tally c) e ≡ finished (tally c′) → shapesOf (e ∷ []) ≡ [] → Reached c′ pen
-    → Painted c pen (e ∷ []) room (Done c′ pen) room
+pub quiet : (ink : Ink) (c : Counts) (e : Event) (room : List ℕ) → counted (tally (ink .counts)) e ≡ finished (tally c) → shapesOf (e ∷ []) ≡ [] → Reached (inked c (ink .pen))
+    → Painted ink (e ∷ []) room (Done (inked c (ink .pen))) room
 unfolding Answered until ending lines goingBy goOn
-quiet c c′ pen e room h n k = record {
+quiet ink c e room h n k = record {
   answer = record {
     ends = rw h;
-    next = rw n (sym (add-zero (pen .at)));
+    next = rw n (sym (add-zero (ink .pen .at)));
     on = λ ds. rw n;
     reached = k;
   };
@@ -76,111 +77,111 @@ quiet c c′ pen e room h n k = record {
 }
 
 -- a refusal, before anything is drawn
-pub refusal : (c : Counts) (pen : Pen) (e : Event) (es : List Event) (room : List ℕ) (n p : ℕ) (chain : Chain) → counted (tally c) e ≡ stopped n p chain
-    → Painted c pen (e ∷ es) room (Refused n p) room
+pub refusal : (ink : Ink) (e : Event) (es : List Event) (room : List ℕ) (why : Refusal) (chain : Chain) → counted (tally (ink .counts)) e ≡ stopped (why .number) (why .place) chain
+    → Painted ink (e ∷ es) room (Refused why) room
 unfolding Answered until ending goingBy goOn shapesOf lines
-refusal c pen e es room n p chain h = record { answer = (chain, rw h); laid = rw h }
+refusal ink e es room why chain h = record { answer = (chain, rw h); laid = rw h }
 
-module _ {c : Counts} {pen : Pen} {a : List Event} {room : List ℕ} where
+module _ {ink : Ink} {a : List Event} {room : List ℕ} where
   -- what is refused stays so, whatever would come
-  pub cut : (b : List Event) {n p : ℕ} {room′ : List ℕ} → Painted c pen a room (Refused n p) room′ → Painted c pen (a ++ b) room (Refused n p) room′
+  pub cut : (b : List Event) {why : Refusal} {room′ : List ℕ} → Painted ink a room (Refused why) room′ → Painted ink (a ++ b) room (Refused why) room′
   unfolding Answered
-  cut b {n} {p} {room′} x =
+  cut b {why} {room′} x =
       let e = x .answer .1 in
       record {
-        answer = (x .answer .0, ending-++ (tally c) a b ∙ (ap (λ (y : End). goOn y (λ d. ending d b)) e ∙ (unfold goOn in refl)));
+        answer = (x .answer .0, ending-++ (tally (ink .counts)) a b ∙ (ap (λ (y : End). goOn y (λ d. ending d b)) e ∙ (unfold goOn in refl)));
         laid =
             x .laid
-            ∙ ap (λ (es : List Event). sets room (pen .at) (lines (nameOf (pen .layer)) (shapesOf es)))
-            (sym (append-nil (until (tally c) a)) ∙ sym (until-++ (tally c) a b ∙ (ap (λ (y : End). until (tally c) a ++ further y b) e ∙ (unfold further in refl))));
+            ∙ ap (λ (es : List Event). sets room (ink .pen .at) (lines (nameOf (ink .pen .layer)) (shapesOf es)))
+            (sym (append-nil (until (tally (ink .counts)) a)) ∙ sym (until-++ (tally (ink .counts)) a b ∙ (ap (λ (y : End). until (tally (ink .counts)) a ++ further y b) e ∙ (unfold further in refl))));
       }
 
-  module _ {c′ : Counts} {pen′ : Pen} {room′ : List ℕ} (x : Painted c pen a room (Done c′ pen′) room′) where
+  module _ {ink′ : Ink} {room′ : List ℕ} (x : Painted ink a room (Done ink′) room′) where
     -- what is done, and what is done then
-    went : Goes c pen a c′ pen′
+    went : Goes ink a ink′
     unfolding Answered
     went = x .answer
 
-    all-before : until (tally c) a ≡ a
-    all-before = until-all (tally c) a (tally c′) (went .ends)
+    all-before : until (tally (ink .counts)) a ≡ a
+    all-before = until-all (tally (ink .counts)) a (tally (ink′ .counts)) (went .ends)
 
-    joined : (b : List Event) → bytesOf c pen (a ++ b) ≡ lines (nameOf (pen .layer)) (shapesOf a) ++ bytesOf c′ pen′ b
+    joined : (b : List Event) → bytesOf ink (a ++ b) ≡ lines (nameOf (ink .pen .layer)) (shapesOf a) ++ bytesOf ink′ b
     unfolding further
     joined b =
-        ap (λ (es : List Event). lines (nameOf (pen .layer)) (shapesOf es))
-        (until-++ (tally c) a b ∙ (ap (λ (es : List Event). es ++ further (ending (tally c) a) b) all-before ∙ ap (λ (y : End). a ++ further y b) (went .ends)))
-        ∙ (ap (lines (nameOf (pen .layer))) (shapesOf-++ a (until (tally c′) b)) ∙ went .on (shapesOf (until (tally c′) b)))
+        ap (λ (es : List Event). lines (nameOf (ink .pen .layer)) (shapesOf es))
+        (until-++ (tally (ink .counts)) a b ∙ (ap (λ (es : List Event). es ++ further (ending (tally (ink .counts)) a) b) all-before ∙ ap (λ (y : End). a ++ further y b) (went .ends)))
+        ∙ (ap (lines (nameOf (ink .pen .layer))) (shapesOf-++ a (until (tally (ink′ .counts)) b)) ∙ went .on (shapesOf (until (tally (ink′ .counts)) b)))
 
-    own : Writes room room′ (pen .at) (pen′ .at) (lines (nameOf (pen .layer)) (shapesOf a))
-    own = written (x .laid ∙ ap (λ (es : List Event). sets room (pen .at) (lines (nameOf (pen .layer)) (shapesOf es))) all-before) (went .next)
+    own : Writes room room′ (ink .pen .at) (ink′ .pen .at) (lines (nameOf (ink .pen .layer)) (shapesOf a))
+    own = written (x .laid ∙ ap (λ (es : List Event). sets room (ink .pen .at) (lines (nameOf (ink .pen .layer)) (shapesOf es))) all-before) (went .next)
 
-    laid-both : (b : List Event) {room″ : List ℕ} → room″ ≡ sets room′ (pen′ .at) (bytesOf c′ pen′ b) → room″ ≡ sets room (pen .at) (bytesOf c pen (a ++ b))
-    laid-both b l = both own (written l refl) .laid ∙ ap (sets room (pen .at)) (sym (joined b))
+    laid-both : (b : List Event) {room″ : List ℕ} → room″ ≡ sets room′ (ink′ .pen .at) (bytesOf ink′ b) → room″ ≡ sets room (ink .pen .at) (bytesOf ink (a ++ b))
+    laid-both b l = both own (written l refl) .laid ∙ ap (sets room (ink .pen .at)) (sym (joined b))
 
-    ends-then : (b : List Event) → ending (tally c) (a ++ b) ≡ ending (tally c′) b
-    ends-then b = ending-++ (tally c) a b ∙ (ap (λ (y : End). goOn y (λ d. ending d b)) (went .ends) ∙ (unfold goOn in refl))
+    ends-then : (b : List Event) → ending (tally (ink .counts)) (a ++ b) ≡ ending (tally (ink′ .counts)) b
+    ends-then b = ending-++ (tally (ink .counts)) a b ∙ (ap (λ (y : End). goOn y (λ d. ending d b)) (went .ends) ∙ (unfold goOn in refl))
 
-    goes-then : (b : List Event) {c″ : Counts} {pen″ : Pen} → Goes c′ pen′ b c″ pen″ → Goes c pen (a ++ b) c″ pen″
-    goes-then b {pen″ = pen″} g =
-        let l = nameOf (pen .layer) in
-        let split : lines l (shapesOf (a ++ b)) ≡ lines l (shapesOf a) ++ lines (nameOf (pen′ .layer)) (shapesOf b) = ap (lines l) (shapesOf-++ a b) ∙ went .on (shapesOf b) in
+    goes-then : (b : List Event) {ink″ : Ink} → Goes ink′ b ink″ → Goes ink (a ++ b) ink″
+    goes-then b {ink″ = ink″} g =
+        let l = nameOf (ink .pen .layer) in
+        let split : lines l (shapesOf (a ++ b)) ≡ lines l (shapesOf a) ++ lines (nameOf (ink′ .pen .layer)) (shapesOf b) = ap (lines l) (shapesOf-++ a b) ∙ went .on (shapesOf b) in
         record {
           ends = ends-then b ∙ g .ends;
-          next = omega (arith, g .next, went .next, ap length split, length-append (lines l (shapesOf a)) (lines (nameOf (pen′ .layer)) (shapesOf b)));
+          next = omega (arith, g .next, went .next, ap length split, length-append (lines l (shapesOf a)) (lines (nameOf (ink′ .pen .layer)) (shapesOf b)));
           on =
               λ ds.
               ap (λ (s : List Shown). lines l (s ++ ds)) (shapesOf-++ a b)
               ∙ (ap (lines l) (append-assoc (shapesOf a) (shapesOf b) ds)
               ∙ (went .on (shapesOf b ++ ds)
               ∙ (ap (λ (s : List ℕ). lines l (shapesOf a) ++ s) (g .on ds)
-              ∙ (sym (append-assoc (lines l (shapesOf a)) (lines (nameOf (pen′ .layer)) (shapesOf b)) (lines (nameOf (pen″ .layer)) ds))
-              ∙ ap (λ (s : List ℕ). s ++ lines (nameOf (pen″ .layer)) ds) (sym split)))));
+              ∙ (sym (append-assoc (lines l (shapesOf a)) (lines (nameOf (ink′ .pen .layer)) (shapesOf b)) (lines (nameOf (ink″ .pen .layer)) ds))
+              ∙ ap (λ (s : List ℕ). s ++ lines (nameOf (ink″ .pen .layer)) ds) (sym split)))));
           reached = g .reached;
         }
 
-    answer-then : (b : List Event) (r : Drawn) → Answered c′ pen′ b r → Answered c pen (a ++ b) r
+    answer-then : (b : List Event) (r : Drawn) → Answered ink′ b r → Answered ink (a ++ b) r
     unfolding Answered
-    answer-then b (Done c″ pen″) g = goes-then b g
-    answer-then b (Refused n p) g = (g .0, ends-then b ∙ g .1)
+    answer-then b (Done ink″) g = goes-then b g
+    answer-then b (Refused why) g = (g .0, ends-then b ∙ g .1)
 
-    pub next-drawn : (b : List Event) {r : Drawn} {room″ : List ℕ} → Painted c′ pen′ b room′ r room″ → Painted c pen (a ++ b) room r room″
+    pub next-drawn : (b : List Event) {r : Drawn} {room″ : List ℕ} → Painted ink′ b room′ r room″ → Painted ink (a ++ b) room r room″
     next-drawn b {r} y = record { answer = answer-then b r (y .answer); laid = laid-both b (y .laid) }
 
 -- ---- a loop that draws: what is to be drawn in all, and what of it is left
 
-pub record Going (all : List Event) (c₀ : Counts) (pen₀ : Pen) (room₀ : List ℕ) (left : List Event) (c : Counts) (pen : Pen) (room : List ℕ) : Type 0 where
+pub record Going (all : List Event) (ink₀ : Ink) (room₀ : List ℕ) (left : List Event) (ink : Ink) (room : List ℕ) : Type 0 where
   pub done : List Event
   pub parts : done ++ left ≡ all
-  pub drawn : Painted c₀ pen₀ done room₀ (Done c pen) room
+  pub drawn : Painted ink₀ done room₀ (Done ink) room
 
-pub begun : (all : List Event) (c : Counts) (pen : Pen) (room : List ℕ) → Reached c pen → Going all c pen room all c pen room
-begun all c pen room h = record { done = []; parts = refl; drawn = still c pen room h }
+pub begun : (all : List Event) (ink : Ink) (room : List ℕ) → Reached ink → Going all ink room all ink room
+begun all ink room h = record { done = []; parts = refl; drawn = still ink room h }
 
-module _ {all : List Event} {c₀ : Counts} {pen₀ : Pen} {room₀ : List ℕ} {left : List Event} {c : Counts} {pen : Pen} {room : List ℕ}
-    (g : Going all c₀ pen₀ room₀ left c pen room) where
+module _ {all : List Event} {ink₀ : Ink} {room₀ : List ℕ} {left : List Event} {ink : Ink} {room : List ℕ}
+    (g : Going all ink₀ room₀ left ink room) where
   pub room-kept : length room ≡ length room₀
-  room-kept = ap length (g .drawn .laid) ∙ length-sets room₀ (pen₀ .at) (bytesOf c₀ pen₀ (g .done))
+  room-kept = ap length (g .drawn .laid) ∙ length-sets room₀ (ink₀ .pen .at) (bytesOf ink₀ (g .done))
 
-  pub so-far : Reached c pen
+  pub so-far : Reached ink
   so-far = went (g .drawn) .reached
 
   parts-then : (now rest : List Event) → left ≡ now ++ rest → (g .done ++ now) ++ rest ≡ all
   parts-then now rest e = append-assoc (g .done) now rest ∙ (ap (λ (l : List Event). g .done ++ l) (sym e) ∙ g .parts)
 
-  pub goes-on : (now rest : List Event) → left ≡ now ++ rest → {c′ : Counts} {pen′ : Pen} {room′ : List ℕ} → Painted c pen now room (Done c′ pen′) room′
-      → Going all c₀ pen₀ room₀ rest c′ pen′ room′
+  pub goes-on : (now rest : List Event) → left ≡ now ++ rest → {ink′ : Ink} {room′ : List ℕ} → Painted ink now room (Done ink′) room′
+      → Going all ink₀ room₀ rest ink′ room′
   goes-on now rest e x = record { done = g .done ++ now; parts = parts-then now rest e; drawn = next-drawn (g .drawn) now x }
 
   -- what is left draws nothing
-  pub skips : (rest : List Event) → left ≡ rest → Going all c₀ pen₀ room₀ rest c pen room
-  skips rest e = subst (λ (l : List Event). Going all c₀ pen₀ room₀ l c pen room) e g
+  pub skips : (rest : List Event) → left ≡ rest → Going all ink₀ room₀ rest ink room
+  skips rest e = subst (λ (l : List Event). Going all ink₀ room₀ l ink room) e g
 
-  pub stops : (now rest : List Event) → left ≡ now ++ rest → {n p : ℕ} {room′ : List ℕ} → Painted c pen now room (Refused n p) room′
-      → Painted c₀ pen₀ all room₀ (Refused n p) room′
-  stops now rest e {n} {p} {room′} x =
-      subst (λ (l : List Event). Painted c₀ pen₀ l room₀ (Refused n p) room′) (parts-then now rest e) (cut rest (next-drawn (g .drawn) now x))
+  pub stops : (now rest : List Event) → left ≡ now ++ rest → {why : Refusal} {room′ : List ℕ} → Painted ink now room (Refused why) room′
+      → Painted ink₀ all room₀ (Refused why) room′
+  stops now rest e {why} {room′} x =
+      subst (λ (l : List Event). Painted ink₀ l room₀ (Refused why) room′) (parts-then now rest e) (cut rest (next-drawn (g .drawn) now x))
 
-  pub over : left ≡ [] → Painted c₀ pen₀ all room₀ (Done c pen) room
+  pub over : left ≡ [] → Painted ink₀ all room₀ (Done ink) room
   over e =
-      subst (λ (l : List Event). Painted c₀ pen₀ l room₀ (Done c pen) room)
+      subst (λ (l : List Event). Painted ink₀ l room₀ (Done ink) room)
       (sym (append-nil (g .done)) ∙ (ap (λ (l : List Event). g .done ++ l) (sym e) ∙ g .parts)) (g .drawn)

@@ -16,6 +16,7 @@ use Rattle.definition.specs.Drawing.{Chain, Event, drew, refused, drawShape}
 use Rattle.definition.specs.Drawing.{Drawn as Shown}
 use Rattle.definition.specs.Counts.{counted, goOn, ending, shapesOf}
 use Rattle.definition.specs.Flat.{numbersOfShape, line, spaced, said, lines}
+use Rattle.definition.specs.declared.Refusal.{Refusal}
 use Rattle.turns.specs.Nets.{Carries}
 use Rattle.turns.specs.declared.Net.{Net}
 use Rattle.pen.specs.Names.{nameOf}
@@ -29,14 +30,18 @@ use Rattle.counts.specs.declared.Counted.the-variants.{More, Full}
 use Rattle.counts.specs.Counting.{CountsShape}
 use Rattle.counts.proofs.Told.{shape-goes, shape-stops, shape-more}
 use Rattle.shapes.specs.declared.Pen.{Pen}
+use Rattle.shapes.specs.declared.Ink.{Ink}
 use Rattle.shapes.specs.declared.Drawn.the-variants.{Done, Refused}
 use Rattle.moves.specs.Moves.{mostValues, ShapedAt, MovesShape}
-use Rattle.shapes.specs.Painting.{goingBy, until, Reached, Answered, Painted}
+use Rattle.shapes.specs.Painting.{goingBy, until, inked, Reached, Answered, Painted}
 use Rattle.shapes.proofs.Painting.{refusal}
 
 module _ {words : List ℤ} {letter end : ℕ} (h : ShapedAt words letter end) (chain : Chain) (ts : List (Turn ℤ)) (net : Net) (carries : Carries ts net) (p : ℕ) (layer : ℕ) where
   abbrev k : Shape ℤ
   k = h .shape
+
+  abbrev refusing : ℕ → Refusal
+  refusing n = record { number = n; place = p }
 
   abbrev event : Event
   event = drawShape chain ts p (nameOf layer) k
@@ -56,23 +61,23 @@ module _ {words : List ℤ} {letter end : ℕ} (h : ShapedAt words letter end) (
     unfolding drawShape
     is-near e = rw (tested ∙ e)
 
-    module _ (c : Counts) (pen : Pen) (room : List ℕ) where
-      pub shape-far : far ≡ true → Painted c pen (event ∷ []) room (Refused 16 p) room
+    module _ (ink : Ink) (room : List ℕ) where
+      pub shape-far : far ≡ true → Painted ink (event ∷ []) room (Refused (refusing 16)) room
       shape-far e =
-          subst (λ (x : Event). Painted c pen (x ∷ []) room (Refused 16 p) room) (sym (is-far e))
-          (refusal c pen (refused 16 p chain) [] room 16 p chain (unfold counted in refl))
+          subst (λ (x : Event). Painted ink (x ∷ []) room (Refused (refusing 16)) room) (sym (is-far e))
+          (refusal ink (refused 16 p chain) [] room (refusing 16) chain (unfold counted in refl))
 
-      pub shape-many : far ≡ false → {a : Counted} → CountsShape c a → (n : ℕ) → a ≡ Full n → Painted c pen (event ∷ []) room (Refused n p) room
+      pub shape-many : far ≡ false → {a : Counted} → CountsShape (ink .counts) a → (n : ℕ) → a ≡ Full n → Painted ink (event ∷ []) room (Refused (refusing n)) room
       shape-many e count n q =
-          subst (λ (x : Event). Painted c pen (x ∷ []) room (Refused n p) room) (sym (is-near e)) (refusal c pen (drew shown) [] room n p chain (shape-stops c count n q shown))
+          subst (λ (x : Event). Painted ink (x ∷ []) room (Refused (refusing n)) room) (sym (is-near e)) (refusal ink (drew shown) [] room (refusing n) chain (shape-stops (ink .counts) count n q shown))
 
     -- the numbers that are written
     pub part-is : end ≤ length numbers → take (end - 2) (drop 2 numbers′) ≡ numbersOfShape (moved ts k)
     part-is l = part-placed h net m l ∙ ap (λ (x : Shape ℤ). numbersOfShape x) (placed-moved ts net carries k)
 
-    module _ (c : Counts) (pen : Pen) (near : far ≡ false) {a : Counted} (count : CountsShape c a) (more : Counts) (q : a ≡ More more) (reach : Reached c pen)
+    module _ (ink : Ink) (near : far ≡ false) {a : Counted} (count : CountsShape (ink .counts) a) (more : Counts) (q : a ≡ More more) (reach : Reached ink)
         {room₀ room₁ room₂ : List ℕ} {next last : ℕ} {ns : List ℤ}
-        (are : ns ≡ numbersOfShape (moved ts k)) (w₁ : Writes room₀ room₁ (pen .at) next (layerLine (nameOf (pen .layer)) (nameOf layer)))
+        (are : ns ≡ numbersOfShape (moved ts k)) (w₁ : Writes room₀ room₁ (ink .pen .at) next (layerLine (nameOf (ink .pen .layer)) (nameOf layer)))
         (w₂ : Writes room₁ room₂ next last (line letter (spaced ns))) (short : last ≤ next + 21 * length ns + 3) (size : length ns ≤ mostValues) where
       abbrev pen′ : Pen
       pen′ = record { at = last; layer = layer }
@@ -81,35 +86,35 @@ module _ {words : List ℤ} {letter end : ℕ} (h : ShapedAt words letter end) (
       unfolding moved
       handed = record { layer-is = refl; letter-is = h .shaped .letter-is; numbers-are = are }
 
-      both-written : Writes room₀ room₂ (pen .at) last (said (nameOf (pen .layer)) shown)
-      both-written = shape-said (pen .layer) handed w₁ w₂
+      both-written : Writes room₀ room₂ (ink .pen .at) last (said (nameOf (ink .pen .layer)) shown)
+      both-written = shape-said (ink .pen .layer) handed w₁ w₂
 
-      reached : Reached more pen′
+      reached : Reached (inked more pen′)
       reached =
-          let n = layer-line-length (pen .layer) layer in
-          let (few, is) = shape-more c count more q in
-          subst (λ (x : Counts). Reached x pen′) (sym is)
+          let n = layer-line-length (ink .pen .layer) layer in
+          let (few, is) = shape-more (ink .counts) count more q in
+          subst (λ (x : Counts). Reached (inked x pen′)) (sym is)
           record {
             calls-most = reach .calls-most;
             shapes-most = omega (arith, few);
             place-most = omega (arith, w₁ .ends, n, short, size, reach .place-most);
           }
 
-      said-so : lines (nameOf (pen .layer)) (shown ∷ []) ≡ said (nameOf (pen .layer)) shown
+      said-so : lines (nameOf (ink .pen .layer)) (shown ∷ []) ≡ said (nameOf (ink .pen .layer)) shown
       unfolding lines
-      said-so = append-nil (said (nameOf (pen .layer)) shown)
+      said-so = append-nil (said (nameOf (ink .pen .layer)) shown)
 
-      drew-painted : Painted c pen (drew shown ∷ []) room₀ (Done more pen′) room₂
+      drew-painted : Painted ink (drew shown ∷ []) room₀ (Done (inked more pen′)) room₂
       unfolding Answered ending goOn shapesOf until goingBy lines
       drew-painted = record {
         answer = record {
-          ends = rw (shape-goes c count more q shown);
-          next = both-written .ends ∙ ap (λ (l : List ℕ). pen .at + length l) (sym said-so);
+          ends = rw (shape-goes (ink .counts) count more q shown);
+          next = both-written .ends ∙ ap (λ (l : List ℕ). ink .pen .at + length l) (sym said-so);
           on = λ ds. ap (λ (l : List ℕ). l ++ lines (nameOf layer) ds) (sym said-so);
           reached = reached;
         };
-        laid = both-written .laid ∙ (ap (sets room₀ (pen .at)) (sym said-so) ∙ rw (shape-goes c count more q shown));
+        laid = both-written .laid ∙ (ap (sets room₀ (ink .pen .at)) (sym said-so) ∙ rw (shape-goes (ink .counts) count more q shown));
       }
 
-      pub shape-near : Painted c pen (event ∷ []) room₀ (Done more pen′) room₂
-      shape-near = subst (λ (x : Event). Painted c pen (x ∷ []) room₀ (Done more pen′) room₂) (sym (is-near near)) drew-painted
+      pub shape-near : Painted ink (event ∷ []) room₀ (Done (inked more pen′)) room₂
+      shape-near = subst (λ (x : Event). Painted ink (x ∷ []) room₀ (Done (inked more pen′)) room₂) (sym (is-near near)) drew-painted

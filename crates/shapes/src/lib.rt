@@ -1,15 +1,11 @@
 // One shape drawn: refusals 16 and 17, or its lines (01, "Drawing"). And what every function that draws takes and gives: the pen, and the answer.
 ghost use mathlib.Core.Path.{_≡_};
-ghost use mathlib.Core.List.{List, [], _∷_};
 ghost use Prim.Native.Nat.{_^_, _<_, _≤_};
-ghost use lib.IntN.{ℤ, pos, natAbs};
+ghost use lib.IntN.{pos, natAbs};
 ghost use lib.ListN.{length, getD};
-ghost use Rattle.definition.specs.Commands.{Turn};
-ghost use Rattle.definition.specs.Drawing.{Chain, drawShape};
-ghost use Rattle.turns.specs.Nets.{Near, Carries};
-ghost use Rattle.pen.specs.Names.{nameOf};
+ghost use Rattle.turns.specs.Nets.{Near};
 ghost use Rattle.moves.specs.Moves.{ShapedAt};
-ghost use Rattle.shapes.specs.Painting.{Reached, Painted};
+ghost use Rattle.shapes.specs.Painting.{Reached, ShapeDraws};
 
 // Where the next byte of the flat file goes, and the layer of the last shape written, packed, 0 for none.
 pub struct Pen {
@@ -17,10 +13,16 @@ pub struct Pen {
     pub layer: u32,
 }
 
-// What a function that draws answers: the running counts and how far the pen came, or a refusal's number and place.
+// What a drawing carries along: the running counts, and the pen.
+pub struct Ink {
+    pub counts: counts::Counts,
+    pub pen: Pen,
+}
+
+// What a function that draws answers: the ink afterwards, or a refusal.
 pub enum Drawn {
-    Done(counts::Counts, Pen),
-    Refused(usize, usize),
+    Done(Ink),
+    Refused(definition::Refusal),
 }
 
 // One shape (refusals 16 and 17): an L line, if its layer is not the last one's, and its own line.
@@ -33,25 +35,28 @@ pub fn draw_shape(
     net: turns::Net,
     layer: u32,
     place: usize,
-    counts: counts::Counts,
-    before: Pen,
+    ink: Ink,
 ) -> Drawn
     requires { ⌜ ShapedAt (now words) letter end × (end ≤ length (now numbers)) ⌝ }
-    requires { ⌜ Near (2 ^ 61) net × Reached counts before ⌝ }
-    ensures { λ r. ⌜ ((h : ShapedAt (now (words .entry)) letter end) (chain : Chain) (ts : List (Turn ℤ)) → Carries ts net → Painted counts before (drawShape chain ts place (nameOf layer) (h .shape) ∷ []) (now (room .entry)) r (now (room .exit))) ⌝ }
+    requires { ⌜ Near (2 ^ 61) net × Reached ink ⌝ }
+    ensures { λ r. ⌜ ShapeDraws (now (words .entry)) letter end net layer place ink (now (room .entry)) r (now (room .exit)) ⌝ }
 {
     if moves::move_shape(words, numbers, letter, end, net) {
-        return Drawn::Refused(16, place);
+        return Drawn::Refused(definition::Refusal { number: 16, place });
     }
-    match counts::count_shape(counts) {
+    match counts::count_shape(ink.counts) {
         counts::Counted::Full(number) => {
-            return Drawn::Refused(number, place);
+            return Drawn::Refused(definition::Refusal { number, place });
         }
         counts::Counted::More(drawn) => {
-            let at = before.at;
-            let next = pen::put_layer_line(room, at, before.layer, layer);
+            let before = ink.pen;
+            let next = pen::put_layer_line(room, before.at, before.layer, layer);
             let last = pen::put_line(room, next, letter, &numbers[2..end]);
-            Drawn::Done(drawn, Pen { at: last, layer })
+            let after = Pen { at: last, layer };
+            Drawn::Done(Ink {
+                counts: drawn,
+                pen: after,
+            })
         }
     }
 }

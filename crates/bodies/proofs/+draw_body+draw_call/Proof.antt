@@ -8,8 +8,8 @@ use borrow.Author.Needs.{needs}
 use lib.ListN.{length, length-set}
 use Rattle.table.specs.Rows.{columns, rowsOf}
 use Rattle.turns.proofs.Nets.{near-more}
-use Rattle.bodies.proofs.Calls.{call-askew, call-unknown, call-open, call-deep, call-many, call-reached, kept-below}
-use Rattle.bodies.proofs.Scenes.{not-found, found-live, open-test, inner-scene, body-drawn}
+use Rattle.bodies.proofs.Calls.{answered-descent, descent-reached, call-stopped, kept-below}
+use Rattle.bodies.proofs.Scenes.{fitting, known-row, inner-scene, body-drawn}
 use Rattle.bodies.proofs.Underway.{Underway, started, reached-here, room-here, was-all, decoded, was-finish, was-layer, layer-fits, was-idle, shape-asked, shape-within, was-shape, shape-refused, call-asked, call-near, was-call, call-refused, size-then, same-scene}
 use Prim.Native.Nat.{ℕ, _+_, _-_, _*_, _<_}
 use borrow.Fn.Kinds.{In}
@@ -20,22 +20,20 @@ use Rattle.bodies.proofs.+draw_body+draw_call.Lts-draw_body as draw-bod
 use Rattle.bodies.proofs.draw_call.Reads as draw-call
 use Rattle.bodies.proofs.draw_call.Kinds as draw-call-kinds
 use Rattle.bodies.proofs.+draw_body+draw_call.Lts-draw_call as draw-call-lts
-use Rattle.counts.proofs.count_call.Reads as count-call-reads
 use Rattle.bodies.proofs.body_at.Reads as body-at-reads
 use Rattle.shapes.proofs.draw_shape.Reads as draw-shape-reads
 use Rattle.bodies.proofs.is_drawable.Reads as is-drawable-reads
-use Rattle.bodies.proofs.is_open.Reads as is-open-reads
-use Rattle.bodies.proofs.read_call.Reads as read-call-reads
+use Rattle.calls.proofs.open_call.Reads as open-call-reads
+use Rattle.calls.proofs.read_call.Reads as read-call-reads
 use Rattle.commands.proofs.read_command.Reads as read-command-reads
-use Rattle.table.proofs.find.Reads as find-reads
 use Rattle.bodies.proofs.+draw_body+draw_call.{statement}
 use Rattle.bodies.proofs.+draw_body+draw_call.Tie.{close}
 
 abbrev μ-draw-body : Measures 8 draw-body-kinds.ps ℕ
-μ-draw-body κs a = a .1 .1 .1 .1 .1 .1 .1 .1 .1 .1 .1 .1 .1 .1 .1 .0 * 33554432 + (length (a .0 .now) - a .1 .1 .1 .1 .1 .1 .1 .1 .1 .1 .1 .1 .1 .1 .1 .1 .0) + 1
+μ-draw-body κs a = a .1 .1 .1 .1 .1 .1 .1 .1 .1 .1 .1 .1 .1 .1 .0 * 33554432 + (length (a .0 .now) - a .1 .1 .1 .1 .1 .1 .1 .1 .1 .1 .1 .1 .1 .1 .1 .0 .start) + 1
 
 abbrev μ-draw-call : Measures 8 draw-call-kinds.ps ℕ
-μ-draw-call κs a = a .1 .1 .1 .1 .1 .1 .1 .1 .1 .1 .1 .1 .1 .1 .1 .0 * 33554432
+μ-draw-call κs a = a .1 .1 .1 .1 .1 .1 .1 .1 .1 .1 .1 .1 .1 .1 .0 * 33554432
 
 abbrev draw-body-at : ℕ → In 8 draw-body-kinds.ps
 draw-body-at t = and 8 draw-body-kinds.ps (is 8 draw-body-kinds.ps μ-draw-body t) draw-body.Pre
@@ -69,29 +67,25 @@ body-claims t = (
 
 abbrev call-claims : ℕ → draw-call-lts.Claims
 call-claims t = (
-  find-reads.Asked,
-  find-reads.Learnt,
-  is-open-reads.Asked,
-  is-open-reads.Learnt,
-  count-call-reads.Asked,
-  count-call-reads.Learnt,
+  open-call-reads.Asked,
+  open-call-reads.Learnt,
   draw-body-below t,
   draw-body.Post,
 )
 
 abbrev draw-body-Inv-loop : draw-body-lts.InvT-loop
-draw-body-Inv-loop text kinds next symbols places starts ends factors divisors count words₀ numbers₀ drawing₀ room₀ net depth from a b spot₀ layer₀ done₀ pen₀ words numbers drawing room spot layer done pen =
-    Underway text (rowsOf (columns symbols places starts ends factors divisors) count) net depth from a b done₀ pen₀ words₀ numbers₀ drawing₀ room₀ words numbers drawing room spot layer done pen
+draw-body-Inv-loop text kinds next symbols places starts ends factors divisors count words₀ numbers₀ drawing₀ room₀ left row net spot₀ layer₀ ink₀ words numbers drawing room spot layer ink =
+    Underway text (rowsOf (columns symbols places starts ends factors divisors) count) net left (row .start) (row .a) (row .b) ink₀ words₀ numbers₀ drawing₀ room₀ words numbers drawing room spot layer ink
 
 abbrev draw-body-μ-loop : draw-body-lts.MeasureT-loop
-draw-body-μ-loop text kinds next symbols places starts ends factors divisors count words₀ numbers₀ drawing₀ room₀ net depth from a b spot₀ layer₀ done₀ pen₀ words numbers drawing room spot layer done pen =
+draw-body-μ-loop text kinds next symbols places starts ends factors divisors count words₀ numbers₀ drawing₀ room₀ left row net spot₀ layer₀ ink₀ words numbers drawing room spot layer ink =
     length text - spot .at
 
 draw-body-body-at-requires : (t : ℕ) → draw-body-lts.Need-body-at-requires (body-claims t) (draw-body-at t) draw-body.Post draw-body-Inv-loop draw-body-μ-loop
 draw-body-body-at-requires t c κs = search needs
 
 draw-body-loop-holds : (t : ℕ) → draw-body-lts.Need-loop-holds (body-claims t) (draw-body-at t) draw-body.Post draw-body-Inv-loop draw-body-μ-loop
-draw-body-loop-holds t c = started _ _ _ _ _ _ (c .before .before .before .before .pre .1 .1 .0 .1) (c .before .before .before .before .pre .1 .1 .1 .1 .1 .1) (c .before .before .before .before .pre .1 .1 .1 .1 .1 .0 .1) (c .body-at .ensures)
+draw-body-loop-holds t c = started _ _ _ _ _ (c .before .before .before .before .pre .1 .1 .0 .1) (c .before .before .before .before .pre .1 .1 .1 .1 .1 .1) (c .before .before .before .before .pre .1 .1 .1 .1 .1 .0 .1) (c .body-at .ensures)
 
 draw-body-read-command-requires : (t : ℕ) → draw-body-lts.Need-read-command-requires (body-claims t) (draw-body-at t) draw-body.Post draw-body-Inv-loop draw-body-μ-loop
 draw-body-read-command-requires t c κs = (c .before .before .before .before .before .before .pre .1 .0, (c .before .loop .inv .fit, c .before .before .before .before .before .before .pre .1 .1 .1 .1 .1 .1 .most-a, c .before .before .before .before .before .before .pre .1 .1 .1 .1 .1 .1 .some-b))
@@ -150,17 +144,17 @@ draw-body-read-call-requires t c κs = (call-asked (c .before .before .before .b
 draw-body-draw-call-requires : (t : ℕ) → draw-body-lts.Need-draw-call-requires (body-claims t) (draw-body-at t) draw-body.Post draw-body-Inv-loop draw-body-μ-loop
 draw-body-draw-call-requires t c κs = (omega (arith, c .before .before .before .before .before .before .before .before .before .before .before .before .before .before .before .before .before .before .before .before .pre .0), (c .before .before .before .before .before .before .before .before .before .before .before .before .before .before .before .before .before .before .before .before .pre .1 .0, ((c .before .before .before .before .before .before .before .before .before .before .before .before .before .before .before .before .before .before .before .before .pre .1 .1 .0 .0, same-scene (c .before .before .before .before .before .before .before .before .before .before .before .before .before .before .before .loop .inv .open-kept) (c .before .before .before .before .before .before .before .before .before .before .before .before .before .before .before .before .before .before .before .before .pre .1 .1 .0 .1)), ((c .before .before .before .before .before .before .before .before .before .before .before .before .before .before .before .before .before .before .before .before .pre .1 .1 .1 .0 .0, c .before .before .before .before .before .before .before .before .before .before .before .before .before .before .before .before .before .before .before .before .pre .1 .1 .1 .0 .1, c .before .before .before .before .before .before .before .before .before .before .before .before .before .before .before .loop .inv .drawing-kept ∙ c .before .before .before .before .before .before .before .before .before .before .before .before .before .before .before .before .before .before .before .before .pre .1 .1 .1 .0 .2), ((size-then (c .before .before .before .before .before .before .before .before .before .before .before .before .before .before .before .loop .inv) (c .before .before .before .before .before .before .before .before .before .before .before .before .before .before .before .before .before .before .before .before .pre .1 .1 .1 .1 .0 .0) (decoded (c .before .before .before .before .before .before .before .before .before .before .before .before .before .before .before .loop .inv) (c .before .before .before .before .before .before .before .before .before .before .before .before .before .read-command .result) (c .before .before .before .before .before .before .before .before .before .before .before .before .before .read-command .ensures) (c .before .before .before .before .before .before .before .before .before .before .kind .given .1) .1), omega (arith, c .before .before .before .before .before .before .before .before .before .before .before .before .before .before .before .loop .inv .numbers-kept, c .before .before .before .before .before .before .before .before .before .before .before .before .before .before .before .before .before .before .before .before .pre .1 .1 .1 .1 .0 .1)), (call-near (c .before .before .before .before .before .before .before .before .before .before .before .before .before .before .before .loop .inv) (c .before .before .before .before .before .before .before .before .before .before .before .before .before .before .before .before .before .before .before .before .pre .1 .1 .1 .1 .0 .0) (decoded (c .before .before .before .before .before .before .before .before .before .before .before .before .before .before .before .loop .inv) (c .before .before .before .before .before .before .before .before .before .before .before .before .before .read-command .result) (c .before .before .before .before .before .before .before .before .before .before .before .before .before .read-command .ensures) (c .before .before .before .before .before .before .before .before .before .before .kind .given .1) .1) (c .before .before .before .before .before .before .if3 .taken) (c .before .before .before .before .read-call .ensures) (c .before .before .before .before .before .before .before .before .before .before .before .before .before .before .before .before .before .before .before .before .pre .1 .1 .1 .0 .1) (c .before .before .before .before .before .before .before .before .before .before .before .before .before .before .before .before .before .before .before .before .pre .1 .1 .1 .1 .1 .0 .0), reached-here (c .before .before .before .before .before .before .before .before .before .before .before .before .before .before .before .loop .inv)))))))
 
-draw-body-enum-known-c : (t : ℕ) → draw-body-lts.Need-enum-known-c (body-claims t) (draw-body-at t) draw-body.Post draw-body-Inv-loop draw-body-μ-loop
-draw-body-enum-known-c t c = c .match2 .keys1
+draw-body-enum-known-called : (t : ℕ) → draw-body-lts.Need-enum-known-called (body-claims t) (draw-body-at t) draw-body.Post draw-body-Inv-loop draw-body-μ-loop
+draw-body-enum-known-called t c = c .match2 .keys1
 
 draw-body-loop-less-2 : (t : ℕ) → draw-body-lts.Need-loop-less-2 (body-claims t) (draw-body-at t) draw-body.Post draw-body-Inv-loop draw-body-μ-loop
 draw-body-loop-less-2 t c = omega (arith, decoded (c .before .before .before .before .before .before .before .before .before .before .before .before .before .before .before .before .before .before .before .before .before .before .before .before .before .loop .inv) (c .before .before .before .before .before .before .before .before .before .before .before .before .before .before .before .before .before .before .before .before .before .before .before .read-command .result) (c .before .before .before .before .before .before .before .before .before .before .before .before .before .before .before .before .before .before .before .before .before .before .before .read-command .ensures) (c .before .before .before .before .before .before .before .before .before .before .before .before .before .before .before .before .before .before .before .before .kind .given .1) .1 .ahead, decoded (c .before .before .before .before .before .before .before .before .before .before .before .before .before .before .before .before .before .before .before .before .before .before .before .before .before .loop .inv) (c .before .before .before .before .before .before .before .before .before .before .before .before .before .before .before .before .before .before .before .before .before .before .before .read-command .result) (c .before .before .before .before .before .before .before .before .before .before .before .before .before .before .before .before .before .before .before .before .before .before .before .read-command .ensures) (c .before .before .before .before .before .before .before .before .before .before .before .before .before .before .before .before .before .before .before .before .kind .given .1) .1 .fit .within)
 
 draw-body-loop-again-2 : (t : ℕ) → draw-body-lts.Need-loop-again-2 (body-claims t) (draw-body-at t) draw-body.Post draw-body-Inv-loop draw-body-μ-loop
-draw-body-loop-again-2 t c = was-call (c .before .before .before .before .before .before .before .before .before .before .before .before .before .before .before .before .before .before .before .before .before .before .before .before .before .loop .inv) (c .before .before .before .before .before .before .before .before .before .before .before .before .before .before .before .before .before .before .before .before .before .before .before .before .before .before .before .before .before .before .pre .1 .1 .1 .1 .0 .0) (decoded (c .before .before .before .before .before .before .before .before .before .before .before .before .before .before .before .before .before .before .before .before .before .before .before .before .before .loop .inv) (c .before .before .before .before .before .before .before .before .before .before .before .before .before .before .before .before .before .before .before .before .before .before .before .read-command .result) (c .before .before .before .before .before .before .before .before .before .before .before .before .before .before .before .before .before .before .before .before .before .before .before .read-command .ensures) (c .before .before .before .before .before .before .before .before .before .before .before .before .before .before .before .before .before .before .before .before .kind .given .1) .1) (c .before .before .before .before .before .before .before .before .before .before .before .before .before .before .before .before .if3 .taken) (c .before .before .before .before .before .before .before .before .before .before .before .before .before .before .read-call .ensures) (c .before .before .before .before .before .before .before .before .before .draw-call .ensures .0) (c .before .c .given .1) (c .before .before .before .before .before .before .before .before .before .draw-call .kept .1 .1 .1 .1 .1 .1 .1 .1 .1 .1 .0) (c .before .before .before .before .before .before .before .before .before .draw-call .kept .1 .1 .1 .1 .1 .1 .1 .1 .1 .1 .1 .0) (c .before .before .before .before .before .before .before .before .before .draw-call .kept .1 .1 .1 .1 .1 .1 .1 .1 .1 .1 .1 .1 .0) (c .before .before .before .before .before .before .before .before .before .draw-call .ensures .1)
+draw-body-loop-again-2 t c = was-call (c .before .before .before .before .before .before .before .before .before .before .before .before .before .before .before .before .before .before .before .before .before .before .before .before .before .loop .inv) (c .before .before .before .before .before .before .before .before .before .before .before .before .before .before .before .before .before .before .before .before .before .before .before .before .before .before .before .before .before .before .pre .1 .1 .1 .1 .0 .0) (decoded (c .before .before .before .before .before .before .before .before .before .before .before .before .before .before .before .before .before .before .before .before .before .before .before .before .before .loop .inv) (c .before .before .before .before .before .before .before .before .before .before .before .before .before .before .before .before .before .before .before .before .before .before .before .read-command .result) (c .before .before .before .before .before .before .before .before .before .before .before .before .before .before .before .before .before .before .before .before .before .before .before .read-command .ensures) (c .before .before .before .before .before .before .before .before .before .before .before .before .before .before .before .before .before .before .before .before .kind .given .1) .1) (c .before .before .before .before .before .before .before .before .before .before .before .before .before .before .before .before .if3 .taken) (c .before .before .before .before .before .before .before .before .before .before .before .before .before .before .read-call .ensures) (c .before .before .before .before .before .before .before .before .before .draw-call .ensures .0) (c .before .called .given .1) (c .before .before .before .before .before .before .before .before .before .draw-call .kept .1 .1 .1 .1 .1 .1 .1 .1 .1 .1 .0) (c .before .before .before .before .before .before .before .before .before .draw-call .kept .1 .1 .1 .1 .1 .1 .1 .1 .1 .1 .1 .0) (c .before .before .before .before .before .before .before .before .before .draw-call .kept .1 .1 .1 .1 .1 .1 .1 .1 .1 .1 .1 .1 .0) (c .before .before .before .before .before .before .before .before .before .draw-call .ensures .1)
 
-draw-body-enum-known-no : (t : ℕ) → draw-body-lts.Need-enum-known-no (body-claims t) (draw-body-at t) draw-body.Post draw-body-Inv-loop draw-body-μ-loop
-draw-body-enum-known-no t c = c .match2 .keys2
+draw-body-enum-known-refusal : (t : ℕ) → draw-body-lts.Need-enum-known-refusal (body-claims t) (draw-body-at t) draw-body.Post draw-body-Inv-loop draw-body-μ-loop
+draw-body-enum-known-refusal t c = c .match2 .keys2
 
 draw-body-same-length-9 : (t : ℕ) → draw-body-lts.Need-same-length-9 (body-claims t) (draw-body-at t) draw-body.Post draw-body-Inv-loop draw-body-μ-loop
 draw-body-same-length-9 t c = c .before .before .before .before .before .before .before .before .before .draw-call .kept .1 .1 .1 .1 .1 .1 .1 .1 .1 .1 .0 ∙ c .before .before .before .before .before .before .before .before .before .before .before .before .before .before .before .before .before .before .before .before .before .before .before .read-command .kept .1 .1 .1 .0 ∙ c .before .before .before .before .before .before .before .before .before .before .before .before .before .before .before .before .before .before .before .before .before .before .before .before .before .loop .inv .words-kept
@@ -175,7 +169,7 @@ draw-body-same-length-12 : (t : ℕ) → draw-body-lts.Need-same-length-12 (body
 draw-body-same-length-12 t c = c .before .before .before .before .before .before .before .before .before .draw-call .kept .1 .1 .1 .1 .1 .1 .1 .1 .1 .1 .1 .1 .1 .0 ∙ room-here (c .before .before .before .before .before .before .before .before .before .before .before .before .before .before .before .before .before .before .before .before .before .before .before .before .before .loop .inv)
 
 draw-body-returns-3 : (t : ℕ) → draw-body-lts.Need-returns-3 (body-claims t) (draw-body-at t) draw-body.Post draw-body-Inv-loop draw-body-μ-loop
-draw-body-returns-3 t c = (call-refused (c .before .before .before .before .before .before .before .before .before .before .before .before .before .before .before .before .before .before .before .before .before .before .before .before .before .loop .inv) (c .before .before .before .before .before .before .before .before .before .before .before .before .before .before .before .before .before .before .before .before .before .before .before .before .before .before .before .before .before .before .pre .1 .1 .1 .1 .0 .0) (decoded (c .before .before .before .before .before .before .before .before .before .before .before .before .before .before .before .before .before .before .before .before .before .before .before .before .before .loop .inv) (c .before .before .before .before .before .before .before .before .before .before .before .before .before .before .before .before .before .before .before .before .before .before .before .read-command .result) (c .before .before .before .before .before .before .before .before .before .before .before .before .before .before .before .before .before .before .before .before .before .before .before .read-command .ensures) (c .before .before .before .before .before .before .before .before .before .before .before .before .before .before .before .before .before .before .before .before .kind .given .1) .1) (c .before .before .before .before .before .before .before .before .before .before .before .before .before .before .before .before .if3 .taken) (c .before .before .before .before .before .before .before .before .before .before .before .before .before .before .read-call .ensures) (c .before .before .before .before .before .before .before .before .before .draw-call .ensures .0) (c .before .no .given .1), c .before .before .before .before .before .before .before .before .before .draw-call .ensures .1 ∙ c .before .before .before .before .before .before .before .before .before .before .before .before .before .before .before .before .before .before .before .before .before .before .before .before .before .loop .inv .open-kept)
+draw-body-returns-3 t c = (call-refused (c .before .before .before .before .before .before .before .before .before .before .before .before .before .before .before .before .before .before .before .before .before .before .before .before .before .loop .inv) (c .before .before .before .before .before .before .before .before .before .before .before .before .before .before .before .before .before .before .before .before .before .before .before .before .before .before .before .before .before .before .pre .1 .1 .1 .1 .0 .0) (decoded (c .before .before .before .before .before .before .before .before .before .before .before .before .before .before .before .before .before .before .before .before .before .before .before .before .before .loop .inv) (c .before .before .before .before .before .before .before .before .before .before .before .before .before .before .before .before .before .before .before .before .before .before .before .read-command .result) (c .before .before .before .before .before .before .before .before .before .before .before .before .before .before .before .before .before .before .before .before .before .before .before .read-command .ensures) (c .before .before .before .before .before .before .before .before .before .before .before .before .before .before .before .before .before .before .before .before .kind .given .1) .1) (c .before .before .before .before .before .before .before .before .before .before .before .before .before .before .before .before .if3 .taken) (c .before .before .before .before .before .before .before .before .before .before .before .before .before .before .read-call .ensures) (c .before .before .before .before .before .before .before .before .before .draw-call .ensures .0) (c .before .refusal .given .1), c .before .before .before .before .before .before .before .before .before .draw-call .ensures .1 ∙ c .before .before .before .before .before .before .before .before .before .before .before .before .before .before .before .before .before .before .before .before .before .before .before .before .before .loop .inv .open-kept)
 
 draw-body-is-drawable-requires : (t : ℕ) → draw-body-lts.Need-is-drawable-requires (body-claims t) (draw-body-at t) draw-body.Post draw-body-Inv-loop draw-body-μ-loop
 draw-body-is-drawable-requires t c κs = search needs
@@ -183,17 +177,17 @@ draw-body-is-drawable-requires t c κs = search needs
 draw-body-draw-shape-requires : (t : ℕ) → draw-body-lts.Need-draw-shape-requires (body-claims t) (draw-body-at t) draw-body.Post draw-body-Inv-loop draw-body-μ-loop
 draw-body-draw-shape-requires t c κs = ((shape-asked (c .before .before .before .before .before .before .before .before .before .before .before .before .before .before .loop .inv) (c .before .before .before .before .before .before .before .before .before .before .before .before .before .before .before .before .before .before .before .pre .1 .1 .1 .1 .0 .0) (decoded (c .before .before .before .before .before .before .before .before .before .before .before .before .before .before .loop .inv) (c .before .before .before .before .before .before .before .before .before .before .before .before .read-command .result) (c .before .before .before .before .before .before .before .before .before .before .before .before .read-command .ensures) (c .before .before .before .before .before .before .before .before .before .kind .given .1) .1) (sym (c .before .before .before .before .is-drawable .ensures) ∙ c .before .before .before .if4 .taken), shape-within (c .before .before .before .before .before .before .before .before .before .before .before .before .before .before .loop .inv) (c .before .before .before .before .before .before .before .before .before .before .before .before .before .before .before .before .before .before .before .pre .1 .1 .1 .1 .0 .0) (decoded (c .before .before .before .before .before .before .before .before .before .before .before .before .before .before .loop .inv) (c .before .before .before .before .before .before .before .before .before .before .before .before .read-command .result) (c .before .before .before .before .before .before .before .before .before .before .before .before .read-command .ensures) (c .before .before .before .before .before .before .before .before .before .kind .given .1) .1) (sym (c .before .before .before .before .is-drawable .ensures) ∙ c .before .before .before .if4 .taken) (omega (arith, c .before .before .before .before .before .before .before .before .before .before .before .before .before .before .loop .inv .numbers-kept, c .before .before .before .before .before .before .before .before .before .before .before .before .before .before .before .before .before .before .before .pre .1 .1 .1 .1 .0 .1))), (near-more (omega arith) (c .before .before .before .before .before .before .before .before .before .before .before .before .before .before .before .before .before .before .before .pre .1 .1 .1 .1 .1 .0 .0), reached-here (c .before .before .before .before .before .before .before .before .before .before .before .before .before .before .loop .inv)))
 
-draw-body-enum-known-c-2 : (t : ℕ) → draw-body-lts.Need-enum-known-c-2 (body-claims t) (draw-body-at t) draw-body.Post draw-body-Inv-loop draw-body-μ-loop
-draw-body-enum-known-c-2 t c = c .match3 .keys1
+draw-body-enum-known-shown : (t : ℕ) → draw-body-lts.Need-enum-known-shown (body-claims t) (draw-body-at t) draw-body.Post draw-body-Inv-loop draw-body-μ-loop
+draw-body-enum-known-shown t c = c .match3 .keys1
 
 draw-body-loop-less-3 : (t : ℕ) → draw-body-lts.Need-loop-less-3 (body-claims t) (draw-body-at t) draw-body.Post draw-body-Inv-loop draw-body-μ-loop
 draw-body-loop-less-3 t c = omega (arith, decoded (c .before .before .before .before .before .before .before .before .before .before .before .before .before .before .before .before .before .before .before .before .before .loop .inv) (c .before .before .before .before .before .before .before .before .before .before .before .before .before .before .before .before .before .before .before .read-command .result) (c .before .before .before .before .before .before .before .before .before .before .before .before .before .before .before .before .before .before .before .read-command .ensures) (c .before .before .before .before .before .before .before .before .before .before .before .before .before .before .before .before .kind .given .1) .1 .ahead, decoded (c .before .before .before .before .before .before .before .before .before .before .before .before .before .before .before .before .before .before .before .before .before .loop .inv) (c .before .before .before .before .before .before .before .before .before .before .before .before .before .before .before .before .before .before .before .read-command .result) (c .before .before .before .before .before .before .before .before .before .before .before .before .before .before .before .before .before .before .before .read-command .ensures) (c .before .before .before .before .before .before .before .before .before .before .before .before .before .before .before .before .kind .given .1) .1 .fit .within)
 
 draw-body-loop-again-3 : (t : ℕ) → draw-body-lts.Need-loop-again-3 (body-claims t) (draw-body-at t) draw-body.Post draw-body-Inv-loop draw-body-μ-loop
-draw-body-loop-again-3 t c = was-shape (c .before .before .before .before .before .before .before .before .before .before .before .before .before .before .before .before .before .before .before .before .before .loop .inv) (c .before .before .before .before .before .before .before .before .before .before .before .before .before .before .before .before .before .before .before .before .before .before .before .before .before .before .pre .1 .1 .1 .1 .0 .0) (decoded (c .before .before .before .before .before .before .before .before .before .before .before .before .before .before .before .before .before .before .before .before .before .loop .inv) (c .before .before .before .before .before .before .before .before .before .before .before .before .before .before .before .before .before .before .before .read-command .result) (c .before .before .before .before .before .before .before .before .before .before .before .before .before .before .before .before .before .before .before .read-command .ensures) (c .before .before .before .before .before .before .before .before .before .before .before .before .before .before .before .before .kind .given .1) .1) (sym (c .before .before .before .before .before .before .before .before .before .before .before .is-drawable .ensures) ∙ c .before .before .before .before .before .before .before .before .before .before .if4 .taken) (c .before .before .before .before .before .before .draw-shape .ensures) (c .before .c2 .given .1) (c .before .before .before .before .before .before .draw-shape .kept .1 .0)
+draw-body-loop-again-3 t c = was-shape (c .before .before .before .before .before .before .before .before .before .before .before .before .before .before .before .before .before .before .before .before .before .loop .inv) (c .before .before .before .before .before .before .before .before .before .before .before .before .before .before .before .before .before .before .before .before .before .before .before .before .before .before .pre .1 .1 .1 .1 .0 .0) (decoded (c .before .before .before .before .before .before .before .before .before .before .before .before .before .before .before .before .before .before .before .before .before .loop .inv) (c .before .before .before .before .before .before .before .before .before .before .before .before .before .before .before .before .before .before .before .read-command .result) (c .before .before .before .before .before .before .before .before .before .before .before .before .before .before .before .before .before .before .before .read-command .ensures) (c .before .before .before .before .before .before .before .before .before .before .before .before .before .before .before .before .kind .given .1) .1) (sym (c .before .before .before .before .before .before .before .before .before .before .before .is-drawable .ensures) ∙ c .before .before .before .before .before .before .before .before .before .before .if4 .taken) (c .before .before .before .before .before .before .draw-shape .ensures) (c .before .shown .given .1) (c .before .before .before .before .before .before .draw-shape .kept .1 .0)
 
-draw-body-enum-known-no-2 : (t : ℕ) → draw-body-lts.Need-enum-known-no-2 (body-claims t) (draw-body-at t) draw-body.Post draw-body-Inv-loop draw-body-μ-loop
-draw-body-enum-known-no-2 t c = c .match3 .keys2
+draw-body-enum-known-refusal-2 : (t : ℕ) → draw-body-lts.Need-enum-known-refusal-2 (body-claims t) (draw-body-at t) draw-body.Post draw-body-Inv-loop draw-body-μ-loop
+draw-body-enum-known-refusal-2 t c = c .match3 .keys2
 
 draw-body-same-length-13 : (t : ℕ) → draw-body-lts.Need-same-length-13 (body-claims t) (draw-body-at t) draw-body.Post draw-body-Inv-loop draw-body-μ-loop
 draw-body-same-length-13 t c = c .before .before .before .before .before .before .before .before .before .before .before .before .before .before .before .before .before .before .before .read-command .kept .1 .1 .1 .0 ∙ c .before .before .before .before .before .before .before .before .before .before .before .before .before .before .before .before .before .before .before .before .before .loop .inv .words-kept
@@ -208,7 +202,7 @@ draw-body-same-length-16 : (t : ℕ) → draw-body-lts.Need-same-length-16 (body
 draw-body-same-length-16 t c = c .before .before .before .before .before .before .draw-shape .kept .1 .1 .0 ∙ room-here (c .before .before .before .before .before .before .before .before .before .before .before .before .before .before .before .before .before .before .before .before .before .loop .inv)
 
 draw-body-returns-4 : (t : ℕ) → draw-body-lts.Need-returns-4 (body-claims t) (draw-body-at t) draw-body.Post draw-body-Inv-loop draw-body-μ-loop
-draw-body-returns-4 t c = (shape-refused (c .before .before .before .before .before .before .before .before .before .before .before .before .before .before .before .before .before .before .before .before .before .loop .inv) (c .before .before .before .before .before .before .before .before .before .before .before .before .before .before .before .before .before .before .before .before .before .before .before .before .before .before .pre .1 .1 .1 .1 .0 .0) (decoded (c .before .before .before .before .before .before .before .before .before .before .before .before .before .before .before .before .before .before .before .before .before .loop .inv) (c .before .before .before .before .before .before .before .before .before .before .before .before .before .before .before .before .before .before .before .read-command .result) (c .before .before .before .before .before .before .before .before .before .before .before .before .before .before .before .before .before .before .before .read-command .ensures) (c .before .before .before .before .before .before .before .before .before .before .before .before .before .before .before .before .kind .given .1) .1) (sym (c .before .before .before .before .before .before .before .before .before .before .before .is-drawable .ensures) ∙ c .before .before .before .before .before .before .before .before .before .before .if4 .taken) (c .before .before .before .before .before .before .draw-shape .ensures) (c .before .no2 .given .1), c .before .before .before .before .before .before .before .before .before .before .before .before .before .before .before .before .before .before .before .before .before .loop .inv .open-kept)
+draw-body-returns-4 t c = (shape-refused (c .before .before .before .before .before .before .before .before .before .before .before .before .before .before .before .before .before .before .before .before .before .loop .inv) (c .before .before .before .before .before .before .before .before .before .before .before .before .before .before .before .before .before .before .before .before .before .before .before .before .before .before .pre .1 .1 .1 .1 .0 .0) (decoded (c .before .before .before .before .before .before .before .before .before .before .before .before .before .before .before .before .before .before .before .before .before .loop .inv) (c .before .before .before .before .before .before .before .before .before .before .before .before .before .before .before .before .before .before .before .read-command .result) (c .before .before .before .before .before .before .before .before .before .before .before .before .before .before .before .before .before .before .before .read-command .ensures) (c .before .before .before .before .before .before .before .before .before .before .before .before .before .before .before .before .kind .given .1) .1) (sym (c .before .before .before .before .before .before .before .before .before .before .before .is-drawable .ensures) ∙ c .before .before .before .before .before .before .before .before .before .before .if4 .taken) (c .before .before .before .before .before .before .draw-shape .ensures) (c .before .refusal2 .given .1), c .before .before .before .before .before .before .before .before .before .before .before .before .before .before .before .before .before .before .before .before .before .loop .inv .open-kept)
 
 draw-body-loop-less-4 : (t : ℕ) → draw-body-lts.Need-loop-less-4 (body-claims t) (draw-body-at t) draw-body.Post draw-body-Inv-loop draw-body-μ-loop
 draw-body-loop-less-4 t c = omega (arith, decoded (c .before .before .before .before .before .before .before .before .before .before .before .loop .inv) (c .before .before .before .before .before .before .before .before .before .read-command .result) (c .before .before .before .before .before .before .before .before .before .read-command .ensures) (c .before .before .before .before .before .before .kind .given .1) .1 .ahead, decoded (c .before .before .before .before .before .before .before .before .before .before .before .loop .inv) (c .before .before .before .before .before .before .before .before .before .read-command .result) (c .before .before .before .before .before .before .before .before .before .read-command .ensures) (c .before .before .before .before .before .before .kind .given .1) .1 .fit .within)
@@ -216,80 +210,50 @@ draw-body-loop-less-4 t c = omega (arith, decoded (c .before .before .before .be
 draw-body-loop-again-4 : (t : ℕ) → draw-body-lts.Need-loop-again-4 (body-claims t) (draw-body-at t) draw-body.Post draw-body-Inv-loop draw-body-μ-loop
 draw-body-loop-again-4 t c = was-idle (c .before .before .before .before .before .before .before .before .before .before .before .loop .inv) (c .before .before .before .before .before .before .before .before .before .before .before .before .before .before .before .before .pre .1 .1 .1 .1 .0 .0) (decoded (c .before .before .before .before .before .before .before .before .before .before .before .loop .inv) (c .before .before .before .before .before .before .before .before .before .read-command .result) (c .before .before .before .before .before .before .before .before .before .read-command .ensures) (c .before .before .before .before .before .before .kind .given .1) .1) (c .before .before .before .before .if1 .left) (c .before .before .before .if2 .left) (c .before .before .if3 .left) (sym (c .before .is-drawable .ensures) ∙ c .if4 .left)
 
-draw-call-returns : (t : ℕ) → draw-call-lts.Need-returns (call-claims t) (draw-call-at t) draw-call.Post
-draw-call-returns t c = (λ s outer ts e h. call-askew (s .table) (s .chain) outer (c .before .before .before .before .args .place) (c .before .before .before .before .args .symbol) ts (c .before .before .before .before .args .counts) (c .before .before .before .before .args .before) (c .before .before .before .before .args .room .now) (c .before .before .before .before .args .depth) (sym e ∙ c .if1 .taken), refl)
+draw-call-open-call-requires : (t : ℕ) → draw-call-lts.Need-open-call-requires (call-claims t) (draw-call-at t) draw-call.Post
+draw-call-open-call-requires t c κs = (c .before .before .before .before .pre .1 .1 .0 .0, c .before .before .before .before .pre .1 .1 .1 .0 .1, omega (arith, c .before .before .before .before .pre .1 .1 .1 .0 .2))
 
-draw-call-find-requires : (t : ℕ) → draw-call-lts.Need-find-requires (call-claims t) (draw-call-at t) draw-call.Post
-draw-call-find-requires t c κs = c .before .before .before .before .pre .1 .1 .0 .0
-
-draw-call-enum-told : (t : ℕ) → draw-call-lts.Need-enum-told (call-claims t) (draw-call-at t) draw-call.Post
-draw-call-enum-told t c = c .match .keys1
-
-draw-call-returns-2 : (t : ℕ) → draw-call-lts.Need-returns-2 (call-claims t) (draw-call-at t) draw-call.Post
-draw-call-returns-2 t c = (λ s outer ts e h. call-unknown (s .table) (s .chain) outer (c .before .before .before .before .before .before .before .args .place) (c .before .before .before .before .before .before .before .args .symbol) ts (c .before .before .before .before .before .before .before .args .counts) (c .before .before .before .before .before .before .before .args .before) (c .before .before .before .before .before .before .before .args .room .now) (c .before .before .before .before .before .before .before .args .depth) (sym e ∙ c .before .before .before .if1 .left) (not-found (c .before .before .before .before .before .before .before .args .symbol) (s .stands) (c .before .before .find .ensures) (c .enum-told .given .1)), refl)
-
-draw-call-enum-known-row : (t : ℕ) → draw-call-lts.Need-enum-known-row (call-claims t) (draw-call-at t) draw-call.Post
-draw-call-enum-known-row t c = c .match .keys2
-
-draw-call-sub-level : (t : ℕ) → draw-call-lts.Need-sub-level (call-claims t) (draw-call-at t) draw-call.Post
-draw-call-sub-level t c = search needs
-
-draw-call-is-open-requires : (t : ℕ) → draw-call-lts.Need-is-open-requires (call-claims t) (draw-call-at t) draw-call.Post
-draw-call-is-open-requires t c κs = omega (arith, c .before .before .before .before .before .before .before .before .before .pre .1 .1 .1 .0 .2)
+draw-call-enum-known-refusal : (t : ℕ) → draw-call-lts.Need-enum-known-refusal (call-claims t) (draw-call-at t) draw-call.Post
+draw-call-enum-known-refusal t c = c .match .keys1
 
 draw-call-same-length : (t : ℕ) → draw-call-lts.Need-same-length (call-claims t) (draw-call-at t) draw-call.Post
 draw-call-same-length t c = refl
 
-draw-call-returns-3 : (t : ℕ) → draw-call-lts.Need-returns-3 (call-claims t) (draw-call-at t) draw-call.Post
-draw-call-returns-3 t c = (λ s outer ts e h. let k = found-live (c .before .before .before .before .before .before .before .before .before .before .before .args .symbol) (s .stands) (c .before .before .before .before .before .before .find .ensures) (c .before .before .before .before .row .given .1) in call-open (s .table) (s .chain) outer (c .before .before .before .before .before .before .before .before .before .before .before .args .place) (c .before .before .before .before .before .before .before .before .before .before .before .args .symbol) ts (c .before .before .before .before .before .before .before .before .before .before .before .args .counts) (c .before .before .before .before .before .before .before .before .before .before .before .args .before) (c .before .before .before .before .before .before .before .before .before .before .before .args .room .now) (k .definition) (sym e ∙ c .before .before .before .before .before .before .before .if1 .left) (k .is) (c .before .before .before .before .before .before .before .before .before .before .before .args .depth) (open-test s (c .before .before .before .before .before .before .before .before .before .before .before .args .symbol) (c .before .is-open .ensures) ∙ c .if2 .taken), refl)
+draw-call-returns : (t : ℕ) → draw-call-lts.Need-returns (call-claims t) (draw-call-at t) draw-call.Post
+draw-call-returns t c = (λ s outer ts e h. call-stopped (s .table) (s .chain) outer (c .before .before .before .before .before .before .before .before .args .call) ts (fitting s (c .before .before .before .before .before .before .before .before .args .call) e) (c .before .before .before .before .before .before .before .before .args .left) (c .before .before .before .before .before .before .before .before .args .ink) (c .before .before .before .before .before .before .before .before .args .room .now) (c .before .before .before .open-call .ensures) (c .before .refusal .given .1), refl)
 
-draw-call-same-length-2 : (t : ℕ) → draw-call-lts.Need-same-length-2 (call-claims t) (draw-call-at t) draw-call.Post
-draw-call-same-length-2 t c = refl
+draw-call-enum-known-row : (t : ℕ) → draw-call-lts.Need-enum-known-row (call-claims t) (draw-call-at t) draw-call.Post
+draw-call-enum-known-row t c = c .match .keys2
 
-draw-call-returns-4 : (t : ℕ) → draw-call-lts.Need-returns-4 (call-claims t) (draw-call-at t) draw-call.Post
-draw-call-returns-4 t c = (λ s outer ts e h. let k = found-live (c .before .before .before .before .before .before .before .before .before .before .before .before .args .symbol) (s .stands) (c .before .before .before .before .before .before .before .find .ensures) (c .before .before .before .before .before .row .given .1) in call-deep (s .table) (s .chain) outer (c .before .before .before .before .before .before .before .before .before .before .before .before .args .place) (c .before .before .before .before .before .before .before .before .before .before .before .before .args .symbol) ts (c .before .before .before .before .before .before .before .before .before .before .before .before .args .counts) (c .before .before .before .before .before .before .before .before .before .before .before .before .args .before) (c .before .before .before .before .before .before .before .before .before .before .before .before .args .room .now) (k .definition) (sym e ∙ c .before .before .before .before .before .before .before .before .if1 .left) (k .is) (c .before .before .before .before .before .before .before .before .before .before .before .before .args .depth) (c .if3 .taken) (open-test s (c .before .before .before .before .before .before .before .before .before .before .before .before .args .symbol) (c .before .before .is-open .ensures) ∙ c .before .if2 .left), refl)
-
-draw-call-count-call-requires : (t : ℕ) → draw-call-lts.Need-count-call-requires (call-claims t) (draw-call-at t) draw-call.Post
-draw-call-count-call-requires t c κs = search needs
-
-draw-call-enum-known-refusal : (t : ℕ) → draw-call-lts.Need-enum-known-refusal (call-claims t) (draw-call-at t) draw-call.Post
-draw-call-enum-known-refusal t c = c .match2 .keys1
-
-draw-call-same-length-3 : (t : ℕ) → draw-call-lts.Need-same-length-3 (call-claims t) (draw-call-at t) draw-call.Post
-draw-call-same-length-3 t c = refl
-
-draw-call-returns-5 : (t : ℕ) → draw-call-lts.Need-returns-5 (call-claims t) (draw-call-at t) draw-call.Post
-draw-call-returns-5 t c = (λ s outer ts e h. let k = found-live (c .before .before .before .before .before .before .before .before .before .before .before .before .before .before .before .before .args .symbol) (s .stands) (c .before .before .before .before .before .before .before .before .before .before .before .find .ensures) (c .before .before .before .before .before .before .before .before .before .row .given .1) in call-many (s .table) (s .chain) outer (c .before .before .before .before .before .before .before .before .before .before .before .before .before .before .before .before .args .place) (c .before .before .before .before .before .before .before .before .before .before .before .before .before .before .before .before .args .symbol) ts (c .before .before .before .before .before .before .before .before .before .before .before .before .before .before .before .before .args .counts) (c .before .before .before .before .before .before .before .before .before .before .before .before .before .before .before .before .args .before) (c .before .before .before .before .before .before .before .before .before .before .before .before .before .before .before .before .args .room .now) (k .definition) (sym e ∙ c .before .before .before .before .before .before .before .before .before .before .before .before .if1 .left) (k .is) (c .before .before .before .before .before .before .before .before .before .before .before .before .before .before .before .before .args .depth) (c .before .before .before .before .if3 .left) (open-test s (c .before .before .before .before .before .before .before .before .before .before .before .before .before .before .before .before .args .symbol) (c .before .before .before .before .before .before .is-open .ensures) ∙ c .before .before .before .before .before .if2 .left) (c .before .before .before .count-call .ensures) _ (c .before .refusal .given .1), refl)
-
-draw-call-enum-known-more : (t : ℕ) → draw-call-lts.Need-enum-known-more (call-claims t) (draw-call-at t) draw-call.Post
-draw-call-enum-known-more t c = c .match2 .keys2
+draw-call-sub-drawing : (t : ℕ) → draw-call-lts.Need-sub-drawing (call-claims t) (draw-call-at t) draw-call.Post
+draw-call-sub-drawing t c = omega (arith, c .before .before .before .before .before .before .before .before .pre .1 .1 .1 .0 .1)
 
 draw-call-mul-drawing : (t : ℕ) → draw-call-lts.Need-mul-drawing (call-claims t) (draw-call-at t) draw-call.Post
 draw-call-mul-drawing t c = search needs
 
 draw-call-slice-write-drawing : (t : ℕ) → draw-call-lts.Need-slice-write-drawing (call-claims t) (draw-call-at t) draw-call.Post
-draw-call-slice-write-drawing t c = omega (arith, pos-of-ne-zero (c .before .before .before .before .if3 .left), c .before .before .before .before .before .before .before .before .before .before .before .before .before .before .before .before .pre .1 .1 .1 .0 .1, c .before .before .before .before .before .before .before .before .before .before .before .before .before .before .before .before .pre .1 .1 .1 .0 .2)
+draw-call-slice-write-drawing t c = omega (arith, pos-of-ne-zero (answered-descent (c .before .before .before .open-call .ensures) (c .before .row .given .1) .some-left), c .before .before .before .before .before .before .before .before .pre .1 .1 .1 .0 .1, c .before .before .before .before .before .before .before .before .pre .1 .1 .1 .0 .2)
 
 draw-call-sub-draw-body : (t : ℕ) → draw-call-lts.Need-sub-draw-body (call-claims t) (draw-call-at t) draw-call.Post
-draw-call-sub-draw-body t c = search needs
+draw-call-sub-draw-body t c = omega (arith, pos-of-ne-zero (answered-descent (c .before .before .before .before .before .before .before .before .open-call .ensures) (c .before .before .before .before .before .before .row .given .1) .some-left))
 
 draw-call-draw-body-requires : (t : ℕ) → draw-call-lts.Need-draw-body-requires (call-claims t) (draw-call-at t) draw-call.Post
-draw-call-draw-body-requires t c κs = (omega (arith, c .before .before .before .before .before .before .before .before .before .before .before .before .before .before .before .before .before .before .before .before .pre .0, c .before .before .before .before .before .before .before .before .before .before .before .before .before .before .before .before .before .before .before .before .pre .1 .1 .1 .0 .0, pos-of-ne-zero (c .before .before .before .before .before .before .before .before .if3 .left)), (c .before .before .before .before .before .before .before .before .before .before .before .before .before .before .before .before .before .before .before .before .pre .1 .0, ((c .before .before .before .before .before .before .before .before .before .before .before .before .before .before .before .before .before .before .before .before .pre .1 .1 .0 .0, inner-scene (c .before .before .before .before .before .before .before .before .before .before .before .before .before .before .before .before .before .before .before .before .args .depth) (c .before .before .before .before .before .before .before .before .before .before .before .before .before .before .before .before .before .before .before .before .pre .1 .1 .0 .1) (c .before .before .before .before .before .before .before .before .before .before .before .before .before .before .before .before .before .before .before .before .args .place) (c .before .before .before .before .before .before .before .before .before .before .before .before .before .before .before .before .before .before .before .before .args .symbol) (c .before .before .before .before .before .before .before .before .if3 .left) (c .before .before .before .before .before .before .before .before .before .before .before .before .before .before .before .before .before .before .before .before .pre .1 .1 .1 .0 .1) (c .before .before .before .before .before .before .before .before .before .before .before .before .before .before .before .before .before .before .before .before .pre .1 .1 .1 .0 .2)), ((c .before .before .before .before .before .before .before .before .before .before .before .before .before .before .before .before .before .before .before .before .pre .1 .1 .1 .0 .0, omega (arith, c .before .before .before .before .before .before .before .before .before .before .before .before .before .before .before .before .before .before .before .before .pre .1 .1 .1 .0 .1), length-set (c .before .before .before .before .before .before .before .before .before .before .before .before .before .before .before .before .before .before .before .before .args .drawing .now) (32 - c .before .before .before .before .before .before .before .before .before .before .before .before .before .before .before .before .before .before .before .before .args .depth) (c .before .before .before .before .before .before .before .before .before .before .before .before .before .before .before .before .before .before .before .before .args .symbol) ∙ c .before .before .before .before .before .before .before .before .before .before .before .before .before .before .before .before .before .before .before .before .pre .1 .1 .1 .0 .2), (c .before .before .before .before .before .before .before .before .before .before .before .before .before .before .before .before .before .before .before .before .pre .1 .1 .1 .1 .0, ((near-more (omega (arith, pos-of-ne-zero (c .before .before .before .before .before .before .before .before .if3 .left), c .before .before .before .before .before .before .before .before .before .before .before .before .before .before .before .before .before .before .before .before .pre .1 .1 .1 .0 .1)) (c .before .before .before .before .before .before .before .before .before .before .before .before .before .before .before .before .before .before .before .before .pre .1 .1 .1 .1 .1 .0), call-reached (c .before .before .before .before .before .before .before .count-call .ensures) (c .before .before .before .before .before .more .given .1) (c .before .before .before .before .before .before .before .before .before .before .before .before .before .before .before .before .before .before .before .before .pre .1 .1 .1 .1 .1 .1)), found-live (c .before .before .before .before .before .before .before .before .before .before .before .before .before .before .before .before .before .before .before .before .args .symbol) (c .before .before .before .before .before .before .before .before .before .before .before .before .before .before .before .before .before .before .before .before .pre .1 .1 .0 .1 .stands) (c .before .before .before .before .before .before .before .before .before .before .before .before .before .before .before .find .ensures) (c .before .before .before .before .before .before .before .before .before .before .before .before .before .row .given .1) .means .body))))))
+draw-call-draw-body-requires t c κs = let o = answered-descent (c .before .before .before .before .before .before .before .before .open-call .ensures) (c .before .before .before .before .before .before .row .given .1) in (omega (arith, c .before .before .before .before .before .before .before .before .before .before .before .before .before .pre .0, c .before .before .before .before .before .before .before .before .before .before .before .before .before .pre .1 .1 .1 .0 .0, pos-of-ne-zero (o .some-left)), (c .before .before .before .before .before .before .before .before .before .before .before .before .before .pre .1 .0, ((c .before .before .before .before .before .before .before .before .before .before .before .before .before .pre .1 .1 .0 .0, inner-scene (c .before .before .before .before .before .before .before .before .before .before .before .before .before .args .left) (c .before .before .before .before .before .before .before .before .before .before .before .before .before .pre .1 .1 .0 .1) (c .before .before .before .before .before .before .before .before .before .before .before .before .before .args .call .place) (c .before .before .before .before .before .before .before .before .before .before .before .before .before .args .call .symbol) (o .some-left) (c .before .before .before .before .before .before .before .before .before .before .before .before .before .pre .1 .1 .1 .0 .1) (c .before .before .before .before .before .before .before .before .before .before .before .before .before .pre .1 .1 .1 .0 .2)), ((c .before .before .before .before .before .before .before .before .before .before .before .before .before .pre .1 .1 .1 .0 .0, omega (arith, c .before .before .before .before .before .before .before .before .before .before .before .before .before .pre .1 .1 .1 .0 .1), length-set (c .before .before .before .before .before .before .before .before .before .before .before .before .before .args .drawing .now) (32 - c .before .before .before .before .before .before .before .before .before .before .before .before .before .args .left) (c .before .before .before .before .before .before .before .before .before .before .before .before .before .args .call .symbol) ∙ c .before .before .before .before .before .before .before .before .before .before .before .before .before .pre .1 .1 .1 .0 .2), (c .before .before .before .before .before .before .before .before .before .before .before .before .before .pre .1 .1 .1 .1 .0, ((near-more (omega (arith, pos-of-ne-zero (o .some-left), c .before .before .before .before .before .before .before .before .before .before .before .before .before .pre .1 .1 .1 .0 .1)) (c .before .before .before .before .before .before .before .before .before .before .before .before .before .pre .1 .1 .1 .1 .1 .0), descent-reached o (c .before .before .before .before .before .before .before .before .before .before .before .before .before .pre .1 .1 .1 .1 .1 .1)), known-row (c .before .before .before .before .before .before .before .before .before .before .before .before .before .args .call .symbol) (c .before .before .before .before .before .before .before .before .before .before .before .before .before .pre .1 .1 .0 .1 .stands) (o .is-row) .means .body))))))
+
+draw-call-same-length-2 : (t : ℕ) → draw-call-lts.Need-same-length-2 (call-claims t) (draw-call-at t) draw-call.Post
+draw-call-same-length-2 t c = c .before .before .before .before .before .before .draw-body .kept .1 .1 .1 .1 .1 .1 .1 .1 .1 .1 .0
+
+draw-call-same-length-3 : (t : ℕ) → draw-call-lts.Need-same-length-3 (call-claims t) (draw-call-at t) draw-call.Post
+draw-call-same-length-3 t c = c .before .before .before .before .before .before .draw-body .kept .1 .1 .1 .1 .1 .1 .1 .1 .1 .1 .1 .0
 
 draw-call-same-length-4 : (t : ℕ) → draw-call-lts.Need-same-length-4 (call-claims t) (draw-call-at t) draw-call.Post
-draw-call-same-length-4 t c = c .before .before .before .before .before .before .draw-body .kept .1 .1 .1 .1 .1 .1 .1 .1 .1 .1 .0
+draw-call-same-length-4 t c = c .before .before .before .before .before .before .draw-body .kept .1 .1 .1 .1 .1 .1 .1 .1 .1 .1 .1 .1 .0 ∙ length-set (c .before .before .before .before .before .before .before .before .before .before .before .before .before .before .before .before .before .before .before .before .args .drawing .now) (32 - c .before .before .before .before .before .before .before .before .before .before .before .before .before .before .before .before .before .before .before .before .args .left) (c .before .before .before .before .before .before .before .before .before .before .before .before .before .before .before .before .before .before .before .before .args .call .symbol)
 
 draw-call-same-length-5 : (t : ℕ) → draw-call-lts.Need-same-length-5 (call-claims t) (draw-call-at t) draw-call.Post
-draw-call-same-length-5 t c = c .before .before .before .before .before .before .draw-body .kept .1 .1 .1 .1 .1 .1 .1 .1 .1 .1 .1 .0
+draw-call-same-length-5 t c = c .before .before .before .before .before .before .draw-body .kept .1 .1 .1 .1 .1 .1 .1 .1 .1 .1 .1 .1 .1 .0
 
-draw-call-same-length-6 : (t : ℕ) → draw-call-lts.Need-same-length-6 (call-claims t) (draw-call-at t) draw-call.Post
-draw-call-same-length-6 t c = c .before .before .before .before .before .before .draw-body .kept .1 .1 .1 .1 .1 .1 .1 .1 .1 .1 .1 .1 .0 ∙ length-set (c .before .before .before .before .before .before .before .before .before .before .before .before .before .before .before .before .before .before .before .before .before .before .before .before .before .before .before .args .drawing .now) (32 - c .before .before .before .before .before .before .before .before .before .before .before .before .before .before .before .before .before .before .before .before .before .before .before .before .before .before .before .args .depth) (c .before .before .before .before .before .before .before .before .before .before .before .before .before .before .before .before .before .before .before .before .before .before .before .before .before .before .before .args .symbol)
-
-draw-call-same-length-7 : (t : ℕ) → draw-call-lts.Need-same-length-7 (call-claims t) (draw-call-at t) draw-call.Post
-draw-call-same-length-7 t c = c .before .before .before .before .before .before .draw-body .kept .1 .1 .1 .1 .1 .1 .1 .1 .1 .1 .1 .1 .1 .0
-
-draw-call-returns-6 : (t : ℕ) → draw-call-lts.Need-returns-6 (call-claims t) (draw-call-at t) draw-call.Post
-draw-call-returns-6 t c = (λ s outer ts e h. body-drawn s (found-live (c .before .before .before .before .before .before .before .before .before .before .before .before .before .before .before .before .before .before .before .before .before .before .before .before .before .before .before .args .symbol) (s .stands) (c .before .before .before .before .before .before .before .before .before .before .before .before .before .before .before .before .before .before .before .before .before .before .find .ensures) (c .before .before .before .before .before .before .before .before .before .before .before .before .before .before .before .before .before .before .before .before .row .given .1)) (c .before .before .before .before .before .before .before .before .before .before .before .before .before .before .before .if3 .left) (c .before .before .before .before .before .before .before .before .before .before .before .before .before .before .before .before .before .before .before .before .before .before .before .before .before .before .before .pre .1 .1 .1 .0 .1) (c .before .before .before .before .before .before .before .before .before .before .before .before .before .before .before .before .before .before .before .before .before .before .before .before .before .before .before .pre .1 .1 .1 .0 .2) (c .before .before .before .before .before .before .before .before .before .before .before .before .before .before .before .before .before .before .before .before .before .before .before .before .before .before .before .args .counts) (c .before .before .before .before .before .before .before .before .before .before .before .before .before .before .before .before .before .before .before .before .before .before .before .before .before .before .before .args .before) (c .before .before .before .before .before .before .before .before .before .before .before .before .before .before .count-call .ensures) _ (c .before .before .before .before .before .before .before .before .before .before .before .before .more .given .1) (c .before .before .before .before .before .before .before .before .before .before .before .before .before .before .before .before .before .before .before .before .before .before .before .before .before .before .before .pre .1 .1 .1 .1 .1 .1) (c .before .before .before .before .before .before .draw-body .ensures .0) (c .before .before .before .before .before .before .before .before .before .before .before .before .before .before .before .before .before .before .before .before .before .before .before .before .before .before .before .args .place) outer ts (sym e ∙ c .before .before .before .before .before .before .before .before .before .before .before .before .before .before .before .before .before .before .before .before .before .before .before .if1 .left) (open-test s (c .before .before .before .before .before .before .before .before .before .before .before .before .before .before .before .before .before .before .before .before .before .before .before .before .before .before .before .args .symbol) (c .before .before .before .before .before .before .before .before .before .before .before .before .before .before .before .before .before .is-open .ensures) ∙ c .before .before .before .before .before .before .before .before .before .before .before .before .before .before .before .before .if2 .left) h, kept-below (c .before .before .before .before .before .before .before .before .before .before .before .before .before .before .before .before .before .before .before .before .before .before .before .before .before .before .before .args .drawing .now) _ (c .before .before .before .before .before .before .before .before .before .before .before .before .before .before .before .before .before .before .before .before .before .before .before .before .before .before .before .args .depth) (c .before .before .before .before .before .before .before .before .before .before .before .before .before .before .before .before .before .before .before .before .before .before .before .before .before .before .before .args .symbol) (c .before .before .before .before .before .before .draw-body .ensures .1))
+draw-call-returns-2 : (t : ℕ) → draw-call-lts.Need-returns-2 (call-claims t) (draw-call-at t) draw-call.Post
+draw-call-returns-2 t c = (λ s outer ts e h. body-drawn s (answered-descent (c .before .before .before .before .before .before .before .before .before .before .before .before .before .before .before .open-call .ensures) (c .before .before .before .before .before .before .before .before .before .before .before .before .before .row .given .1)) (c .before .before .before .before .before .before .before .before .before .before .before .before .before .before .before .before .before .before .before .before .pre .1 .1 .1 .0 .1) (c .before .before .before .before .before .before .before .before .before .before .before .before .before .before .before .before .before .before .before .before .pre .1 .1 .1 .0 .2) (c .before .before .before .before .before .before .before .before .before .before .before .before .before .before .before .before .before .before .before .before .pre .1 .1 .1 .1 .1 .1) (c .before .before .before .before .before .before .draw-body .ensures .0) outer ts e h, kept-below (c .before .before .before .before .before .before .before .before .before .before .before .before .before .before .before .before .before .before .before .before .args .drawing .now) _ (c .before .before .before .before .before .before .before .before .before .before .before .before .before .before .before .before .before .before .before .before .args .left) (c .before .before .before .before .before .before .before .before .before .before .before .before .before .before .before .before .before .before .before .before .args .call .symbol) (c .before .before .before .before .before .before .draw-body .ensures .1))
 
 pub +draw-body+draw-call-spec : {M : Type 1} → statement M
 +draw-body+draw-call-spec = close μ-draw-body μ-draw-call (λ t. draw-body-lts.spec (body-claims t)
@@ -318,10 +282,10 @@ pub +draw-body+draw-call-spec : {M : Type 1} → statement M
     (draw-body-loop-again t)
     (draw-body-read-call-requires t)
     (draw-body-draw-call-requires t)
-    (draw-body-enum-known-c t)
+    (draw-body-enum-known-called t)
     (draw-body-loop-less-2 t)
     (draw-body-loop-again-2 t)
-    (draw-body-enum-known-no t)
+    (draw-body-enum-known-refusal t)
     (draw-body-same-length-9 t)
     (draw-body-same-length-10 t)
     (draw-body-same-length-11 t)
@@ -329,10 +293,10 @@ pub +draw-body+draw-call-spec : {M : Type 1} → statement M
     (draw-body-returns-3 t)
     (draw-body-is-drawable-requires t)
     (draw-body-draw-shape-requires t)
-    (draw-body-enum-known-c-2 t)
+    (draw-body-enum-known-shown t)
     (draw-body-loop-less-3 t)
     (draw-body-loop-again-3 t)
-    (draw-body-enum-known-no-2 t)
+    (draw-body-enum-known-refusal-2 t)
     (draw-body-same-length-13 t)
     (draw-body-same-length-14 t)
     (draw-body-same-length-15 t)
@@ -343,28 +307,18 @@ pub +draw-body+draw-call-spec : {M : Type 1} → statement M
     λ t. draw-call-lts.spec (call-claims t)
     (draw-call-at t)
     draw-call.Post
-    (draw-call-returns t)
-    (draw-call-find-requires t)
-    (draw-call-enum-told t)
-    (draw-call-returns-2 t)
-    (draw-call-enum-known-row t)
-    (draw-call-sub-level t)
-    (draw-call-is-open-requires t)
-    (draw-call-same-length t)
-    (draw-call-returns-3 t)
-    (draw-call-same-length-2 t)
-    (draw-call-returns-4 t)
-    (draw-call-count-call-requires t)
+    (draw-call-open-call-requires t)
     (draw-call-enum-known-refusal t)
-    (draw-call-same-length-3 t)
-    (draw-call-returns-5 t)
-    (draw-call-enum-known-more t)
+    (draw-call-same-length t)
+    (draw-call-returns t)
+    (draw-call-enum-known-row t)
+    (draw-call-sub-drawing t)
     (draw-call-mul-drawing t)
     (draw-call-slice-write-drawing t)
     (draw-call-sub-draw-body t)
     (draw-call-draw-body-requires t)
+    (draw-call-same-length-2 t)
+    (draw-call-same-length-3 t)
     (draw-call-same-length-4 t)
     (draw-call-same-length-5 t)
-    (draw-call-same-length-6 t)
-    (draw-call-same-length-7 t)
-    (draw-call-returns-6 t)
+    (draw-call-returns-2 t)

@@ -12,7 +12,7 @@ use Rattle.bodies.proofs.draw_outer.Lts as lts
 use Rattle.bodies.proofs.draw_call.Reads as draw-call-reads
 use Rattle.shapes.proofs.draw_shape.Reads as draw-shape-reads
 use Rattle.bodies.proofs.is_drawable.Reads as is-drawable-reads
-use Rattle.bodies.proofs.read_call.Reads as read-call-reads
+use Rattle.calls.proofs.read_call.Reads as read-call-reads
 use Rattle.turns.proofs.still.Reads as still-reads
 
 still-requires : tie.Need-still-requires

@@ -13,18 +13,18 @@ use Rattle.drawing.proofs.draw_text.Tie as tie
 use Rattle.drawing.proofs.draw_text.Reads as reads
 use Rattle.drawing.proofs.draw_text.Lts as lts
 use Rattle.counts.proofs.no_counts.Reads as no-counts-reads
-use Rattle.drawing.proofs.define.Reads as define-reads
+use Rattle.definitions.proofs.define.Reads as define-reads
 use Rattle.bodies.proofs.draw_outer.Reads as draw-outer-reads
 use Rattle.shapes.proofs.size_at.Reads as size-at-reads
 use Rattle.commands.proofs.read_command.Reads as read-command-reads
 use Rattle.table.proofs.delete.Reads as delete-reads
 
 abbrev Inv-loop : tie.InvT-loop
-Inv-loop text kinds next symbols₀ places₀ starts₀ ends₀ factors₀ divisors₀ words₀ numbers₀ drawing₀ room₀ spot₀ layer₀ count₀ done₀ pen₀ symbols places starts ends factors divisors words numbers drawing room spot layer count done pen =
-    Passing text words₀ numbers₀ drawing₀ room₀ (columns symbols places starts ends factors divisors) words numbers drawing room spot layer count done pen
+Inv-loop text kinds next symbols₀ places₀ starts₀ ends₀ factors₀ divisors₀ words₀ numbers₀ drawing₀ room₀ spot₀ layer₀ count₀ ink₀ symbols places starts ends factors divisors words numbers drawing room spot layer count ink =
+    Passing text words₀ numbers₀ drawing₀ room₀ (columns symbols places starts ends factors divisors) words numbers drawing room spot layer count ink
 
 abbrev μ-loop : tie.MeasureT-loop
-μ-loop text kinds next symbols₀ places₀ starts₀ ends₀ factors₀ divisors₀ words₀ numbers₀ drawing₀ room₀ spot₀ layer₀ count₀ done₀ pen₀ symbols places starts ends factors divisors words numbers drawing room spot layer count done pen =
+μ-loop text kinds next symbols₀ places₀ starts₀ ends₀ factors₀ divisors₀ words₀ numbers₀ drawing₀ room₀ spot₀ layer₀ count₀ ink₀ symbols places starts ends factors divisors words numbers drawing room spot layer count ink =
     length text - spot .at
 
 no-counts-requires : tie.Need-no-counts-requires Inv-loop μ-loop
@@ -88,10 +88,10 @@ enum-known-n : tie.Need-enum-known-n Inv-loop μ-loop
 enum-known-n c = c .match2 .keys1
 
 loop-less-3 : tie.Need-loop-less-3 Inv-loop μ-loop
-loop-less-3 c = defined-on (c .before .before .before .before .before .before .before .before .before .before .before .before .before .before .before .before .before .before .before .before .before .loop .inv) (c .before .before .before .before .before .before .before .before .before .before .before .before .before .before .before .before .before .before .before .before .before .before .before .before .before .before .pre .1 .1 .0) (read-one (c .before .before .before .before .before .before .before .before .before .before .before .before .before .before .before .before .before .before .before .read-command .ensures) (c .before .before .before .before .before .before .before .before .before .before .before .before .before .before .before .before .kind .given .1) .1) (c .before .before .before .before .before .before .before .before .before .before .before .before .if3 .taken) _ (c .before .before .before .before .define .ensures) (c .before .n .given .1)
+loop-less-3 c = defined-on (c .before .before .before .before .before .before .before .before .before .before .before .before .before .before .before .before .before .before .before .before .before .before .loop .inv) (c .before .before .before .before .before .before .before .before .before .before .before .before .before .before .before .before .before .before .before .before .before .before .before .before .before .before .before .pre .1 .1 .0) (read-one (c .before .before .before .before .before .before .before .before .before .before .before .before .before .before .before .before .before .before .before .before .read-command .ensures) (c .before .before .before .before .before .before .before .before .before .before .before .before .before .before .before .before .before .kind .given .1) .1) (c .before .before .before .before .before .before .before .before .before .before .before .before .before .if3 .taken) _ (c .before .before .before .before .before .define .ensures) (c .before .before .n .given .1)
 
 loop-again-3 : tie.Need-loop-again-3 Inv-loop μ-loop
-loop-again-3 c = passing-defined (c .before .before .before .before .before .before .before .before .before .before .before .before .before .before .before .before .before .before .before .before .before .loop .inv) (c .before .before .before .before .before .before .before .before .before .before .before .before .before .before .before .before .before .before .before .before .before .before .before .before .before .before .pre .1 .1 .0) (read-one (c .before .before .before .before .before .before .before .before .before .before .before .before .before .before .before .before .before .before .before .read-command .ensures) (c .before .before .before .before .before .before .before .before .before .before .before .before .before .before .before .before .kind .given .1) .1) (c .before .before .before .before .before .before .before .before .before .before .before .before .if3 .taken) _ (c .before .before .before .before .define .ensures) (c .before .n .given .1) (c .before .before .before .before .define .kept .1 .1 .1 .1 .1 .1 .1 .1 .1 .1 .0)
+loop-again-3 c = passing-defined (c .before .before .before .before .before .before .before .before .before .before .before .before .before .before .before .before .before .before .before .before .before .before .loop .inv) (c .before .before .before .before .before .before .before .before .before .before .before .before .before .before .before .before .before .before .before .before .before .before .before .before .before .before .before .pre .1 .1 .0) (read-one (c .before .before .before .before .before .before .before .before .before .before .before .before .before .before .before .before .before .before .before .before .read-command .ensures) (c .before .before .before .before .before .before .before .before .before .before .before .before .before .before .before .before .before .kind .given .1) .1) (c .before .before .before .before .before .before .before .before .before .before .before .before .before .if3 .taken) _ (c .before .before .before .before .before .define .ensures) (c .before .before .n .given .1) (c .before .before .before .before .before .define .kept .1 .1 .1 .1 .1 .1 .1 .1 .1 .1 .0)
 
 enum-told-2 : tie.Need-enum-told-2 Inv-loop μ-loop
 enum-told-2 c = c .match2 .keys2
@@ -114,17 +114,17 @@ returns-2 c = passing-overfull (c .before .before .before .before .before .befor
 draw-outer-requires : tie.Need-draw-outer-requires Inv-loop μ-loop
 draw-outer-requires c κs = (c .before .before .before .before .before .before .before .before .before .before .before .before .before .before .before .before .before .before .before .before .before .before .before .before .pre .0, ((c .before .before .before .before .before .before .before .before .before .before .before .before .before .before .before .before .before .before .before .loop .inv .sorted, table-there (c .before .before .before .before .before .before .before .before .before .before .before .before .before .before .before .before .before .before .before .loop .inv)), ((c .before .before .before .before .before .before .before .before .before .before .before .before .before .before .before .before .before .before .before .before .before .before .before .before .pre .1 .0 .0 .short, c .before .before .before .before .before .before .before .before .before .before .before .before .before .before .before .before .before .before .before .loop .inv .drawing-kept ∙ c .before .before .before .before .before .before .before .before .before .before .before .before .before .before .before .before .before .before .before .before .before .before .before .before .pre .1 .1 .2), ((words-then (c .before .before .before .before .before .before .before .before .before .before .before .before .before .before .before .before .before .before .before .loop .inv) (c .before .before .before .before .before .before .before .before .before .before .before .before .before .before .before .before .before .before .before .before .before .before .before .before .pre .1 .1 .0) (read-one (c .before .before .before .before .before .before .before .before .before .before .before .before .before .before .before .before .before .read-command .ensures) (c .before .before .before .before .before .before .before .before .before .before .before .before .before .before .kind .given .1) .1), omega (arith, c .before .before .before .before .before .before .before .before .before .before .before .before .before .before .before .before .before .before .before .loop .inv .numbers-kept, c .before .before .before .before .before .before .before .before .before .before .before .before .before .before .before .before .before .before .before .before .before .before .before .before .pre .1 .1 .1)), (passing-speaks (c .before .before .before .before .before .before .before .before .before .before .before .before .before .before .before .before .before .before .before .loop .inv) (c .before .before .before .before .before .before .before .before .before .before .before .before .before .before .before .before .before .before .before .before .before .before .before .before .pre .1 .1 .0) (read-one (c .before .before .before .before .before .before .before .before .before .before .before .before .before .before .before .before .before .read-command .ensures) (c .before .before .before .before .before .before .before .before .before .before .before .before .before .before .kind .given .1) .1), reached-there (c .before .before .before .before .before .before .before .before .before .before .before .before .before .before .before .before .before .before .before .loop .inv))))))
 
-enum-known-c : tie.Need-enum-known-c Inv-loop μ-loop
-enum-known-c c = c .match3 .keys1
+enum-known-drawn : tie.Need-enum-known-drawn Inv-loop μ-loop
+enum-known-drawn c = c .match3 .keys1
 
 loop-less-4 : tie.Need-loop-less-4 Inv-loop μ-loop
 loop-less-4 c = omega (arith, (read-one (c .before .before .before .before .before .before .before .before .before .before .before .before .before .before .before .before .before .before .before .before .before .before .before .before .before .before .before .read-command .ensures) (c .before .before .before .before .before .before .before .before .before .before .before .before .before .before .before .before .before .before .before .before .before .before .before .before .kind .given .1) .1) .ahead, (read-one (c .before .before .before .before .before .before .before .before .before .before .before .before .before .before .before .before .before .before .before .before .before .before .before .before .before .before .before .read-command .ensures) (c .before .before .before .before .before .before .before .before .before .before .before .before .before .before .before .before .before .before .before .before .before .before .before .before .kind .given .1) .1) .fit .within)
 
 loop-again-4 : tie.Need-loop-again-4 Inv-loop μ-loop
-loop-again-4 c = passing-drawn (c .before .before .before .before .before .before .before .before .before .before .before .before .before .before .before .before .before .before .before .before .before .before .before .before .before .before .before .before .before .loop .inv) (c .before .before .before .before .before .before .before .before .before .before .before .before .before .before .before .before .before .before .before .before .before .before .before .before .before .before .before .before .before .before .before .before .before .before .pre .1 .1 .0) (read-one (c .before .before .before .before .before .before .before .before .before .before .before .before .before .before .before .before .before .before .before .before .before .before .before .before .before .before .before .read-command .ensures) (c .before .before .before .before .before .before .before .before .before .before .before .before .before .before .before .before .before .before .before .before .before .before .before .before .kind .given .1) .1) (c .before .before .before .before .before .before .before .before .before .before .before .before .before .before .before .before .before .before .before .before .before .before .if1 .left) (c .before .before .before .before .before .before .before .before .before .before .before .before .before .before .before .before .before .before .before .before .before .if2 .left) (c .before .before .before .before .before .before .before .before .before .before .before .before .before .before .before .before .before .before .before .before .if3 .left) (c .before .before .before .before .before .before .before .before .before .draw-outer .ensures) (c .before .c .given .1) (c .before .before .before .before .before .before .before .before .before .draw-outer .kept .1 .1 .1 .1 .1 .1 .1 .1 .1 .1 .0) (c .before .before .before .before .before .before .before .before .before .draw-outer .kept .1 .1 .1 .1 .1 .1 .1 .1 .1 .1 .1 .0) (c .before .before .before .before .before .before .before .before .before .draw-outer .kept .1 .1 .1 .1 .1 .1 .1 .1 .1 .1 .1 .1 .0)
+loop-again-4 c = passing-drawn (c .before .before .before .before .before .before .before .before .before .before .before .before .before .before .before .before .before .before .before .before .before .before .before .before .before .before .before .before .before .loop .inv) (c .before .before .before .before .before .before .before .before .before .before .before .before .before .before .before .before .before .before .before .before .before .before .before .before .before .before .before .before .before .before .before .before .before .before .pre .1 .1 .0) (read-one (c .before .before .before .before .before .before .before .before .before .before .before .before .before .before .before .before .before .before .before .before .before .before .before .before .before .before .before .read-command .ensures) (c .before .before .before .before .before .before .before .before .before .before .before .before .before .before .before .before .before .before .before .before .before .before .before .before .kind .given .1) .1) (c .before .before .before .before .before .before .before .before .before .before .before .before .before .before .before .before .before .before .before .before .before .before .if1 .left) (c .before .before .before .before .before .before .before .before .before .before .before .before .before .before .before .before .before .before .before .before .before .if2 .left) (c .before .before .before .before .before .before .before .before .before .before .before .before .before .before .before .before .before .before .before .before .if3 .left) (c .before .before .before .before .before .before .before .before .before .draw-outer .ensures) (c .before .drawn .given .1) (c .before .before .before .before .before .before .before .before .before .draw-outer .kept .1 .1 .1 .1 .1 .1 .1 .1 .1 .1 .0) (c .before .before .before .before .before .before .before .before .before .draw-outer .kept .1 .1 .1 .1 .1 .1 .1 .1 .1 .1 .1 .0) (c .before .before .before .before .before .before .before .before .before .draw-outer .kept .1 .1 .1 .1 .1 .1 .1 .1 .1 .1 .1 .1 .0)
 
-enum-known-no : tie.Need-enum-known-no Inv-loop μ-loop
-enum-known-no c = c .match3 .keys2
+enum-known-refusal : tie.Need-enum-known-refusal Inv-loop μ-loop
+enum-known-refusal c = c .match3 .keys2
 
 same-length-9 : tie.Need-same-length-9 Inv-loop μ-loop
 same-length-9 c = c .before .before .before .before .before .before .before .before .before .draw-outer .kept .1 .1 .1 .1 .1 .1 .1 .1 .1 .1 .0 ∙ c .before .before .before .before .before .before .before .before .before .before .before .before .before .before .before .before .before .before .before .before .before .before .before .before .before .before .before .read-command .kept .1 .1 .1 .0 ∙ c .before .before .before .before .before .before .before .before .before .before .before .before .before .before .before .before .before .before .before .before .before .before .before .before .before .before .before .before .before .loop .inv .words-kept
@@ -139,7 +139,7 @@ same-length-12 : tie.Need-same-length-12 Inv-loop μ-loop
 same-length-12 c = c .before .before .before .before .before .before .before .before .before .draw-outer .kept .1 .1 .1 .1 .1 .1 .1 .1 .1 .1 .1 .1 .1 .0 ∙ room-there (c .before .before .before .before .before .before .before .before .before .before .before .before .before .before .before .before .before .before .before .before .before .before .before .before .before .before .before .before .before .loop .inv)
 
 returns-3 : tie.Need-returns-3 Inv-loop μ-loop
-returns-3 c = passing-stopped (c .before .before .before .before .before .before .before .before .before .before .before .before .before .before .before .before .before .before .before .before .before .before .before .before .before .before .before .before .before .loop .inv) (c .before .before .before .before .before .before .before .before .before .before .before .before .before .before .before .before .before .before .before .before .before .before .before .before .before .before .before .before .before .before .before .before .before .before .pre .1 .1 .0) (read-one (c .before .before .before .before .before .before .before .before .before .before .before .before .before .before .before .before .before .before .before .before .before .before .before .before .before .before .before .read-command .ensures) (c .before .before .before .before .before .before .before .before .before .before .before .before .before .before .before .before .before .before .before .before .before .before .before .before .kind .given .1) .1) (c .before .before .before .before .before .before .before .before .before .before .before .before .before .before .before .before .before .before .before .before .before .before .if1 .left) (c .before .before .before .before .before .before .before .before .before .before .before .before .before .before .before .before .before .before .before .before .before .if2 .left) (c .before .before .before .before .before .before .before .before .before .before .before .before .before .before .before .before .before .before .before .before .if3 .left) (c .before .before .before .before .before .before .before .before .before .draw-outer .ensures) (c .before .no .given .1)
+returns-3 c = passing-stopped (c .before .before .before .before .before .before .before .before .before .before .before .before .before .before .before .before .before .before .before .before .before .before .before .before .before .before .before .before .before .loop .inv) (c .before .before .before .before .before .before .before .before .before .before .before .before .before .before .before .before .before .before .before .before .before .before .before .before .before .before .before .before .before .before .before .before .before .before .pre .1 .1 .0) (read-one (c .before .before .before .before .before .before .before .before .before .before .before .before .before .before .before .before .before .before .before .before .before .before .before .before .before .before .before .read-command .ensures) (c .before .before .before .before .before .before .before .before .before .before .before .before .before .before .before .before .before .before .before .before .before .before .before .before .kind .given .1) .1) (c .before .before .before .before .before .before .before .before .before .before .before .before .before .before .before .before .before .before .before .before .before .before .if1 .left) (c .before .before .before .before .before .before .before .before .before .before .before .before .before .before .before .before .before .before .before .before .before .if2 .left) (c .before .before .before .before .before .before .before .before .before .before .before .before .before .before .before .before .before .before .before .before .if3 .left) (c .before .before .before .before .before .before .before .before .before .draw-outer .ensures) (c .before .refusal .given .1)
 
 pub draw-text-spec : {M : Type 1} → statement M
 draw-text-spec =
@@ -176,10 +176,10 @@ draw-text-spec =
     same-length-8
     returns-2
     draw-outer-requires
-    enum-known-c
+    enum-known-drawn
     loop-less-4
     loop-again-4
-    enum-known-no
+    enum-known-refusal
     same-length-9
     same-length-10
     same-length-11

@@ -1,5 +1,5 @@
--- A call's words, and what is read from them where calls are open already. A running account, not to be believed: proofs/Reading.antt shows that the
--- words of every call of a sound text are such.
+-- A call's words, and what is read from them where calls are open already. A running account, not to be believed: proofs/Reading.antt of crate bodies
+-- shows that the words of every call of a sound text are such.
 -- Assumes nothing.
 use mathlib.Core.Path.{_≡_}
 use mathlib.Core.List.{List, _∷_, _++_}
@@ -11,7 +11,7 @@ use Rattle.definition.specs.Turns.{offAxes}
 use Rattle.turns.specs.Words.{turnsWords}
 use Rattle.turns.specs.Nets.{Carries, Near}
 use Rattle.turns.specs.declared.Net.{Net}
-use Rattle.bodies.specs.declared.Call.{Call}
+use Rattle.calls.specs.declared.Call.{Call}
 
 -- the words behind the first two, up to this place, are a call's: its symbol and its list
 pub record CalledAt (words : List ℤ) (end : ℕ) : Type 0 where
@@ -23,8 +23,9 @@ pub record CalledAt (words : List ℤ) (end : ℕ) : Type 0 where
   pub few : length turns ≤ 32
 
 -- the call's own list acts before those of the open calls, and adds at most one level's step
-pub record ReadsCall (n : ℤ) (ts : List (Turn ℤ)) (outer : Net) (r : Call) : Type 0 where
+pub record ReadsCall (n : ℤ) (ts : List (Turn ℤ)) (outer : Net) (place : ℕ) (r : Call) : Type 0 where
   pub symbol : r .symbol ≡ natAbs n
   pub askew : r .askew ≡ offAxes ts
+  pub at-place : r .place ≡ place
   pub carries : (before : List (Turn ℤ)) → Carries before outer → Carries (ts ++ before) (r .net)
   pub near : (most : ℕ) → Near most outer → Near (2 ^ 36 + most) (r .net)

@@ -1,6 +1,6 @@
 -- A call's words as `read_call` takes them apart: the symbol in front, and behind it a list that crates/turns reads.
 -- Assumes nothing.
-use mathlib.Core.Path.{_≡_, sym, ap, _∙_}
+use mathlib.Core.Path.{_≡_, refl, sym, ap, _∙_}
 use mathlib.Core.List.{List}
 use Prim.Native.Nat.{ℕ, _^_, _<_}
 use native.Mathlib.Omega.{arith}
@@ -11,7 +11,7 @@ use Rattle.turns.specs.Nets.{Composed, Written, IsListed}
 use Rattle.turns.specs.declared.Net.{Net}
 use Rattle.turns.specs.declared.Listed.{Listed}
 use Rattle.turns.proofs.Nets.{carries-both}
-use Rattle.bodies.specs.Calls.{CalledAt, ReadsCall}
+use Rattle.calls.specs.Calls.{CalledAt, ReadsCall}
 
 module _ {words : List ℤ} {end : ℕ} (h : CalledAt words end) where
   pub symbol-there : 2 < length words
@@ -29,11 +29,12 @@ module _ {words : List ℤ} {end : ℕ} (h : CalledAt words end) where
     few = h .few;
   }
 
-  pub call-read : {list : Listed} {outer both : Net} {n : ℕ} → IsListed (h .turns) list → Composed (list .net) outer both → n ≡ natAbs (getD words 2 (pos 0))
-      → ReadsCall (h .symbol) (h .turns) outer (record { symbol = n; askew = list .askew; net = both })
+  pub call-read : {list : Listed} {outer both : Net} {n place : ℕ} → IsListed (h .turns) list → Composed (list .net) outer both → n ≡ natAbs (getD words 2 (pos 0))
+      → ReadsCall (h .symbol) (h .turns) outer place (record { symbol = n; askew = list .askew; net = both; place = place })
   call-read {list} {outer} {both} is c e = record {
     symbol = e ∙ ap natAbs symbol-word;
     askew = is .askew;
+    at-place = refl;
     carries = λ before b. carries-both (h .turns) before (list .net) outer both (is .carries) b c;
     near = λ most b. c .near (2 ^ 36) most (is .near) b;
   }

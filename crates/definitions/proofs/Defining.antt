@@ -18,6 +18,7 @@ use Rattle.definition.specs.Standing.{Standing, after}
 use Rattle.definition.specs.Table.{Definition, Table, find, enter}
 use Rattle.definition.specs.Drawing.{define, Event, entered, refused, happens}
 use Rattle.definition.specs.Counts.{finished, counted, shapesOf}
+use Rattle.definition.specs.declared.Refusal.{Refusal}
 use Rattle.table.specs.declared.Row.{Row}
 use Rattle.table.specs.declared.Entered.{Entered}
 use Rattle.table.specs.declared.Entered.the-variants.{Replaced, Added, Full}
@@ -31,10 +32,10 @@ use Rattle.counts.specs.declared.Counts.{Counts}
 use Rattle.counts.specs.Counting.{tally, CountsRedefinition}
 use Rattle.shapes.specs.declared.Pen.{Pen}
 use Rattle.shapes.specs.declared.Drawn.the-variants.{Done, Refused}
-use Rattle.shapes.specs.Painting.{Reached, Painted}
+use Rattle.shapes.specs.Painting.{inked, Reached, Painted}
 use Rattle.bodies.specs.Voices.{Told}
 use Rattle.bodies.specs.Rows.{Means, Stands}
-use Rattle.drawing.specs.Outside.{Opens, behindStart, definitionAt, Passes, Takes}
+use Rattle.definitions.specs.Defining.{Opens, behindStart, definitionAt, Passes, PassesOver, Takes}
 use Rattle.bodies.proofs.Rows.{Both, neither, these, stands-length, find-stands, enter-stands}
 use Rattle.shapes.proofs.Painting.{quiet, refusal}
 
@@ -75,9 +76,12 @@ module _ {t : List ℕ} {rows : List Row} {table : Table} (s : Stands t rows tab
 -- ---- what happens
 
 -- a redefinition leaves calls and shapes as they are
-redefined-reached : {c more : Counts} {pen : Pen} → CountsRedefinition c more → Reached c pen → Reached more pen
+redefined-reached : {c more : Counts} {pen : Pen} → CountsRedefinition c more → Reached (inked c pen) → Reached (inked more pen)
 redefined-reached {pen = pen} one r =
-    subst (λ (x : Counts). Reached x pen) (sym (one .is)) (record { calls-most = r .calls-most; shapes-most = r .shapes-most; place-most = r .place-most })
+    subst (λ (x : Counts). Reached (inked x pen)) (sym (one .is)) (record { calls-most = r .calls-most; shapes-most = r .shapes-most; place-most = r .place-most })
+
+abbrev overfull : ℕ → Refusal
+overfull p = record { number = 10; place = p }
 
 module _ (table : Table) (d : Definition) (c : Counts) where
   fits-in : length (enter d table) ≤ 512 → happens table (define d) ≡ entered d table ∷ []
@@ -88,21 +92,21 @@ module _ (table : Table) (d : Definition) (c : Counts) where
   unfolding happens
   too-much e = rw e
 
-  entered-so : {c′ : Counts} → counted (tally c) (entered d table) ≡ finished (tally c′) → length (enter d table) ≤ 512 → (pen : Pen) (room : List ℕ) → Reached c′ pen
-      → Painted c pen (happens table (define d)) room (Done c′ pen) room
+  entered-so : {c′ : Counts} → counted (tally c) (entered d table) ≡ finished (tally c′) → length (enter d table) ≤ 512 → (pen : Pen) (room : List ℕ) → Reached (inked c′ pen)
+      → Painted (inked c pen) (happens table (define d)) room (Done (inked c′ pen)) room
   unfolding shapesOf
   entered-so {c′} e h pen room r =
-      subst (λ (es : List Event). Painted c pen es room (Done c′ pen) room) (sym (fits-in h)) (quiet c c′ pen (entered d table) room e refl r)
+      subst (λ (es : List Event). Painted (inked c pen) es room (Done (inked c′ pen)) room) (sym (fits-in h)) (quiet (inked c pen) c′ (entered d table) room e refl r)
 
   -- the first of its number counts as nothing
   first-entered : none? (find (d .symbol) table) ≡ true → counted (tally c) (entered d table) ≡ finished (tally c)
   unfolding counted
   first-entered e = rw e
 
-  refused-so : length (enter d table) ≡ 513 → (pen : Pen) (room : List ℕ) → Painted c pen (happens table (define d)) room (Refused 10 (d .place)) room
+  refused-so : length (enter d table) ≡ 513 → (pen : Pen) (room : List ℕ) → Painted (inked c pen) (happens table (define d)) room (Refused (overfull (d .place))) room
   refused-so e pen room =
-      subst (λ (es : List Event). Painted c pen es room (Refused 10 (d .place)) room) (sym (too-much e))
-      (refusal c pen (refused 10 (d .place) []) [] room 10 (d .place) [] (unfold counted in refl))
+      subst (λ (es : List Event). Painted (inked c pen) es room (Refused (overfull (d .place))) room) (sym (too-much e))
+      (refusal (inked c pen) (refused 10 (d .place) []) [] room (overfull (d .place)) [] (unfold counted in refl))
 
 -- ---- the row of a definition, by the words of its DS
 
@@ -122,10 +126,9 @@ module _ {t : List ℕ} {words : List ℤ} {from : Spot} (h : Opens t words from
   pub divisor-some : {y : ℕ} → y ≡ natAbs (getD words 4 (pos 0)) → 1 ≤ y
   divisor-some e = let m = h .some-b in omega (arith, divisor-is e)
 
-  -- what is told behind a DS is what `skip_body` asks for
+  -- what is told after a DS is what `skip_body` asks for
   pub passed-over : {x y : ℕ} → x ≡ natAbs (getD words 3 (pos 0)) → y ≡ natAbs (getD words 4 (pos 0)) → {to : Spot}
-      → ((σ : Standing) (cs : List (Placed Command)) → Told σ (written (stream t from)) cs → σ .inside ≡ true → σ .a ≡ x → σ .b ≡ y → Passes t σ cs to)
-      → Passes t (behindStart h) (h .commands) to
+      → PassesOver t from x y to → Passes t (behindStart h) (h .commands) to
   unfolding after
   passed-over ex ey f = f (behindStart h) (h .commands) (h .told) refl (sym (factor-is ex)) (sym (divisor-is ey))
 
@@ -206,7 +209,7 @@ module _ {t : List ℕ} {words : List ℤ} {from : Spot} (h : Opens t words from
               ahead = ahead;
             }
 
-      pub one-too-many : {r : Entered} → Enters old new count row r → r ≡ Full → (pen : Pen) (room : List ℕ) → Painted c pen (happens table (define d)) room (Refused 10 place) room
+      pub one-too-many : {r : Entered} → Enters old new count row r → r ≡ Full → (pen : Pen) (room : List ℕ) → Painted (inked c pen) (happens table (define d)) room (Refused (overfull place)) room
       unfolding Entering
       one-too-many k q =
           let e = subst (Enters old new count row) q k in

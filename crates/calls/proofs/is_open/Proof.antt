@@ -6,9 +6,9 @@ use native.Mathlib.Omega.{arith}
 use lib.Dec.{eqb}
 use lib.ListN.{take, drop}
 use Rattle.definition.specs.Words.{any}
-use Rattle.bodies.proofs.Opened.{open-here, open-next, open-none}
-use Rattle.bodies.proofs.is_open.Statement.{statement}
-use Rattle.bodies.proofs.is_open.Tie as tie
+use Rattle.calls.proofs.Searching.{open-here, open-next, open-none}
+use Rattle.calls.proofs.is_open.Statement.{statement}
+use Rattle.calls.proofs.is_open.Tie as tie
 
 abbrev Inv-loop : tie.InvT-loop
 Inv-loop symbols level symbol i₀ i = (i ≤ level) × (any (λ x. eqb x symbol) (drop i (take level symbols)) ≡ any (λ x. eqb x symbol) (take level symbols))

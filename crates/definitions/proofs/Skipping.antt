@@ -21,7 +21,7 @@ use Rattle.commands.specs.declared.Read.the-variants.{Nothing}
 use Rattle.commands.specs.Words.{DecodedOne, ReadsCommand}
 use Rattle.bodies.specs.Voices.{Voice, a-shape, a-call, a-layer, a-start, a-finish, a-delete, a-nothing, Told, none-told}
 use Rattle.moves.specs.Moves.{mostValues}
-use Rattle.drawing.specs.Outside.{Passes}
+use Rattle.definitions.specs.Defining.{Passes}
 use Rattle.bodies.proofs.Letters.{is-finish}
 use Rattle.bodies.proofs.Reading.{Met, meets, run-kept, read-none, none-met}
 use Rattle.bodies.proofs.Steps.{layer-told, finish-told, nothing-told, inner-shape, inner-call}

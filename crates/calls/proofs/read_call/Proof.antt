@@ -2,11 +2,11 @@
 -- Assumes nothing.
 use native.Mathlib.Omega.{arith}
 use Rattle.turns.proofs.Nets.{near-more}
-use Rattle.bodies.proofs.CallWords.{symbol-there, call-list, call-read}
-use Rattle.bodies.proofs.read_call.Statement.{statement}
-use Rattle.bodies.proofs.read_call.Tie as tie
-use Rattle.bodies.proofs.read_call.Reads as reads
-use Rattle.bodies.proofs.read_call.Lts as lts
+use Rattle.calls.proofs.CallWords.{symbol-there, call-list, call-read}
+use Rattle.calls.proofs.read_call.Statement.{statement}
+use Rattle.calls.proofs.read_call.Tie as tie
+use Rattle.calls.proofs.read_call.Reads as reads
+use Rattle.calls.proofs.read_call.Lts as lts
 use Rattle.shapes.proofs.size_at.Reads as size-at-reads
 use Rattle.turns.proofs.compose.Reads as compose-reads
 use Rattle.turns.proofs.list_net.Reads as list-net-reads

@@ -1,16 +1,16 @@
 -- `define` meets its contract: the row is entered as the definition is in the table (proofs/Defining.antt), and its body passed over.
 -- Assumes nothing.
 use native.Mathlib.Omega.{arith}
-use Rattle.drawing.specs.Outside.{Defines}
-use Rattle.drawing.proofs.Defining.{factor-most, divisor-some, passed-over, took-over, took-new, one-too-many}
+use Rattle.definitions.specs.Defining.{Defines}
+use Rattle.definitions.proofs.Defining.{factor-most, divisor-some, passed-over, took-over, took-new, one-too-many}
 use borrow.Author.Needs.{needs}
-use Rattle.drawing.proofs.define.Statement.{statement}
-use Rattle.drawing.proofs.define.Tie as tie
-use Rattle.drawing.proofs.define.Reads as reads
-use Rattle.drawing.proofs.define.Lts as lts
+use Rattle.definitions.proofs.define.Statement.{statement}
+use Rattle.definitions.proofs.define.Tie as tie
+use Rattle.definitions.proofs.define.Reads as reads
+use Rattle.definitions.proofs.define.Lts as lts
 use Rattle.counts.proofs.count_redefinition.Reads as count-redefinition-reads
 use Rattle.shapes.proofs.size_at.Reads as size-at-reads
-use Rattle.drawing.proofs.skip_body.Reads as skip-body-reads
+use Rattle.definitions.proofs.skip_body.Reads as skip-body-reads
 use Rattle.table.proofs.enter.Reads as enter-reads
 
 size-at-requires : tie.Need-size-at-requires

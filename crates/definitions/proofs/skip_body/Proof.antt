@@ -5,11 +5,11 @@ use Prim.Native.Nat.{_-_}
 use native.Mathlib.Omega.{arith}
 use lib.ListN.{length}
 use Rattle.bodies.proofs.Reading.{read-one}
-use Rattle.drawing.proofs.Skipping.{Skims, skims-begin, skims-out, skims-ended, skims-on}
-use Rattle.drawing.proofs.skip_body.Statement.{statement}
-use Rattle.drawing.proofs.skip_body.Tie as tie
-use Rattle.drawing.proofs.skip_body.Reads as reads
-use Rattle.drawing.proofs.skip_body.Lts as lts
+use Rattle.definitions.proofs.Skipping.{Skims, skims-begin, skims-out, skims-ended, skims-on}
+use Rattle.definitions.proofs.skip_body.Statement.{statement}
+use Rattle.definitions.proofs.skip_body.Tie as tie
+use Rattle.definitions.proofs.skip_body.Reads as reads
+use Rattle.definitions.proofs.skip_body.Lts as lts
 use Rattle.commands.proofs.read_command.Reads as read-command-reads
 
 abbrev Inv-loop : tie.InvT-loop

@@ -1,0 +1,149 @@
+-- One call: the refusals 11 to 15 in their order, as the definition has them, or the way into its symbol's row. `open_call` answers by them, a test after
+-- another, and whoever draws a call goes on from `Opens` alone.
+-- Assumes nothing.
+use mathlib.Core.Path.{_≡_, refl, sym, ap, _∙_, subst}
+use mathlib.Core.Bool.{Bool, true, false, _||_}
+use mathlib.Core.List.{List, [], _∷_, map}
+use mathlib.Core.Option.{Option, none, some}
+use Prim.Native.Nat.{ℕ, _+_, _≤_}
+use native.Mathlib.Omega.{arith}
+use borrow.Author.Tests.{eq-eqb, ne-eqb, ltb-true}
+use lib.Dec.{eqb, ltb}
+use lib.IntN.{ℤ}
+use Rattle.definition.specs.Words.{if_then_else_, any, none?}
+use Rattle.definition.specs.Commands.{Turn}
+use Rattle.definition.specs.Table.{Definition}
+use Rattle.definition.specs.Drawing.{Chain, Event, called, refused, callFault, unless}
+use Rattle.definition.specs.Counts.{End, finished, stopped, counted}
+use Rattle.definition.specs.Counts.{counts as tallied, Counts as Tally}
+use Rattle.definition.specs.Limits.{mostCalls}
+use Rattle.definition.specs.declared.Refusal.{Refusal}
+use Rattle.table.specs.declared.Row.{Row}
+use Rattle.table.specs.declared.Found.{Found}
+use Rattle.table.specs.declared.Found.the-variants.{Live, Nothing}
+use Rattle.table.specs.Rows.{findRow, foundBy}
+use Rattle.counts.specs.declared.Counts.{Counts}
+use Rattle.counts.specs.declared.Counted.{Counted}
+use Rattle.counts.specs.declared.Counted.the-variants.{More, Full}
+use Rattle.counts.specs.Counting.{tally, CountsCall}
+use Rattle.counts.proofs.Told.{call-goes, call-stops}
+use Rattle.calls.specs.declared.Call.{Call}
+use Rattle.calls.specs.declared.Opened.the-variants.{Refused, Descends}
+use Rattle.calls.specs.Opening.{Fitting, Stops, Descent, Opens}
+
+-- the symbols of the open calls
+pub symbols-any : (n : ℕ) (chain : Chain) → any (λ c. eqb (c .what) n) chain ≡ any (λ x. eqb x n) (map (λ c. c .what) chain)
+unfolding any
+symbols-any n [] = refl
+symbols-any n (c ∷ chain) = ap (λ (r : Bool). eqb (c .what) n || r) (symbols-any n chain)
+
+-- what `find` answers
+nothing-live : (row : Row) → Nothing ≡ Live row → ⊥
+nothing-live row e = let z : _≡_ {A = ℕ} 0 1 = cc in omega arith
+
+none-found : (x : Option Row) → foundBy x ≡ Nothing → x ≡ none
+none-found none e = refl
+none-found (some row) e = absurd (nothing-live row (sym e))
+
+live-found : (x : Option Row) {row : Row} → foundBy x ≡ Live row → x ≡ some row
+live-found none {row} e = absurd (nothing-live row e)
+live-found (some r) {row} e = ap some (same e)
+  where
+    same : {a b : Row} → Live a ≡ Live b → a ≡ b
+    same f = cc
+
+true-false : true ≡ false → ⊥
+true-false e = let z : _≡_ {A = ℕ} 0 1 = cc in omega arith
+
+-- ---- the definition's events of a call
+
+module _ (p : ℕ) (chain : Chain) where
+  refused-first : (c : Counts) (n : ℕ) (fault : Option ℕ) (found : Option Definition) (go : Definition → List Event) → fault ≡ some n
+      → Stops c (unless fault p chain found go) (record { number = n; place = p }) chain
+  unfolding unless counted
+  refused-first c n fault found go e = record { event = refused n p chain; rest = []; are = rw e; stops = refl }
+
+  pub called-first : (fault : Option ℕ) (found : Option Definition) (go : Definition → List Event) → fault ≡ none → (d : Definition) → found ≡ some d
+      → unless fault p chain found go ≡ called p chain d ∷ go d
+  unfolding unless
+  called-first fault found go e d q = rw (e, q)
+
+some-found : (found : Option Definition) → none? found ≡ false → (d : Definition) × (found ≡ some d)
+some-found none e = absurd (true-false e)
+some-found (some d) e = (d, refl)
+
+-- ---- test after test
+
+module _ (rows : List Row) (busy : List ℕ) (call : Call) (left : ℕ) where
+  faulty : (c : Counts) (number : ℕ)
+      → ((found : Option Definition) (chain : Chain) (ts : List (Turn ℤ)) → Fitting rows busy call found chain ts → callFault left found chain (call .symbol) ts ≡ some number)
+      → Opens rows busy left call c (Refused (record { number = number; place = call .place }))
+  unfolding Opens
+  faulty c number f found chain ts h go = refused-first (call .place) chain c number (callFault left found chain (call .symbol) ts) found go (f found chain ts h)
+
+  pub askew-call : (c : Counts) → call .askew ≡ true → Opens rows busy left call c (Refused (record { number = 11; place = call .place }))
+  askew-call c e = faulty c 11 (λ found chain ts h. unfold callFault in rw (sym (h .askew) ∙ e))
+
+  module _ (straight : call .askew ≡ false) {r : Found} (is : r ≡ foundBy (findRow (call .symbol) rows)) where
+    is-unknown : r ≡ Nothing → {found : Option Definition} {chain : Chain} {ts : List (Turn ℤ)} → Fitting rows busy call found chain ts → none? found ≡ true
+    is-unknown q h = h .known ∙ ap none? (none-found (findRow (call .symbol) rows) (sym is ∙ q))
+
+    pub unknown-call : (c : Counts) → r ≡ Nothing → Opens rows busy left call c (Refused (record { number = 12; place = call .place }))
+    unknown-call c q = faulty c 12 (λ found chain ts h. unfold callFault in rw (sym (h .askew) ∙ straight, is-unknown q h))
+
+    module _ {row : Row} (q : r ≡ Live row) {o : Bool} (busy-is : o ≡ any (λ x. eqb x (call .symbol)) busy) where
+      row-is : findRow (call .symbol) rows ≡ some row
+      row-is = live-found (findRow (call .symbol) rows) (sym is ∙ q)
+
+      -- what is found, and whether the symbol is among the open ones
+      is-known : {found : Option Definition} {chain : Chain} {ts : List (Turn ℤ)} → Fitting rows busy call found chain ts → none? found ≡ false
+      is-known h = h .known ∙ ap none? row-is
+
+      is-busy : {found : Option Definition} {chain : Chain} {ts : List (Turn ℤ)} → Fitting rows busy call found chain ts → any (λ c. eqb (c .what) (call .symbol)) chain ≡ o
+      is-busy {chain = chain} h = symbols-any (call .symbol) chain ∙ ap (any (λ x. eqb x (call .symbol))) (h .open-are) ∙ sym busy-is
+
+      pub open-call : (c : Counts) → o ≡ true → Opens rows busy left call c (Refused (record { number = 13; place = call .place }))
+      open-call c e = faulty c 13 (λ found chain ts h. unfold callFault in rw (sym (h .askew) ∙ straight, is-known h, is-busy h ∙ e))
+
+      module _ (idle : o ≡ false) where
+        pub deep-call : (c : Counts) → left ≡ 0 → Opens rows busy left call c (Refused (record { number = 14; place = call .place }))
+        deep-call c e = faulty c 14 (λ found chain ts h. unfold callFault in rw (sym (h .askew) ∙ straight, is-known h, is-busy h ∙ idle, eq-eqb left 0 e))
+
+        module _ (some-left : left ≡ 0 → ⊥) where
+          faultless : {found : Option Definition} {chain : Chain} {ts : List (Turn ℤ)} → Fitting rows busy call found chain ts → callFault left found chain (call .symbol) ts ≡ none
+          faultless h = unfold callFault in rw (sym (h .askew) ∙ straight, is-known h, is-busy h ∙ idle, ne-eqb left 0 some-left)
+
+          module _ {c : Counts} {a : Counted} (count : CountsCall c a) where
+            pub many-calls : {number : ℕ} → a ≡ Full number → Opens rows busy left call c (Refused (record { number = number; place = call .place }))
+            unfolding Opens
+            many-calls {number} full found chain ts h go =
+                let (d, q) = some-found found (is-known h) in
+                record {
+                  event = called (call .place) chain d;
+                  rest = go d;
+                  are = called-first (call .place) chain (callFault left found chain (call .symbol) ts) found go (faultless h) d q;
+                  stops = call-stops c count number full (call .place) chain d;
+                }
+
+            pub goes-down : {more : Counts} → a ≡ More more → Opens rows busy left call c (Descends row more)
+            unfolding Opens
+            goes-down {more} e = record {
+              is-row = row-is;
+              some-left = some-left;
+              no-fault = λ found chain ts h. faultless h;
+              counts-it = λ chain d. call-goes c count more e (call .place) chain d;
+            }
+
+-- counts that a call is counted in are no more than there may be
+pub counted-few : (c more : Counts) (p : ℕ) → ((chain : Chain) (d : Definition) → counted (tally c) (called p chain d) ≡ finished (tally more))
+    → (more .calls ≤ mostCalls) × (more .shapes ≡ c .shapes)
+unfolding counted
+counted-few c more p e = go (ltb (c .calls) mostCalls) refl (e [] (record { symbol = 0; place = 0; body = [] }))
+  where
+    go : (b : Bool) → ltb (c .calls) mostCalls ≡ b → (if b then finished (tallied (c .calls + 1) (c .shapes) (c .redefinitions)) else stopped 15 p []) ≡ finished (tally more)
+        → (more .calls ≤ mostCalls) × (more .shapes ≡ c .shapes)
+    go true f q =
+        let same : tallied (c .calls + 1) (c .shapes) (c .redefinitions) ≡ tally more = cc in
+        let k = ltb-true (c .calls) mostCalls f in
+        (omega (arith, k, ap (λ (x : Tally). x .calls) same), sym (ap (λ (x : Tally). x .shapes) same))
+    go false f q = absurd (let z : _≡_ {A = ℕ} 0 1 = cc in omega arith)
