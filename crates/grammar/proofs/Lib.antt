@@ -14,4 +14,3 @@ pub mod Verdicts
 pub mod Unique
 pub mod Ahead
 pub mod Numerals
-pub mod Host

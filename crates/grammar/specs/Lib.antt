@@ -3,4 +3,3 @@ pub mod Productions
 pub mod Viable
 pub mod Tables
 pub mod Steps
-pub mod Host

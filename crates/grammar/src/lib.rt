@@ -1,11 +1,10 @@
-// Tells which texts are CIF, by the grammar of section 7.1.1, and what each character is in them. `recognise` is the whole of it for a text,
-// and `cif_recognise` the same for hosts; `recognised`, `step` and `entry_at` are for crates above, which lend the tables and learn a byte's role.
+// Tells which texts are CIF, by the grammar of section 7.1.1, and what each character is in them. `recognise` is the whole of it for a text;
+// `recognised`, `step` and `entry_at` are for crates above, which lend the tables and learn a byte's role.
 ghost use mathlib.Core.Path.{_≡_};
 ghost use Prim.Native.Nat.{_<_, _/_, _%_};
 ghost use Rattle.grammar.specs.Tables.{stateCount, kindCount, roleUnit};
 ghost use Rattle.grammar.specs.Steps.{kindOf, entryOf, nextOf, depthLimit, mode, entered, within, Moved, KindsLent, NextLent};
 ghost use Rattle.grammar.specs.Viable.{Judged};
-ghost use Rattle.grammar.specs.Host.{Told};
 
 pub mod tables;
 
@@ -178,19 +177,4 @@ pub fn recognise(text: &[u8]) -> Verdict
     let kinds = tables::KINDS;
     let next = tables::NEXT;
     recognised(text, &kinds, &next)
-}
-
-// For hosts: the verdict as two numbers, 0 and 0 for a text in the grammar, 2 and the place for one that is not.
-#[no_mangle]
-pub extern "C" fn cif_recognise(text: &[u8], verdict: &mut [u64; 2])
-    ensures { λ _. ⌜ Told (now (text .entry)) (now (verdict .exit)) ⌝ }
-{
-    match recognise(text) {
-        Verdict::InGrammar => {
-            *verdict = [0, 0];
-        }
-        Verdict::StuckAt(place) => {
-            *verdict = [2, place as u64];
-        }
-    }
 }

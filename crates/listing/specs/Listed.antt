@@ -4,7 +4,7 @@
 use mathlib.Core.Path.{_≡_}
 use mathlib.Core.List.{List}
 use Prim.Native.Nat.{ℕ, _+_, _*_, _≤_}
-use lib.ListN.{length, getD}
+use lib.ListN.{length}
 use Rattle.definition.specs.declared.Answer.{Answer}
 use Rattle.definition.specs.Answer.{Outcome, flatFile, given-back, Answers}
 use Rattle.definition.specs.Listing.{listing}
@@ -29,7 +29,3 @@ pub record Listed (a : Answer) (f old new : List ℕ) (r : ℕ) : Type 0 where
   pub is : {t : List ℕ} {room : ℕ} {o : Outcome} → Answers t room o → a ≡ given-back o → f ≡ flatFile o → Writes old new 0 r (listing o)
   pub short : {t : List ℕ} {room : ℕ} {o : Outcome} → Answers t room o → a ≡ given-back o → f ≡ flatFile o → r ≤ 4 * length f + 256
   pub along : Writes old new 0 r (account a f)
-
--- the answer that a host's six words say: number, place, length, shapes, calls, redefinitions
-abbrev pub answerBy : List ℕ → Answer
-answerBy w = record { number = getD w 0 0; place = getD w 1 0; length = getD w 2 0; shapes = getD w 3 0; calls = getD w 4 0; redefinitions = getD w 5 0 }

@@ -1,5 +1,5 @@
 // What the list program prints (01, "The list program"), from the answer and the flat file alone. The flat file is read once, byte by byte: a shape's
-// line is copied behind its count and its layer, and its points are taken into the window, which lines, below, keeps.
+// line is copied after its count and its layer, and its points are taken into the window, which crate lines keeps.
 ghost use mathlib.Core.Path.{_≡_};
 ghost use mathlib.Core.List.{_∷_, []};
 ghost use Prim.Native.Nat.{_+_, _^_, _≤_};
@@ -9,16 +9,13 @@ ghost use Rattle.definition.specs.Flat.{decimal};
 ghost use Rattle.digits.specs.Writes.{Writes};
 ghost use Rattle.pen.specs.Names.{nameOf};
 ghost use Rattle.listing.specs.Account.{quiet, heading, wrote, totalLine, windowOf, refusedLine};
-ghost use Rattle.listing.specs.Listed.{Walks, Listed, answerBy};
-
-// 01, refusal 18: no flat file is longer.
-const LONGEST: usize = 16_777_216;
+ghost use Rattle.listing.specs.Listed.{Walks, Listed};
 
 const TAB: u8 = 9;
 
 const LINE_FEED: u8 = 10;
 
-// Behind the lines of all shapes: the next place in the listing, and the window.
+// After the lines of all shapes: the next place in the listing, and the window.
 struct Walked {
     at: usize,
     xs: lines::Span,
@@ -185,7 +182,7 @@ fn put_refusal(out: &mut [u8], number: u64, place: u64) -> usize
 pub fn list(flat: &[u8], answer: definition::Answer, out: &mut [u8]) -> usize
     ensures { λ r. ⌜ Listed answer (now (flat .entry)) (now (out .entry)) (now (out .exit)) r ⌝ }
 {
-    if flat.len() > LONGEST {
+    if flat.len() > definition::MOST_BYTES {
         return 0;
     }
     let number = answer.number;
@@ -203,20 +200,4 @@ pub fn list(flat: &[u8], answer: definition::Answer, out: &mut [u8]) -> usize
         return put_window(out, next, xs, ys);
     }
     put_refusal(out, number as u64, answer.place as u64)
-}
-
-// The same for hosts: the answer is the six words of `cif_flatten`, in their order.
-#[no_mangle]
-pub extern "C" fn cif_list(flat: &[u8], words: &[u64; 6], out: &mut [u8]) -> usize
-    ensures { λ r. ⌜ Listed (answerBy (now (words .entry))) (now (flat .entry)) (now (out .entry)) (now (out .exit)) r ⌝ }
-{
-    let answer = definition::Answer {
-        number: words[0] as usize,
-        place: words[1] as usize,
-        length: words[2] as usize,
-        shapes: words[3] as usize,
-        calls: words[4] as usize,
-        redefinitions: words[5] as usize,
-    };
-    list(flat, answer, out)
 }

@@ -1,15 +1,14 @@
 -- Two answers that the contract of `refusal` allows are one: it settles refusals 2 to 9 of any bytes. So are two that the contract of `check_by` allows.
 -- Assumes nothing.
-use mathlib.Core.Path.{_≡_, refl, sym, _∙_, subst, ap}
+use mathlib.Core.Path.{_≡_, refl, sym, _∙_, subst}
 use mathlib.Core.List.{List}
 use Prim.Native.Nat.{ℕ}
 use Rattle.grammar.specs.Viable.{Judged}
 use Rattle.grammar.specs.declared.Verdict.{Verdict}
 use Rattle.grammar.specs.declared.Verdict.the-variants.{InGrammar, StuckAt}
 use Rattle.grammar.proofs.Unique.{one-verdict}
-use Rattle.reading.specs.Refusal.{Checked, faultWords, Told}
-use Rattle.reading.specs.Refusal.{byVerdict, Refuses}
 use Rattle.definition.specs.Rules.{notInGrammar, refuse}
+use Rattle.reading.specs.Refusal.{Checked, byVerdict, Refuses}
 use Rattle.checking.specs.declared.Fault.{Fault}
 use Rattle.checking.specs.declared.Fault.the-variants.{Refused}
 
@@ -24,9 +23,6 @@ pub one-refusal : (t : List ℕ) (r s : Fault) → Refuses t r → Refuses t s �
 one-refusal t r s h k =
     by-one t (h .verdict) (h .judged) r s (h .is)
     (subst (λ (v : Verdict). byVerdict t v s) (one-verdict t (k .verdict) (h .verdict) (k .judged) (h .judged)) (k .is))
-
-pub told-once : {t u w : List ℕ} → Told t u → Told t w → u ≡ w
-told-once {t} a b = a .said ∙ ap faultWords (one-refusal t (a .fault) (b .fault) (a .refuses) (b .refuses)) ∙ sym (b .said)
 
 -- the two ways through the code
 pub refuses-stuck : (t : List ℕ) (v : Verdict) → Judged t v → (n : ℕ) → v ≡ StuckAt n → Refuses t (Refused (refuse notInGrammar n))

@@ -2,7 +2,7 @@
 -- cite the definition; the account is named only for texts that are not in the grammar, on which the definition says nothing of 3 to 9.
 -- Assumes nothing.
 use mathlib.Core.Path.{_≡_}
-use mathlib.Core.List.{List, [], _∷_}
+use mathlib.Core.List.{List}
 use mathlib.Core.Option.{Option, none, some}
 use Prim.Native.Nat.{ℕ}
 use Rattle.grammar.specs.Notation.{Letter}
@@ -41,14 +41,3 @@ pub record Refuses (t : List ℕ) (r : Fault) : Type 0 where
   pub verdict : Verdict
   pub judged : Judged t verdict
   pub is : byVerdict t verdict r
-
--- what a host is told: the refusal's number and place, and 0 and 0 where there is none
-abbrev pub faultWords : Fault → List ℕ
-faultWords Clear = 0 ∷ 0 ∷ []
-faultWords (Refused r) = r .number ∷ r .place ∷ []
-
--- the contract of `cif_refusal`
-pub record Told (t : List ℕ) (words : List ℕ) : Type 0 where
-  pub fault : Fault
-  pub refuses : Refuses t fault
-  pub said : words ≡ faultWords fault

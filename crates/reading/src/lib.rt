@@ -3,7 +3,7 @@
 use checking::Fault;
 use definition::Refusal;
 ghost use Rattle.grammar.specs.Steps.{KindsLent, NextLent};
-ghost use Rattle.reading.specs.Refusal.{Checked, Refuses, Told};
+ghost use Rattle.reading.specs.Refusal.{Checked, Refuses};
 
 // The first of refusals 3 to 9, if the text is one of the grammar, with the tables lent.
 fn check_by(text: &[u8], kinds: &[u8; 256], next: &[u16; grammar::tables::ENTRY_COUNT]) -> Fault
@@ -25,20 +25,5 @@ pub fn refusal(text: &[u8]) -> Fault
             place: n,
         }),
         grammar::Verdict::InGrammar => check_by(text, &kinds, &next),
-    }
-}
-
-// The same for hosts: two words, 0 and 0 where there is none of refusals 2 to 9, else the number and the place.
-#[no_mangle]
-pub extern "C" fn cif_refusal(text: &[u8], answer: &mut [u64; 2])
-    ensures { λ _. ⌜ Told (now (text .entry)) (now (answer .exit)) ⌝ }
-{
-    match refusal(text) {
-        Fault::Clear => {
-            *answer = [0, 0];
-        }
-        Fault::Refused(r) => {
-            *answer = [r.number as u64, r.place as u64];
-        }
     }
 }

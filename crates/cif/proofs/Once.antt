@@ -1,0 +1,37 @@
+-- What a host is told is settled: of one text and one room, two outcomes that a contract allows are equal, word for word and byte for byte.
+-- Assumes nothing.
+use mathlib.Core.Path.{_≡_, sym, ap, _∙_, subst}
+use mathlib.Core.List.{List}
+use Prim.Native.Nat.{ℕ}
+use Rattle.grammar.specs.declared.Verdict.{Verdict}
+use Rattle.grammar.proofs.Unique.{one-verdict}
+use Rattle.definition.specs.declared.Answer.{Answer}
+use Rattle.definition.proofs.Right.{one-answer}
+use Rattle.checking.specs.declared.Fault.{Fault}
+use Rattle.reading.proofs.Unique.{one-refusal}
+use Rattle.answer.specs.Words.{answerWords}
+use Rattle.listing.specs.Listed.{Listed}
+use Rattle.listing.proofs.Agrees.{one-listing}
+use Rattle.cif.specs.Told.{FlattenTold, ListTold, RefusalTold, VerdictTold, faultAnswer, verdictAnswer}
+
+-- words that say one answer are one list
+same-words : {words words′ : List ℕ} {a a′ : Answer} → words ≡ answerWords a → words′ ≡ answerWords a′ → a ≡ a′ → words ≡ words′
+same-words s s′ e = s ∙ ap (λ (a : Answer). answerWords a) e ∙ sym s′
+
+pub flatten-told-once : {t room words words′ left left′ : List ℕ} → FlattenTold t room words left → FlattenTold t room words′ left′
+    → (words ≡ words′) × (left ≡ left′)
+flatten-told-once a b = let one = one-answer (a .promised) (b .promised) in (same-words (a .said) (b .said) (one .0), one .1)
+
+pub list-told-once : {words f old new new′ : List ℕ} {r r′ : ℕ} → ListTold words f old new r → ListTold words f old new′ r′ → (new ≡ new′) × (r ≡ r′)
+list-told-once {f = f} {old} {new′ = new′} {r′ = r′} a b =
+    one-listing (a .listed) (subst (λ (x : Answer). Listed x f old new′ r′) (b .read ∙ sym (a .read)) (b .listed))
+
+pub refusal-told-once : {t words words′ : List ℕ} → RefusalTold t words → RefusalTold t words′ → words ≡ words′
+refusal-told-once {t} a b =
+    let one = ap (λ (f : Fault). faultAnswer f) (one-refusal t (a .fault) (b .fault) (a .refuses) (b .refuses)) in
+    same-words (a .said) (b .said) (a .is ∙ one ∙ sym (b .is))
+
+pub verdict-told-once : {t words words′ : List ℕ} → VerdictTold t words → VerdictTold t words′ → words ≡ words′
+verdict-told-once {t} a b =
+    let one = ap (λ (v : Verdict). verdictAnswer v) (one-verdict t (a .verdict) (b .verdict) (a .judged) (b .judged)) in
+    same-words (a .said) (b .said) (a .is ∙ one ∙ sym (b .is))

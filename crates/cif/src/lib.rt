@@ -1,0 +1,57 @@
+// All that a host calls, in the one archive that `rt staticlib cif` makes; include/cif.h declares it for C. Every answer is told in the same 64 words, whose
+// positions are fixed for good (crates/answer, specs/Words.antt). No function asks anything of its caller: any bytes and any words may come.
+use checking::Fault;
+use definition::Answer;
+use definition::Refusal;
+use grammar::Verdict;
+ghost use mathlib.Core.Path.{_≡_};
+ghost use Rattle.cif.specs.Told.{ListTold, RefusalTold, VerdictTold, faultAnswer, verdictAnswer};
+
+// A check makes no flat file and counts nothing.
+fn fault_answer(fault: Fault) -> Answer
+    ensures { λ r. ⌜ r ≡ faultAnswer fault ⌝ }
+{
+    match fault {
+        Fault::Clear => answer::accepted(0, counts::no_counts()),
+        Fault::Refused(number, place) => answer::refused(
+            Refusal { number, place },
+            counts::no_counts(),
+        ),
+    }
+}
+
+fn verdict_answer(verdict: Verdict) -> Answer
+    ensures { λ r. ⌜ r ≡ verdictAnswer verdict ⌝ }
+{
+    match verdict {
+        Verdict::InGrammar => fault_answer(Fault::Clear),
+        Verdict::StuckAt(place) => fault_answer(Fault::Refused(2, place)),
+    }
+}
+
+// The lines of the list program, of an answer's words and its flat file: as far as `out` reaches, and how many bytes they are whatever its length.
+// Two outcomes that are allowed are equal: `list-told-once`.
+#[no_mangle]
+pub extern "C" fn cif_list(flat: &[u8], answer: &[u64; answer::WORDS], out: &mut [u8]) -> usize
+    ensures { λ r. ⌜ ListTold (now (answer .entry)) (now (flat .entry)) (now (out .entry)) (now (out .exit)) r ⌝ }
+{
+    listing::list(flat, answer::by_words(answer), out)
+}
+
+// The first of refusals 2 to 9 of a text, with no drawing. One answer is allowed: `refusal-told-once`.
+#[no_mangle]
+pub extern "C" fn cif_refusal(text: &[u8], answer: &mut [u64; answer::WORDS])
+    ensures { λ _. ⌜ RefusalTold (now (text .entry)) (now (answer .exit)) ⌝ }
+{
+    let given = fault_answer(reading::refusal(text));
+    *answer = answer::words(given);
+}
+
+// Refusal 2 alone: whether a text is in the grammar. One answer is allowed: `verdict-told-once`.
+#[no_mangle]
+pub extern "C" fn cif_recognise(text: &[u8], answer: &mut [u64; answer::WORDS])
+    ensures { λ _. ⌜ VerdictTold (now (text .entry)) (now (answer .exit)) ⌝ }
+{
+    let given = verdict_answer(grammar::recognise(text));
+    *answer = answer::words(given);
+}
