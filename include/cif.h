@@ -1,5 +1,10 @@
-/* The proved CIF 2.0 reader, for programs in C and C++: one function, in the archive target/staticlib/libreader.a that `rt staticlib reader` writes.
-   The archive is x86-64. What the function answers is settled, byte for byte, by its contract and proved; docs/BELIEVE.md leads through the definitions. */
+/* The proved CIF 2.0 reader, for programs in C and C++: all that the archive target/staticlib/libcif.a offers, which `rt staticlib cif` writes. The
+   archive is x86-64. What each function answers is settled, word for word and byte for byte, by its contract and proved; docs/BELIEVE.md leads through
+   the definitions.
+
+   Any bytes at all may stand in a text, a flat file or a room, and any numbers in an answer that is given. The places in memory that a call is lent must
+   not overlap, and the pointers must be good also where a length is 0. Nothing is allocated and nothing kept from one call to the next, so several threads
+   may call at once, each with its own memory. */
 #ifndef CIF_H
 #define CIF_H
 
@@ -13,16 +18,30 @@ extern "C" {
 /* The most bytes of a text, and of a flat file. */
 #define CIF_MOST_BYTES 16777216
 
-/* Where each word of an answer stands. */
-enum cif_word { CIF_NUMBER, CIF_PLACE, CIF_LENGTH, CIF_SHAPES, CIF_CALLS, CIF_REDEFINITIONS, CIF_WORDS };
+/* Where each word of an answer stands. Every function that answers sets all CIF_WORDS of them, and these positions do not change. */
+enum cif_word {
+  CIF_NUMBER = 0,        /* why the text is refused (the table below), or 0 */
+  CIF_PLACE = 1,         /* at which byte of the text, counted from 0 */
+  CIF_LENGTH = 2,        /* how many bytes of the room are the flat file */
+  CIF_SHAPES = 3,        /* how many shapes are drawn */
+  CIF_CALLS = 4,         /* how many calls are drawn, at any depth */
+  CIF_REDEFINITIONS = 5, /* how many definitions replaced one of the same number */
+  CIF_ROUNDED = 6,       /* from here on nothing is told yet, and all is 0: how many distances were rounded; */
+  CIF_LINE = 7,          /* line */
+  CIF_COLUMN = 8,        /* and column of the place; */
+  CIF_OPEN_CALLS = 9,    /* how many calls were open there; */
+  CIF_TEXT = 10,         /* in which of two texts the place is; */
+  CIF_POSITION = 11,     /* which of several texts is refused */
+  CIF_CHAIN = 16,        /* 16 to 47: the places of the calls that were open. 12 to 15 and 48 to 63 are free, and 0 */
+  CIF_WORDS = 64
+};
 
 /* Reads the text and writes its flat file into the room: layer commands, shapes and the End, with every call drawn.
 
    Accepted: answer[CIF_NUMBER] and answer[CIF_PLACE] are 0, the first answer[CIF_LENGTH] bytes of the room are the flat file and the rest of the room
-   is unchanged; the other words count the shapes drawn, the calls drawn at any depth, and the definitions that replaced one of the same number.
+   is unchanged; the three words after them are the counts.
 
-   Refused: answer[CIF_NUMBER] tells why and answer[CIF_PLACE] at which byte of the text, counted from 0; all other words are 0 and not one byte of
-   the room is changed.
+   Refused: answer[CIF_NUMBER] tells why and answer[CIF_PLACE] at which byte; all other words are 0 and not one byte of the room is changed.
 
       number  when                                                              place
          1    the text is longer than CIF_MOST_BYTES                            0
@@ -45,11 +64,23 @@ enum cif_word { CIF_NUMBER, CIF_PLACE, CIF_LENGTH, CIF_SHAPES, CIF_CALLS, CIF_RE
         17    the 1,048,577th shape                                             the shape
         18    a flat file longer than the room, or than CIF_MOST_BYTES          0
 
-   Of several faults the first counts: 1, then 2, then 3 to 9 command by command in the text's order, then 10 to 17 in the order of drawing, then 18.
-
-   Any bytes at all may stand in the text and any in the room. The three places in memory must not overlap, and the pointers must be good also where a
-   length is 0. Nothing is allocated and nothing kept from one call to the next, so several threads may call it at once, each with its own memory. */
+   Of several faults the first counts: 1, then 2, then 3 to 9 command by command in the text's order, then 10 to 17 in the order of drawing, then 18. */
 void cif_flatten(const unsigned char *text, size_t text_length, unsigned char *room, size_t room_length, uint64_t answer[CIF_WORDS]);
+
+/* Lists what was drawn, from an answer of cif_flatten and the flat file that goes with it (of a refusal: no bytes): a line for each shape, with its count,
+   layer, kind and numbers, then the totals and the window; or of a refusal one line with its number and place. Fields are separated by tabs.
+
+   The lines come to stand at the start of `out`, as far as it reaches; the rest of it is unchanged. Given back is how many bytes they are, whatever the
+   length of `out`: a call with an `out` of no bytes measures. For a flat file of cif_flatten that is at most four times its length and 256 more. Of a
+   flat file that is longer than CIF_MOST_BYTES nothing is listed. */
+size_t cif_list(const unsigned char *flat, size_t flat_length, const uint64_t answer[CIF_WORDS], unsigned char *out, size_t out_length);
+
+/* The first of refusals 2 to 9 of a text of any length, with nothing drawn: answer[CIF_NUMBER] and answer[CIF_PLACE] as above, or 0 and 0 where there is
+   none. All other words are 0. */
+void cif_refusal(const unsigned char *text, size_t text_length, uint64_t answer[CIF_WORDS]);
+
+/* Whether a text of any length is in the grammar: answer[CIF_NUMBER] is 0, or 2 with the place of refusal 2 in answer[CIF_PLACE]. All other words are 0. */
+void cif_recognise(const unsigned char *text, size_t text_length, uint64_t answer[CIF_WORDS]);
 
 #ifdef __cplusplus
 }

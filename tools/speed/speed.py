@@ -1,8 +1,8 @@
 #!/usr/bin/env python3
-"""How fast the proved code is, and what memory it takes: tools/speed/speed.py [--of CRATE] [--times N] [FILE..], at the top of the repository.
+"""How fast the proved code is, and what memory it takes: tools/speed/speed.py [--of PART] [--times N] [FILE..], at the top of the repository.
 
-CRATE is grammar (cif_recognise: refusal 2; the default) or reading (cif_refusal: refusals 2 to 9). Links tools/speed/driver.c with the archive that
-`rt staticlib CRATE` writes under target/staticlib, by the kit's own compiler, and prints for each text
+PART is grammar (cif_recognise: refusal 2; the default) or reading (cif_refusal: refusals 2 to 9). Links tools/speed/driver.c with the archive that
+`rt staticlib cif` writes under target/staticlib, by the kit's own compiler, and prints for each text
 its length, the answer, the least processor time of N calls, ns a byte, and how many pages of memory the calls touched beyond those of the text and
 of a call on an empty text. Without FILE it makes texts of 16 MiB, and one of 1 MiB for comparison.
 """
@@ -55,16 +55,16 @@ def made(work):
         yield name, path
 
 
-def archive(crate):
-    return f"target/staticlib/lib{crate}.a"
+def archive():
+    return "target/staticlib/libcif.a"
 
 
-def build(work, crate):
+def build(work, part):
     """The command that runs the driver: under the kit's loader and C library, and on Arm its emulator."""
     obj, out = os.path.join(work, "driver.o"), os.path.join(work, "driver")
     here = os.path.dirname(os.path.abspath(__file__))
-    subprocess.run([os.path.join(TOOLS, "bin", "clang"), "--target=" + TARGET, "-O3", "-DCALL=" + CALLS[crate], "-c", os.path.join(here, "driver.c"), "-o", obj], check=True)
-    subprocess.run([os.path.join(ON, "bin", "rattle-link"), "--target", TARGET, "--toolchain", TOOLS, "-o", out, obj, archive(crate)],
+    subprocess.run([os.path.join(TOOLS, "bin", "clang"), "--target=" + TARGET, "-O3", "-DCALL=" + CALLS[part], "-c", os.path.join(here, "driver.c"), "-o", obj], check=True)
+    subprocess.run([os.path.join(ON, "bin", "rattle-link"), "--target", TARGET, "--toolchain", TOOLS, "-o", out, obj, archive()],
                    check=True, stderr=subprocess.DEVNULL)
     emulator = os.path.join(TOOLS, "bin", "qemu-x86_64")
     loader = [os.path.join(TOOLS, "lib", "ld-linux-x86-64.so.2"), "--library-path", os.path.join(TOOLS, "lib")]
@@ -77,8 +77,8 @@ def main():
     a.add_argument("--times", type=int, default=7)
     a.add_argument("files", nargs="*")
     given = a.parse_args()
-    if not os.path.exists(archive(given.of)):
-        sys.exit(f"no {archive(given.of)} here: run `rt staticlib {given.of}` at the top of the repository")
+    if not os.path.exists(archive()):
+        sys.exit(f"no {archive()} here: run `rt staticlib cif` at the top of the repository")
     work = tempfile.mkdtemp()
     try:
         command = build(work, given.of)

@@ -1,7 +1,7 @@
 #!/usr/bin/env python3
-"""How much of the machine's stack the proved reader takes: tools/speed/stack.py [FILE..], at the top of the repository, after `rt staticlib reader`.
+"""How much of the machine's stack the proved reader takes: tools/speed/stack.py [FILE..], at the top of the repository, after `rt staticlib cif`.
 
-Links tools/speed/stack.c with target/staticlib/libreader.a and prints for each text its answer, its calls and the bytes of stack that were touched
+Links tools/speed/stack.c with target/staticlib/libcif.a and prints for each text its answer, its calls and the bytes of stack that were touched
 below the caller's frame. Without FILE it makes texts of 0 to 33 levels of calls.
 """
 import os
@@ -18,7 +18,7 @@ HERE = os.path.dirname(os.path.abspath(__file__))
 def build(work):
     obj, out = os.path.join(work, "stack.o"), os.path.join(work, "stack")
     subprocess.run([os.path.join(TOOLS, "bin", "clang"), "--target=" + TARGET, "-O1", "-c", os.path.join(HERE, "stack.c"), "-o", obj], check=True)
-    subprocess.run([os.path.join(ON, "bin", "rattle-link"), "--target", TARGET, "--toolchain", TOOLS, "-o", out, obj, archive("reader")],
+    subprocess.run([os.path.join(ON, "bin", "rattle-link"), "--target", TARGET, "--toolchain", TOOLS, "-o", out, obj, archive()],
                    check=True, stderr=subprocess.DEVNULL)
     emulator = os.path.join(TOOLS, "bin", "qemu-x86_64")
     loader = [os.path.join(TOOLS, "lib", "ld-linux-x86-64.so.2"), "--library-path", os.path.join(TOOLS, "lib")]

@@ -5,7 +5,7 @@ use definition::Answer;
 use definition::Refusal;
 use grammar::Verdict;
 ghost use mathlib.Core.Path.{_≡_};
-ghost use Rattle.cif.specs.Told.{ListTold, RefusalTold, VerdictTold, faultAnswer, verdictAnswer};
+ghost use Rattle.cif.specs.Told.{FlattenTold, ListTold, RefusalTold, VerdictTold, faultAnswer, verdictAnswer};
 
 // A check makes no flat file and counts nothing.
 fn fault_answer(fault: Fault) -> Answer
@@ -27,6 +27,15 @@ fn verdict_answer(verdict: Verdict) -> Answer
         Verdict::InGrammar => fault_answer(Fault::Clear),
         Verdict::StuckAt(place) => fault_answer(Fault::Refused(2, place)),
     }
+}
+
+// The whole reader: the flat file comes to stand in the room, and the answer in the words. Both are settled: `flatten-told-once` of proofs/Once.antt.
+#[no_mangle]
+pub extern "C" fn cif_flatten(text: &[u8], room: &mut [u8], answer: &mut [u64; answer::WORDS])
+    ensures { λ _. ⌜ FlattenTold (now (text .entry)) (now (room .entry)) (now (answer .exit)) (now (room .exit)) ⌝ }
+{
+    let given = reader::flatten(text, room);
+    *answer = answer::words(given);
 }
 
 // The lines of the list program, of an answer's words and its flat file: as far as `out` reaches, and how many bytes they are whatever its length.

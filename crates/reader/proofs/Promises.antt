@@ -21,7 +21,6 @@ use Rattle.definition.specs.Answer.{Outcome, accepted, rejected, flatFile, answ
 use Rattle.laws.proofs.Rules.FaultRules.{no-first-fault}
 use Rattle.laws.proofs.Rules.Outcomes
 use Rattle.laws.proofs.Rules.Outcomes.{flatLength, TooLong, by-drawing, by-flat-file, Accepting, refusal, acceptance}
-use Rattle.definition.proofs.Right.{one-answer}
 use Rattle.reading.specs.Refusal.{faultSaid, byVerdict}
 use Rattle.checking.specs.declared.Fault.{Fault}
 use Rattle.checking.specs.declared.Fault.the-variants.{Clear, Refused}
@@ -36,7 +35,6 @@ use Rattle.shapes.specs.declared.Drawn.the-variants as drawing
 use Rattle.shapes.specs.Painting.{bytesOf, Goes, Answered, Painted}
 use Rattle.drawing.specs.Passed.{Passed, toDraw, dry}
 use Rattle.shapes.proofs.Painting.{until-all}
-use Rattle.reader.specs.Host.{answerWords, Told}
 use Rattle.reader.specs.Screened.{Screened, over, within}
 
 -- a refusal leaves the room as it was
@@ -145,11 +143,3 @@ module _ {t : List ℕ} (p : Passed t) where
       given = g ∙ ap (λ (n : ℕ). answer 0 0 n (tally (ink .counts))) (sym file-length);
       kept = begins (file-in e) (omega (arith, h, file-length));
     }
-
--- ---- hosts
-
--- the words that a host is told, and the room, are settled
-pub told-once : {t room words words′ left left′ : List ℕ} → Told t room words left → Told t room words′ left′ → (words ≡ words′) × (left ≡ left′)
-told-once a b =
-    let one = one-answer (a .promised) (b .promised) in
-    (a .said ∙ ap (λ (r : Answer). answerWords r) (one .0) ∙ sym (b .said), one .1)

@@ -1,6 +1,5 @@
 -- `flatten_passed` meets its contract: how the measured drawing ends decides (proofs/Promises.antt).
 -- Assumes nothing.
-use mathlib.Core.Path.{refl}
 use mathlib.Core.Logic.{inl, inr}
 use native.Mathlib.Omega.{arith}
 use Rattle.reader.proofs.Promises.{far-below, over-told, stopped-told, written-told}
@@ -11,47 +10,50 @@ use Rattle.reader.proofs.flatten_passed.Tie as tie
 draw-requires : tie.Need-draw-requires
 draw-requires c κs = search needs
 
-enum-known-refusal : tie.Need-enum-known-refusal
-enum-known-refusal c = search needs
+enum-known-number : tie.Need-enum-known-number
+enum-known-number c = search needs
 
 refused-requires : tie.Need-refused-requires
 refused-requires c κs = search needs
 
-enum-known-ink : tie.Need-enum-known-ink
-enum-known-ink c = search needs
+enum-known-counted : tie.Need-enum-known-counted
+enum-known-counted c = search needs
 
 add-length : tie.Need-add-length
-add-length c = omega (arith, far-below (c .before .before .before .before .before .before .before .before .before .before .pre) (c .before .before .before .before .before .draw .ensures (c .before .before .before .before .before .before .before .before .before .before .pre)) (c .before .ink .given .1))
+add-length c = omega (arith, far-below (c .before .before .before .before .before .before .before .before .before .before .pre) (c .before .before .before .before .before .draw .ensures (c .before .before .before .before .before .before .before .before .before .before .pre)) (c .before .counted .given .1))
 
-refused-after-requires : tie.Need-refused-after-requires
-refused-after-requires c κs = search needs
+too-long-requires : tie.Need-too-long-requires
+too-long-requires c κs = search needs
 
 same-length : tie.Need-same-length
 same-length c = search needs
 
 returns : tie.Need-returns
-returns c = over-told (c .before .before .before .before .before .before .before .before .before .before .before .before .pre) (c .before .before .before .before .before .before .before .draw .ensures (c .before .before .before .before .before .before .before .before .before .before .before .before .pre)) (c .before .before .before .ink .given .1) (inl (c .before .if1 .taken)) (c .refused-after .ensures)
+returns c = over-told (c .before .before .before .before .before .before .before .before .before .before .before .before .pre) (c .before .before .before .before .before .before .before .draw .ensures (c .before .before .before .before .before .before .before .before .before .before .before .before .pre)) (c .before .before .before .counted .given .1) (inl (c .before .if1 .taken)) (c .too-long .ensures)
 
-refused-after-requires-2 : tie.Need-refused-after-requires-2
-refused-after-requires-2 c κs = search needs
+too-long-requires-2 : tie.Need-too-long-requires-2
+too-long-requires-2 c κs = search needs
 
 same-length-2 : tie.Need-same-length-2
 same-length-2 c = search needs
 
 returns-2 : tie.Need-returns-2
-returns-2 c = over-told (c .before .before .before .before .before .before .before .before .before .before .before .before .before .pre) (c .before .before .before .before .before .before .before .before .draw .ensures (c .before .before .before .before .before .before .before .before .before .before .before .before .before .pre)) (c .before .before .before .before .ink .given .1) (inr (c .before .if2 .taken)) (c .refused-after2 .ensures)
+returns-2 c = over-told (c .before .before .before .before .before .before .before .before .before .before .before .before .before .pre) (c .before .before .before .before .before .before .before .before .draw .ensures (c .before .before .before .before .before .before .before .before .before .before .before .before .before .pre)) (c .before .before .before .before .counted .given .1) (inr (c .before .if2 .taken)) (c .too-long2 .ensures)
 
 write-file-requires : tie.Need-write-file-requires
 write-file-requires c κs = search needs
 
+accepted-requires : tie.Need-accepted-requires
+accepted-requires c κs = search needs
+
 returns-4 : tie.Need-returns-4
-returns-4 c = written-told (c .before .before .before .before .before .before .before .before .before .before .before .before .before .before .before .before .pre) (c .before .before .before .before .before .before .before .before .before .before .before .draw .ensures (c .before .before .before .before .before .before .before .before .before .before .before .before .before .before .before .before .pre)) (c .before .before .before .before .before .before .before .ink .given .1) (omega (arith, c .before .before .before .before .before .if1 .left)) (omega (arith, c .before .before .before .before .if2 .left)) (c .before .before .write-file .ensures (c .before .before .before .before .before .before .before .before .before .before .before .before .before .before .before .before .pre)) refl
+returns-4 c = written-told (c .before .before .before .before .before .before .before .before .before .before .before .before .before .before .before .before .before .pre) (c .before .before .before .before .before .before .before .before .before .before .before .before .draw .ensures (c .before .before .before .before .before .before .before .before .before .before .before .before .before .before .before .before .before .pre)) (c .before .before .before .before .before .before .before .before .counted .given .1) (omega (arith, c .before .before .before .before .before .before .if1 .left)) (omega (arith, c .before .before .before .before .before .if2 .left)) (c .before .before .before .write-file .ensures (c .before .before .before .before .before .before .before .before .before .before .before .before .before .before .before .before .before .pre)) (c .accepted .ensures)
 
 same-length-3 : tie.Need-same-length-3
 same-length-3 c = search needs
 
 returns-3 : tie.Need-returns-3
-returns-3 c = stopped-told (c .before .before .before .before .before .before .before .before .before .before .before .pre) (c .before .before .before .before .before .before .draw .ensures (c .before .before .before .before .before .before .before .before .before .before .before .pre)) (c .before .before .refusal .given .1) (c .refused .ensures)
+returns-3 c = stopped-told (c .before .before .before .before .before .before .before .before .before .before .before .pre) (c .before .before .before .before .before .before .draw .ensures (c .before .before .before .before .before .before .before .before .before .before .before .pre)) (c .before .before .number .given .1) (c .refused .ensures)
 
 same-length-4 : tie.Need-same-length-4
 same-length-4 c = search needs
@@ -64,17 +66,18 @@ flatten-passed-spec =
     tie.close
     (tie.spec
     draw-requires
-    enum-known-refusal
+    enum-known-number
     refused-requires
-    enum-known-ink
+    enum-known-counted
     add-length
-    refused-after-requires
+    too-long-requires
     same-length
     returns
-    refused-after-requires-2
+    too-long-requires-2
     same-length-2
     returns-2
     write-file-requires
+    accepted-requires
     same-length-3
     returns-3
     same-length-4
