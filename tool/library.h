@@ -71,6 +71,7 @@ extern int fchmod(int file, mode_t mode);
 #define SIGINT 2
 #define SIGPIPE 13
 #define SIGTERM 15
+#define SIGSTOP 19
 #define SIGXFSZ 25
 #define SIG_DFL ((void (*)(int))0)
 #define SIG_IGN ((void (*)(int))1)

@@ -11,7 +11,7 @@ EXAMPLE_LIST = b"shape\t1\tCM\tB\t100 50 75 0 -1 0\ntotal\t1\t1\t0\nwindow\t75\t
 
 class Run:
     """One run of the tests: the programs that are tried, the folder of their files, and what came of it."""
-    cif = host = folder = None
+    cif = host = held = folder = None
     tried = wrong = 0
 
 
@@ -25,12 +25,12 @@ def expect(right, what, *shown):
 
 
 def cif(*words, text=None, **more):
-    """Runs the tool; `text` is its standard input."""
+    """Runs the tool to its end, however long that takes; `text` is its standard input."""
     more.setdefault("stdout", subprocess.PIPE)
     more.setdefault("stderr", subprocess.PIPE)
     if text is None:
         more.setdefault("stdin", subprocess.DEVNULL)
-    return subprocess.run([Run.cif, *words], input=text, timeout=600, **more)
+    return subprocess.run([Run.cif, *words], input=text, **more)
 
 
 def scratch(name, content=None):

@@ -12,7 +12,7 @@ def document(name):
 
 def test_host():
     def host(text):
-        done = subprocess.run([Run.host], input=text, capture_output=True, timeout=600)
+        done = subprocess.run([Run.host], input=text, capture_output=True)
         return done.returncode, done.stdout, done.stderr
     expect(host(EXAMPLE) == (0, EXAMPLE_FLAT, b""), "the example host")
     expect(host(b"C1;E") == (1, b"", b"host: refused 12 at byte 0\n"), "the example host on a refusal")
@@ -40,7 +40,7 @@ def test_sessions():
             continue
         for command, shows in re.findall(r"^    \$ (.*)\n((?:    (?!\$ ).*\n)*)", document(name), re.M):
             command = command.replace("target/tool/cif", f"'{Run.cif}'")
-            done = subprocess.run(command, shell=True, cwd=TOP, stdout=subprocess.PIPE, stderr=subprocess.STDOUT, timeout=600)
+            done = subprocess.run(command, shell=True, cwd=TOP, stdout=subprocess.PIPE, stderr=subprocess.STDOUT)
             expect(done.stdout.decode() == re.sub("^    ", "", shows, flags=re.M), f"what {name} shows", command, done.stdout)
 
 

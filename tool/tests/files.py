@@ -6,7 +6,6 @@ import signal
 import stat
 import subprocess
 import tempfile
-import time
 
 from common import EXAMPLE, EXAMPLE_FLAT, Run, cif, content, expect, leftovers, scratch
 
@@ -124,21 +123,25 @@ def test_special_files():
     good, pipe = scratch("good.cif", EXAMPLE), scratch("pipe")
     expect(cif("flat", good, "-o", "/dev/null").returncode == 0 and stat.S_ISCHR(os.stat("/dev/null").st_mode), "a device stays a device")
     os.mkfifo(pipe)
-    done = subprocess.Popen([Run.cif, "flat", good, "-o", pipe])
-    expect(content(pipe) == EXAMPLE_FLAT and done.wait() == 0 and stat.S_ISFIFO(os.stat(pipe).st_mode), "a named pipe as OUT")
+    reading = os.open(pipe, os.O_RDONLY | os.O_NONBLOCK)  # opened first, so that neither side ever waits for the other
+    expect(cif("flat", good, "-o", pipe).returncode == 0 and os.read(reading, 1 << 16) == EXAMPLE_FLAT, "a named pipe as OUT")
+    expect(stat.S_ISFIFO(os.stat(pipe).st_mode), "a named pipe stays a pipe")
+    os.close(reading)
 
 
 def test_interrupted():
+    """A build that stops before its file is whole gets the signal then, and goes on: no moment has to be met."""
     folder = tempfile.mkdtemp(dir=Run.folder)
-    name = scratch("million.cif", b"DS1;LA;" + b"W1 0 0 1 1 2 2;" * 1024 + b"DF;" + b"C1;" * 1000 + b"E")
+    good, out = scratch("good.cif", EXAMPLE), os.path.join(folder, "a.svg")
     for number in (signal.SIGTERM, signal.SIGINT, signal.SIGHUP):
-        done = subprocess.Popen([Run.cif, "plot", name, "-o", os.path.join(folder, "a.svg")], stderr=subprocess.DEVNULL)
-        end = time.time() + 300
-        while done.poll() is None and not leftovers(folder) and time.time() < end:
-            time.sleep(0.001)
+        done = subprocess.Popen([Run.held, "plot", good, "-o", out], stderr=subprocess.DEVNULL)
+        _, status = os.waitpid(done.pid, os.WUNTRACED)
         seen = leftovers(folder)
+        if not expect(os.WIFSTOPPED(status) and seen and not os.path.exists(out), "the tool stops while it writes", status, seen):
+            continue
         done.send_signal(number)
-        expect(done.wait() in (-number, 128 + number) and seen, "a signal ends the tool while it writes", number, done.returncode, seen)
+        done.send_signal(signal.SIGCONT)
+        expect(done.wait() in (-number, 128 + number), "a signal ends the tool while it writes", number, done.returncode)
         expect(os.listdir(folder) == [], "and nothing is left behind", os.listdir(folder))
 
 
