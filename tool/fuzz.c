@@ -1,4 +1,4 @@
-/* Throws random bytes at the parts of the tool that read bytes: the telling of refusals and hints, the walk over a flat file, the list and the picture. Built
+/* Throws random bytes at the parts of the tool that read bytes: the telling of refusals and hints, the walk over a flat file and the picture. Built
    by tool/fuzz with the compiler's sanitizers and without the proved archive. fuzz COUNT SEED; ends at the first thing that is not as it should be. */
 #include <stdio.h>
 #include <stdlib.h>
@@ -136,9 +136,7 @@ static void damage(struct output *flat) {
 /* Also a broken flat file must be walked over without harm, though the tool looks first. */
 static void show(struct bytes flat) {
   static struct output out;
-  static const uint64_t answer[CIF_WORDS];
   out = (struct output){.file = DROPPED};
-  put_list(&out, flat, answer);
   if (!put_plot(&out, flat)) exit(2);
 }
 

@@ -1,5 +1,5 @@
-/* cif: reads CIF 2.0 for people at a terminal. The proved reader, cif_flatten, decides what a text means; this file takes the words of the command line
-   apart, runs it, and hands its answer to the parts that show it. */
+/* cif: reads CIF 2.0 for people at a terminal. The proved archive decides what a text means and lists what it draws (cif_flatten, cif_list); this file takes
+   the words of the command line apart, runs it, and hands its answer to the parts that show it. */
 #include <stdlib.h>
 #include <string.h>
 
@@ -51,8 +51,15 @@ static bool flat(struct output *out, const struct reading *reading) {
   return true;
 }
 
+/* The lines of a text, accepted or refused: asked for with no room first, to learn how long they are. */
 static bool list(struct output *out, const struct reading *reading) {
-  put_list(out, reading->flat, reading->answer);
+  unsigned char none;
+  size_t length = cif_list(reading->flat.at, reading->flat.count, reading->answer, &none, 0);
+  unsigned char *lines = malloc(length);
+  if (lines == NULL) return false;
+  (void)cif_list(reading->flat.at, reading->flat.count, reading->answer, lines, length);
+  put(out, lines, length);
+  free(lines);
   return true;
 }
 
@@ -62,7 +69,7 @@ struct task {
   const char *name;
   bool (*show)(struct output *out, const struct reading *reading);
   bool takes_out;      /* -o goes with it */
-  bool lists_refusals; /* a refusal is a line of standard output too, as document 01's list program has it */
+  bool shows_refusals; /* it has something to write for a refused text too: document 01's list has a line for it */
 };
 
 static const struct task tasks[] = {{"check", check, false, false}, {"flat", flat, true, false}, {"list", list, false, true}, {"plot", plot, true, false}};
@@ -122,33 +129,23 @@ static bool take_words(struct request *request, char **words) {
 
 static enum status show(const struct request *request, const struct reading *reading) {
   static struct output out;
-  if (!is_flat(reading->flat)) return complain("this should not happen: the reader wrote something else than a flat file for", reading->name, 0);
+  bool accepted = reading->answer[CIF_NUMBER] == 0;
+  if (!accepted && !request->task->shows_refusals) return REFUSED;
+  if (accepted && !is_flat(reading->flat)) return complain("this should not happen: the reader wrote something else than a flat file for", reading->name, 0);
   if (!open_output(&out, request->out)) return COULD_NOT_RUN;
-  if (request->task->show(&out, reading)) return close_output(&out) ? ACCEPTED : COULD_NOT_RUN;
-  abandon_output(&out);
-  return complain("not enough memory to show", reading->name, 0);
-}
-
-static enum status list_refusal(const struct reading *reading) {
-  static struct output out;
-  if (!open_output(&out, NULL)) return COULD_NOT_RUN;
-  put_text(&out, "refused\t");
-  put_number(&out, (int64_t)reading->answer[CIF_NUMBER]);
-  put_text(&out, "\t");
-  put_number(&out, (int64_t)reading->answer[CIF_PLACE]);
-  put_text(&out, "\n");
-  return close_output(&out) ? REFUSED : COULD_NOT_RUN;
+  if (!request->task->show(&out, reading)) {
+    abandon_output(&out);
+    return complain("not enough memory to show", reading->name, 0);
+  }
+  if (!close_output(&out)) return COULD_NOT_RUN;
+  return accepted ? ACCEPTED : REFUSED;
 }
 
 static enum status answer(const struct request *request, const struct reading *reading) {
-  enum status status;
-  if (reading->answer[CIF_NUMBER] != 0) {
-    status = request->task->lists_refusals ? list_refusal(reading) : REFUSED;
-    tell_refusal(&standard_error, reading->name, reading->text, reading->answer[CIF_NUMBER], reading->answer[CIF_PLACE]);
-  } else {
-    status = show(request, reading);
-    if (status == ACCEPTED && reading->answer[CIF_CALLS] == 0) tell_hint(&standard_error, reading->name, reading->text);
-  }
+  enum status status = show(request, reading);
+  uint64_t number = reading->answer[CIF_NUMBER];
+  if (number != 0) tell_refusal(&standard_error, reading->name, reading->text, number, reading->answer[CIF_PLACE]);
+  else if (status == ACCEPTED && reading->answer[CIF_CALLS] == 0) tell_hint(&standard_error, reading->name, reading->text);
   flush(&standard_error);
   return status;
 }

@@ -162,9 +162,8 @@ void release_layers(struct layers *layers);
 /* Gives each layer its colour: the one that goes with its name, or the next one if a layer before it has that already. */
 void colour_layers(struct layer *layers, size_t count);
 
-/* ---- list.c, plot.c: what is made of a flat file. */
+/* ---- plot.c: the picture of a flat file. */
 
-void put_list(struct output *out, struct bytes flat, const uint64_t answer[CIF_WORDS]);
 /* False where there is no memory; then nothing is put. */
 bool put_plot(struct output *out, struct bytes flat);
 
