@@ -1,13 +1,18 @@
-/* Where commands stand in a text, as far as it follows the grammar. Only for showing: which command a refused place belongs to, and whether a text defines
-   symbols. What is right and wrong is decided by the proved reader, never here. */
+/* Where commands stand in a text, as far as it follows the grammar. Only for showing: which command a refused place belongs to, where it began, and what is
+   worth a hint. What is right and wrong is decided by the proved reader, never here. */
 #include "tool.h"
 
-static bool is_blank(unsigned char byte) {
-  bool digit = byte >= '0' && byte <= '9', upper = byte >= 'A' && byte <= 'Z';
-  return byte < 128 && !digit && !upper && byte != '-' && byte != '(' && byte != ')' && byte != ';';
+bool is_digit(unsigned char byte) { return byte >= '0' && byte <= '9'; }
+
+bool is_upper(unsigned char byte) { return byte >= 'A' && byte <= 'Z'; }
+
+bool is_lower(unsigned char byte) { return byte >= 'a' && byte <= 'z'; }
+
+bool is_blank(unsigned char byte) {
+  return byte < 128 && !is_digit(byte) && !is_upper(byte) && byte != '-' && byte != '(' && byte != ')' && byte != ';';
 }
 
-/* Behind the comment that starts at the place, or the end of the text where it is not closed. */
+/* After the comment that starts at the place, or the end of the text where it is not closed. */
 static size_t pass_comment(struct bytes text, size_t at, bool *open) {
   size_t depth = 0;
   for (; at < text.count; at++) {
@@ -19,42 +24,50 @@ static size_t pass_comment(struct bytes text, size_t at, bool *open) {
   return at;
 }
 
-/* The S, F or D of a D command, or 0 at the end of the text. */
-static unsigned char second_letter(struct bytes text, size_t at) {
-  do at++;
-  while (at < text.count && is_blank(text.at[at]));
-  return at < text.count ? text.at[at] : 0;
-}
-
-/* The command's semicolon, or the end of the text. */
-static size_t pass_command(struct bytes text, struct context *context) {
-  size_t at = context->start;
-  if (context->letter == '(') at = pass_comment(text, at, &context->open_comment);
+bool next_command(struct command_walk *walk, struct command *command) {
+  struct bytes text = walk->text;
+  size_t at = walk->at;
+  if (at >= text.count) return false;
+  *command = (struct command){.slot = at};
+  while (at < text.count && is_blank(text.at[at])) at++;
+  command->start = at;
+  if (at < text.count && text.at[at] != ';') command->letter = text.at[at];
+  if (command->letter == '(') at = pass_comment(text, at, &command->open_comment);
   while (at < text.count && text.at[at] != ';') at++;
-  return at;
+  command->end = at;
+  walk->at = at < text.count ? at + 1 : at;
+  return true;
 }
 
-static void finish_command(struct bytes text, struct context *context) {
-  unsigned char second = context->letter == 'D' ? second_letter(text, context->start) : 0;
+unsigned char second_letter(struct bytes text, const struct command *command) {
+  size_t at = command->start;
+  do at++;
+  while (at < command->end && is_blank(text.at[at]));
+  return at < command->end ? text.at[at] : 0;
+}
+
+static void finish_command(struct bytes text, const struct command *command, struct context *context) {
+  unsigned char second = command->letter == 'D' ? second_letter(text, command) : 0;
+  if (second == 'S') context->definition = command->start;
   context->definitions += second == 'S';
   context->defining = second == 'S' || (context->defining && second != 'F');
-  context->letter = 0;
 }
 
 struct context context_at_end(struct bytes text) {
   struct context context = {0};
-  size_t at = 0;
-  while (at < text.count) {
-    unsigned char first = text.at[at];
-    if (first == ';' || is_blank(first)) {
-      context.begun = context.begun || first == ';';
-      at++;
-      continue;
+  struct command_walk walk = {.text = text};
+  struct command command;
+  while (next_command(&walk, &command)) {
+    if (command.end < text.count) {
+      context.begun = true;
+      finish_command(text, &command, &context);
+    } else {
+      context.letter = command.letter;
+      context.start = command.start;
+      context.slot = command.slot;
+      context.open_comment = command.open_comment;
     }
-    context.letter = first;
-    context.start = at;
-    at = pass_command(text, &context);
-    if (at < text.count) finish_command(text, &context);
   }
+  if (context.letter == 0 && walk.at == text.count && (text.count == 0 || text.at[text.count - 1] == ';')) context.slot = text.count;
   return context;
 }

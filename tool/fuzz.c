@@ -55,9 +55,9 @@ static void look_at_telling(const struct output *out, struct bytes text, size_t 
     if (byte == '^' && line == 2) caret = length;
     length = byte == '\n' ? 0 : length + 1;
     line += byte == '\n';
-    demand(length < 220, "a long line", out);
+    demand(length < 240, "a long line", out);
   }
-  demand(line == 4 && caret >= 4 && caret < 60, "the lines of a refusal", out);
+  demand((line == 4 || line == 7) && caret >= 4 && caret < 80, "the lines of a refusal", out);
   const unsigned char *shown = memchr(out->waiting, '\n', out->used);
   bool at_end = place == text.count || text.at[place] == '\n';
   unsigned char over = shown[1 + caret], byte = at_end ? '\n' : text.at[place];

@@ -45,6 +45,7 @@ typedef int pid_t;
 #define W_OK 2
 extern int open(const char *path, int flags, ...);
 extern int fcntl(int file, int command, ...);
+extern int isatty(int file);
 extern int access(const char *path, int mode);
 extern int close(int file);
 extern int fsync(int file);
@@ -65,6 +66,13 @@ _Static_assert(sizeof(struct stat) == 144, "the size of struct stat on x86-64");
 #define S_ISDIR(mode) (((mode) & 0170000) == 0040000)
 extern int stat(const char *path, struct stat *what);
 extern int fchmod(int file, mode_t mode);
+
+/* sys/ioctl.h */
+struct winsize {
+  unsigned short ws_row, ws_col, ws_xpixel, ws_ypixel;
+};
+#define TIOCGWINSZ 0x5413
+extern int ioctl(int file, unsigned long request, ...);
 
 /* signal.h */
 #define SIGHUP 1
@@ -89,6 +97,7 @@ extern int raise(int number);
 /* stdlib.h, string.h */
 extern void *malloc(size_t count);
 extern void free(void *old);
+extern char *getenv(const char *name);
 extern char *realpath(const char *path, char *room);
 extern void qsort(void *first, size_t count, size_t size, int (*order)(const void *, const void *));
 extern void *memcpy(void *to, const void *from, size_t count);

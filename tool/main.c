@@ -180,6 +180,7 @@ static enum status say(const char *text) {
 
 int main(int count, char **words) {
   guard_files();
+  look_at_terminal(&standard_error);
   if (count < 2) {
     put_text(&standard_error, help);
     flush(&standard_error);

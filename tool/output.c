@@ -6,6 +6,7 @@
 #include <stdio.h>
 #include <stdlib.h>
 #include <string.h>
+#include <sys/ioctl.h>
 #include <sys/stat.h>
 #include <unistd.h>
 
@@ -74,13 +75,74 @@ void put_visible(struct output *out, unsigned char byte) {
   put(out, shown, columns);
 }
 
-void put_name(struct output *out, const char *name) {
-  for (; *name != 0; name++) {
-    unsigned char byte = (unsigned char)*name;
-    /* Bytes from 128 up are letters of the user's own tongue here, and the terminal that took them can show them. */
-    if (byte >= 128) put(out, name, 1);
-    else put_visible(out, byte);
+/* How many bytes a character of UTF-8 takes, 1 for a byte that starts none. `code` is the character. */
+static size_t take_character(const char *from, uint32_t *code) {
+  static const struct {
+    unsigned char mask, head;
+    uint32_t least;
+  } forms[] = {{0xe0, 0xc0, 0x80}, {0xf0, 0xe0, 0x800}, {0xf8, 0xf0, 0x10000}};
+  unsigned char first = (unsigned char)*from;
+  for (size_t i = 0; i < 3; i++) {
+    if ((first & forms[i].mask) != forms[i].head) continue;
+    *code = first & (unsigned char)~forms[i].mask;
+    for (size_t j = 1; j <= i + 1; j++) {
+      if (((unsigned char)from[j] & 0xc0) != 0x80) return 1;
+      *code = *code << 6 | ((unsigned char)from[j] & 0x3f);
+    }
+    return *code >= forms[i].least && *code < 0x110000 ? i + 2 : 1;
   }
+  return 1;
+}
+
+/* Controls that are more than one byte long: of the second table of controls, of the direction of writing, of lines, and marks of no width. */
+static bool is_control(uint32_t code) {
+  return (code >= 0x80 && code < 0xa0) || code == 0xad || code == 0x61c || (code >= 0x200b && code <= 0x200f) || (code >= 0x2028 && code <= 0x202e) ||
+         (code >= 0x2060 && code <= 0x206f) || code == 0xfeff || (code >= 0xd800 && code < 0xe000) || (code >= 0xe0000 && code < 0xe0080);
+}
+
+void put_name(struct output *out, const char *name) {
+  while (*name != 0) {
+    uint32_t code = 0;
+    size_t count = take_character(name, &code);
+    if (count > 1 && !is_control(code)) put(out, name, count);
+    else for (size_t i = 0; i < count; i++) put_visible(out, (unsigned char)name[i]);
+    name += count;
+  }
+}
+
+void put_marked(struct output *out, const char *mark, const char *text) {
+  if (out->coloured) {
+    put_text(out, "\033[");
+    put_text(out, mark);
+    put_text(out, "m");
+  }
+  put_text(out, text);
+  if (out->coloured) put_text(out, "\033[0m");
+}
+
+void put_paragraph(struct output *out, const char *text) {
+  size_t column = 0;
+  while (*text != 0) {
+    size_t word = 0;
+    while (text[word] != 0 && text[word] != ' ') word++;
+    bool breaks = column > 0 && out->columns != 0 && column + 1 + word >= out->columns;
+    put_text(out, column == 0 ? "  " : breaks ? "\n  " : " ");
+    column = column == 0 || breaks ? 2 + word : column + 1 + word;
+    put(out, text, word);
+    text += word;
+    while (*text == ' ') text++;
+  }
+  put_text(out, "\n");
+}
+
+void look_at_terminal(struct output *out) {
+  enum { LEAST_COLUMNS = 40, USUAL_COLUMNS = 80, MOST_COLUMNS = 1000 };
+  if (isatty(out->file) != 1) return;
+  struct winsize size = {0};
+  size_t columns = ioctl(out->file, TIOCGWINSZ, &size) == 0 && size.ws_col > 0 ? size.ws_col : USUAL_COLUMNS;
+  out->columns = columns < LEAST_COLUMNS ? LEAST_COLUMNS : columns > MOST_COLUMNS ? MOST_COLUMNS : columns;
+  const char *refused = getenv("NO_COLOR"), *terminal = getenv("TERM");
+  out->coloured = (refused == NULL || *refused == 0) && terminal != NULL && *terminal != 0 && strcmp(terminal, "dumb") != 0;
 }
 
 enum status complain(const char *what, const char *name, int error) {

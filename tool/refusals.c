@@ -1,5 +1,7 @@
 /* The sentences: what each refusal means in the words of somebody who has a layout to bring in, and what to do about it. The one place where they stand;
    docs/REFUSALS.md tells more about each number. */
+#include <string.h>
+
 #include "tool.h"
 
 /* Cases of refusal 2 beside the letters of commands, which stand for themselves. */
@@ -8,12 +10,18 @@ enum {
   NOT_ASCII = 'a',
   BLANKS_FIRST = 'b',
   CUT_COMMENT = 'c',
+  NOT_OPEN = 'f',
+  MARKUP = 'h',
   CUT_DEFINITION = 'd',
   END_MISSING = 'e',
   END_INSIDE = 'i',
   CUT_COMMAND = 'm',
   NO_COMMAND = 'n',
+  ONLY_BLANKS = 'o',
   NESTED = 's',
+  EMPTY = 'v',
+  CRYSTALS = 'y',
+  BINARY = 'z',
 };
 
 #define NUMBERS "Numbers are whole, with a blank between two of them; only coordinates and directions may be negative, and the minus sign touches its digit."
@@ -22,10 +30,19 @@ static const struct sentence sentences[] = {
     {1, ANY, "the text is longer than 16,777,216 bytes, the most that is taken.",
      "Write what is repeated as symbols and calls (DS .. DF, C), or split the layout into several texts."},
 
+    {2, EMPTY, "the text is empty.", "Give a layout in CIF 2.0; the shortest one is E. If the file should hold one, see whether it was written at all."},
+    {2, ONLY_BLANKS, "this is no layout: the text holds blanks and no command.",
+     "Lower-case letters are blanks in CIF 2.0: commands are written in upper case, and the last one is E."},
+    {2, MARKUP, "this is no layout: it looks like a web page or another text in markup.",
+     "If it was fetched from the net, the server may have sent a page instead of the file: fetch it again and look into it."},
+    {2, CRYSTALS, "this is no layout: it looks like a Crystallographic Information File, which has only the letters CIF in common with it.",
+     "This tool reads the Caltech Intermediate Form, for the masks of chips. Crystals need another program."},
+    {2, BINARY, "this is no layout: the file is not a text.",
+     "CIF 2.0 is plain ASCII. A compressed file must be unpacked first, and a layout in GDSII or OASIS converted by a layout program."},
     {2, NOT_ASCII, "this byte is not ASCII, and CIF is plain ASCII, in comments too.",
      "Replace it: look for accents, a micron sign, curly quotes, or a byte-order mark at the start of the file."},
     {2, CUT_COMMENT, "the text ends inside a comment.",
-     "Close the comment: each ( needs its ), and behind the last ) stands a semicolon. Then check that the file is whole."},
+     "Close the comment: each ( needs its ), and a semicolon follows the last ). Then check that the file is whole."},
     {2, CUT_DEFINITION, "the text ends inside a symbol definition.", "Finish the definition with DF; and the text with E. Then check that the file is whole."},
     {2, CUT_COMMAND, "the text ends in the middle of a command.",
      "Finish the command with a semicolon and the text with E. Then check that the file is whole."},
@@ -35,14 +52,16 @@ static const struct sentence sentences[] = {
     {2, NESTED, "a symbol definition holds no DS and no DD: definitions do not nest.", "Finish the definition before it with DF;, or see which DF is missing."},
     {2, NO_COMMAND, "no command can start here.",
      "A command starts with P, B, R, W, L, C, D or E, with a digit (user extension) or with ( for a comment. Put other words into a comment."},
-    {2, '(', "no semicolon stands behind this comment.", "A comment is a command: write ; behind its last ), and see that it has no ) too many."},
+    {2, '(', "no semicolon follows this comment.", "A comment is a command: write ; after its last ), and see that it has no ) too many."},
     {2, 'L', "this layer name is not one to four digits or upper-case letters, up to the semicolon.",
-     "Rename the layer, such as CM or NP: no fifth character, no underscore inside, and no other upper-case word behind it."},
+     "Rename the layer, such as CM or NP: no fifth character, no underscore inside, and no other upper-case word after it."},
     {2, 'P', "this polygon does not have the form P x y x y x y ..;", NUMBERS},
     {2, 'B', "this box does not have the form B length width x y; or B length width x y dx dy;", NUMBERS},
     {2, 'R', "this flash does not have the form R diameter x y;", NUMBERS},
     {2, 'W', "this wire does not have the form W width x y x y ..;", NUMBERS},
-    {2, 'C', "this call does not have the form C number; with any of T x y, MX, MY and R x y behind the number.", NUMBERS},
+    {2, 'C', "this call does not have the form C number; with any of T x y, MX, MY and R x y after the number.", NUMBERS},
+    {2, NOT_OPEN, "this DF finishes a definition, and none is open.",
+     "Remove it, or write the DS that belongs to it: see whether the definition before it was finished twice, or begun without an upper-case DS."},
     {2, 'D', "this command has none of the forms DS number; DS number a b; DD number; or, inside a definition, DF;", NUMBERS},
     {2, 'E', "only blanks may follow the End command.",
      "Remove what follows, or move E to the very end. Lower-case letters are blanks; upper-case letters, digits and ; are not."},
@@ -83,6 +102,55 @@ static const struct sentence sentences[] = {
     {18, ANY, "the flat file would be longer than 16,777,216 bytes.", "Split the layout into several texts."},
 };
 
+/* ---- what kind of file it is, where it is none of ours */
+
+static bool starts_with(struct bytes text, size_t at, const char *word) {
+  size_t count = strlen(word);
+  for (size_t i = 0; i < count; i++) {
+    if (at + i >= text.count || text.at[at + i] != (unsigned char)word[i]) return false;
+  }
+  return true;
+}
+
+static size_t pass_spaces(struct bytes text) {
+  size_t at = starts_with(text, 0, "\xef\xbb\xbf") ? 3 : 0;
+  while (at < text.count && (text.at[at] == ' ' || (text.at[at] >= '\t' && text.at[at] <= '\r'))) at++;
+  return at;
+}
+
+/* Whether some line of the first few thousand bytes starts with one of the words that a crystallographer's file must have. */
+static bool tells_of_crystals(struct bytes text) {
+  enum { FAR = 4096 };
+  for (size_t at = 0; at < text.count && at < FAR; at++) {
+    bool starts = at == 0 || text.at[at - 1] == '\n';
+    if (starts && (starts_with(text, at, "data_") || starts_with(text, at, "#\\#CIF") || starts_with(text, at, "_cell_") || starts_with(text, at, "_atom_"))) return true;
+  }
+  return false;
+}
+
+/* Whether the first bytes hold a zero, or are mostly such as no text has. */
+static bool is_binary(struct bytes text) {
+  enum { FAR = 512 };
+  size_t odd = 0, count = text.count < FAR ? text.count : FAR;
+  for (size_t at = pass_spaces(text); at < count; at++) {
+    unsigned char byte = text.at[at];
+    if (byte == 0) return true;
+    odd += byte >= 127 || (byte < ' ' && (byte < '\t' || byte > '\r'));
+  }
+  return odd * 3 > count;
+}
+
+/* Which kind of file, or ANY for what may well be a layout. The first command of a layout settles that it is one. */
+static char kind_of_file(struct bytes text) {
+  size_t at = pass_spaces(text);
+  if (text.count == 0) return EMPTY;
+  if (starts_with(text, at, "<!") || starts_with(text, at, "<?") || starts_with(text, at, "<html") || starts_with(text, at, "<HTML")) return MARKUP;
+  if (tells_of_crystals(text)) return CRYSTALS;
+  if (is_binary(text)) return BINARY;
+  for (at = 0; at < text.count && is_blank(text.at[at]);) at++;
+  return at == text.count ? ONLY_BLANKS : ANY;
+}
+
 /* ---- which sentence */
 
 static char case_of_cut(const struct context *context) {
@@ -98,12 +166,15 @@ static char case_between_commands(const struct context *context, unsigned char b
 }
 
 static char case_of_grammar(struct bytes text, size_t place) {
+  char kind = kind_of_file(text);
+  if (kind != ANY) return kind;
   struct context context = context_at_end((struct bytes){text.at, place});
   if (place == text.count) return case_of_cut(&context);
   if (text.at[place] >= 128) return NOT_ASCII;
   if (context.letter == 0) return case_between_commands(&context, text.at[place]);
-  if (context.letter == 'D' && context.defining) return NESTED;
-  return (char)context.letter;
+  if (context.letter != 'D') return (char)context.letter;
+  if (context.defining) return NESTED;
+  return text.at[place] == 'F' ? NOT_OPEN : 'D';
 }
 
 const struct sentence *sentence_for(uint64_t number, struct bytes text, size_t place) {
@@ -114,6 +185,97 @@ const struct sentence *sentence_for(uint64_t number, struct bytes text, size_t p
     if ((uint64_t)sentence->number == number && (sentence->key == key || sentence->key == ANY)) return sentence;
   }
   return NULL;
+}
+
+/* ---- a remedy that fits what stands there */
+
+/* Whether an R of the call has one number only, up to the place. A letter may stand between two numbers, so the grammar is stuck later. */
+static bool turns_by_degrees(struct bytes text, size_t start, size_t place) {
+  size_t numbers = 0;
+  bool turns = false;
+  for (size_t at = start; at < place && at < text.count; at++) {
+    if (turns && numbers == 1 && is_upper(text.at[at])) return true;
+    if (is_upper(text.at[at])) numbers = 0, turns = text.at[at] == 'R';
+    numbers += is_digit(text.at[at]) && !is_digit(text.at[at - 1]);
+  }
+  return turns && numbers == 1 && place < text.count && text.at[place] == ';';
+}
+
+/* Whether the call has its number and no transformation is being read. */
+static bool wants_letter(struct bytes text, size_t start, size_t place) {
+  size_t at = start + 1, letters = 0;
+  for (; at < place; at++) letters += is_upper(text.at[at]);
+  return letters == 0;
+}
+
+static bool has_point(struct bytes text, size_t start, size_t end) {
+  for (size_t at = start + 1; at + 1 < end; at++) {
+    if (text.at[at] == '.' && is_digit(text.at[at - 1]) && is_digit(text.at[at + 1])) return true;
+  }
+  return false;
+}
+
+static bool has_lower(struct bytes text, size_t start, size_t end) {
+  while (start < end && !is_lower(text.at[start])) start++;
+  return start < end;
+}
+
+static bool is_one_of(unsigned char byte, const char *all) { return byte != 0 && strchr(all, byte) != NULL; }
+
+#define COMMANDS "PBRWLCDE("
+#define LOWER_CASE "Lower-case letters are blanks in CIF 2.0: "
+
+/* For a call: what it takes, and what it does not. */
+static const char *remedy_of_call(struct bytes text, const struct context *context, size_t place) {
+  if (turns_by_degrees(text, context->start, place))
+    return "R takes a direction, not degrees: the x axis is turned to it. R 0 1 turns by 90 degrees, R -1 0 by 180, R 0 -1 by 270.";
+  if (place < text.count && is_upper(text.at[place]) && !is_one_of(text.at[place], COMMANDS) && wants_letter(text, context->start, place))
+    return "A call takes T x y to move, R x y to turn, MX and MY to mirror, in the order in which they are to be done, and nothing else. One that turns and moves is C 1 R 0 1 T 10 20.";
+  return NULL;
+}
+
+static const char *remedy_between(struct bytes text, const struct context *context, size_t place) {
+  bool lower = has_lower(text, context->slot, place);
+  if (place == text.count && lower && text.at[text.count - 1] != ';')
+    return LOWER_CASE "commands are written in upper case, and the last one is E.";
+  if (place < text.count && lower) return LOWER_CASE "if a command is meant here, write its letter in upper case.";
+  return NULL;
+}
+
+/* NULL: the sentence's own will do. */
+static const char *fitting_remedy(uint64_t number, char key, struct bytes text, size_t place) {
+  if (number != 2 || is_one_of((unsigned char)key, (const char[]){EMPTY, ONLY_BLANKS, MARKUP, CRYSTALS, BINARY, NOT_ASCII, CUT_COMMENT, 0})) return NULL;
+  struct context context = context_at_end((struct bytes){text.at, place});
+  if (context.letter == 0) return context.defining ? NULL : remedy_between(text, &context, place);
+  if (is_one_of(context.letter, "(E")) return NULL;
+  if (place < text.count && text.at[place] == '(') return "A comment is a command of its own: move it before this command, or after its semicolon.";
+  if (key == 'D' && has_lower(text, context.start, place)) return LOWER_CASE "write DS, DF and DD in upper case.";
+  const char *remedy = context.letter == 'C' ? remedy_of_call(text, &context, place) : NULL;
+  if (remedy != NULL || !is_one_of(context.letter, "BRWPCD")) return remedy;
+  if (has_point(text, context.start, place < text.count ? place + 1 : place))
+    return "A decimal point is a blank here, so 1.5 is two numbers. Numbers are whole; outside a scaled definition the unit is a hundredth of a micron.";
+  return NULL;
+}
+
+/* Where to look as well: what is being read at the place began earlier. */
+struct origin {
+  const char *what; /* NULL: nothing to show */
+  size_t start;
+  bool asks; /* whether a semicolon is missing */
+};
+
+static bool on_one_line(struct bytes text, size_t start, size_t place) {
+  while (start < place && text.at[start] != '\n') start++;
+  return start == place;
+}
+
+static struct origin origin_of(char key, struct bytes text, size_t place) {
+  struct context context = context_at_end((struct bytes){text.at, place});
+  if (is_one_of((unsigned char)key, (const char[]){EMPTY, ONLY_BLANKS, MARKUP, CRYSTALS, BINARY, NOT_ASCII, 0})) return (struct origin){0};
+  if (key == CUT_COMMENT) return (struct origin){"The comment began", context.start, false};
+  if (key == CUT_DEFINITION || key == END_INSIDE || key == NESTED) return (struct origin){"The definition began", context.definition, false};
+  if (context.letter == 0 || context.letter == 'E' || on_one_line(text, context.start, place)) return (struct origin){0};
+  return (struct origin){context.letter == '(' ? "The comment began" : "This command began", context.start, true};
 }
 
 /* ---- telling */
@@ -128,11 +290,48 @@ static void put_head(struct output *out, const char *name, struct bytes text, si
   put_text(out, ": ");
 }
 
+static void put_where(struct output *out, const char *what, struct position position) {
+  put_text(out, "  ");
+  put_text(out, what);
+  put_text(out, " on line ");
+  put_number(out, (int64_t)position.line);
+  put_text(out, ", column ");
+  put_number(out, (int64_t)position.column);
+}
+
+static void put_origin(struct output *out, const struct origin *origin, struct bytes text, size_t place) {
+  if (origin->what == NULL) return;
+  put_where(out, origin->what, position_of(text, origin->start));
+  put_text(out, !origin->asks ? ":" : place == text.count ? ". Is a semicolon missing after it?" : ". Is a semicolon missing before this line?");
+  put_text(out, "\n");
+  put_excerpt(out, text, origin->start);
+}
+
+/* Whether a new command seems to begin: at the place itself, or where its line does. */
+static bool seems_new(struct bytes text, size_t place, const struct origin *origin) {
+  struct context context = context_at_end((struct bytes){text.at, place});
+  if (place == text.count || !is_one_of(context.letter, "LBRCDWP")) return false;
+  if (!origin->asks) return place > context.start + 1 && is_blank(text.at[place - 1]) && is_one_of(text.at[place], "PBWLCDE");
+  size_t at = place;
+  while (text.at[at - 1] != '\n') at--;
+  while (at < place && is_blank(text.at[at])) at++;
+  return is_one_of(text.at[at], COMMANDS);
+}
+
+static void put_remedy(struct output *out, const struct sentence *sentence, struct bytes text, size_t place, const struct origin *origin) {
+  const char *fitting = fitting_remedy((uint64_t)sentence->number, sentence->key, text, place);
+  if (fitting != NULL) put_paragraph(out, fitting);
+  else if (sentence->number == 2 && seems_new(text, place, origin)) put_paragraph(out, "If a new command begins here, the one before it needs its semicolon.");
+  else put_paragraph(out, sentence->remedy);
+}
+
 void tell_refusal(struct output *out, const char *name, struct bytes text, uint64_t number, uint64_t place) {
   size_t at = place < text.count ? (size_t)place : text.count;
   const struct sentence *sentence = sentence_for(number, text, at);
+  struct origin origin = number == 2 ? origin_of(sentence->key, text, at) : (struct origin){0};
   put_head(out, name, text, at);
-  put_text(out, "refused ");
+  put_marked(out, RED_MARK, "refused");
+  put_text(out, " ");
   put_number(out, (int64_t)number);
   put_text(out, " at byte ");
   put_number(out, (int64_t)place);
@@ -141,10 +340,8 @@ void tell_refusal(struct output *out, const char *name, struct bytes text, uint6
   put_text(out, "\n");
   /* 1 and 18 are about the text as a whole: no line of it is to blame. */
   if (number != 1 && number != 18) put_excerpt(out, text, at);
-  if (sentence == NULL) return;
-  put_text(out, "  ");
-  put_text(out, sentence->remedy);
-  put_text(out, "\n");
+  put_origin(out, &origin, text, at);
+  if (sentence != NULL) put_remedy(out, sentence, text, at, &origin);
 }
 
 void tell_hint(struct output *out, const char *name, struct bytes text) {

@@ -15,9 +15,7 @@ static bool take(struct walk *walk, unsigned char byte) {
 
 static bool take_line_end(struct walk *walk) { return take(walk, ';') && take(walk, '\n'); }
 
-static bool is_digit(unsigned char byte) { return byte >= '0' && byte <= '9'; }
-
-static bool is_name(unsigned char byte) { return is_digit(byte) || (byte >= 'A' && byte <= 'Z'); }
+static bool is_name(unsigned char byte) { return is_digit(byte) || is_upper(byte); }
 
 static bool take_layer(struct walk *walk) {
   walk->layer = 0;

@@ -23,6 +23,8 @@ struct output {
   int file;         /* DROPPED for bytes that go nowhere */
   int error;        /* errno of the first failure, or 0 */
   size_t used;      /* how many bytes wait */
+  size_t columns;   /* of the terminal that shows them, or 0 */
+  bool coloured;    /* the terminal shows colours, and they are welcome */
   const char *name; /* as the user wrote it, for complaints */
   char *path;       /* what the temporary file is renamed to at the end, or NULL */
   char *temporary;  /* the file beside it that is written first, or NULL */
@@ -36,12 +38,22 @@ extern struct output standard_error;
 void put(struct output *out, const void *bytes, size_t count);
 void put_text(struct output *out, const char *text);
 void put_number(struct output *out, int64_t number);
-/* "3 shapes": the thing with a space before it, and an s behind it unless there is one. */
+/* "3 shapes": the thing with a space before it, and an s after it unless there is one. */
 void put_count(struct output *out, uint64_t count, const char *what);
 /* A byte as it can be shown on any terminal, a tab as one space, and how many columns that takes. */
 void put_visible(struct output *out, unsigned char byte);
 size_t columns_of(unsigned char byte);
+/* A file name, with all escaped that could change what a terminal shows around it. */
 void put_name(struct output *out, const char *name);
+/* In the colour of the mark, where colours are shown. */
+#define RED_MARK "31;1"
+#define GREEN_MARK "32;1"
+#define YELLOW_MARK "33;1"
+void put_marked(struct output *out, const char *mark, const char *text);
+/* A paragraph, indented by two, in lines that fit the terminal; one line where there is none. */
+void put_paragraph(struct output *out, const char *text);
+/* Notes whether the output is a terminal, its width, and whether colours are welcome (NO_COLOR, TERM). */
+void look_at_terminal(struct output *out);
 void flush(struct output *out);
 
 /* Standard output for NULL and "-". Any other file appears whole at the end, or not at all. Both complain and answer false if it cannot be written. */
@@ -63,12 +75,36 @@ bool read_file(const char *name, size_t most, unsigned char **text, size_t *coun
 
 /* ---- commands.c: where commands stand in a text, as far as it follows the grammar. */
 
+bool is_digit(unsigned char byte);
+bool is_upper(unsigned char byte);
+bool is_lower(unsigned char byte);
+bool is_blank(unsigned char byte);
+
+struct command {
+  unsigned char letter; /* its first byte, or 0 for a command of nothing but blanks */
+  size_t slot;          /* where the blanks before it start: after the semicolon before */
+  size_t start, end;    /* its first byte, and its semicolon or the end of the text */
+  bool open_comment;    /* a comment that is not closed */
+};
+
+struct command_walk {
+  struct bytes text;
+  size_t at;
+};
+
+/* False at the end of the text. */
+bool next_command(struct command_walk *walk, struct command *command);
+/* The S, F or D of a D command, or 0 where it ends before that. */
+unsigned char second_letter(struct bytes text, const struct command *command);
+
 struct context {
   unsigned char letter; /* the first byte of the command that is being read, or 0 between commands */
   size_t start;         /* where that command starts */
+  size_t slot;          /* where the blanks before it start */
   bool open_comment;    /* the command is a comment that is not closed yet */
   bool defining;        /* a definition is open before that command */
   bool begun;           /* some semicolon came earlier */
+  size_t definition;    /* where the last DS before that command starts */
   size_t definitions;   /* how many DS came before that command */
 };
 

@@ -1,7 +1,13 @@
 """How a refusal is told: number, place, line and column, two sentences, and the line with a caret under the place."""
+import fcntl
 import os
+import pty
+import re
+import struct
+import subprocess
+import termios
 
-from common import MOST, cif, content, expect, leftovers, scratch
+from common import MOST, Run, cif, content, expect, leftovers, scratch
 
 
 def refusals():
@@ -41,11 +47,31 @@ def expect_told(text, number, place, told, name="standard input"):
         return None
     excerpt = [] if number in (1, 18) else rest[:2]
     rest = rest[len(excerpt):]
+    if len(rest) == 5:
+        expect_origin(text, place, rest[:3])
+        rest = rest[3:]
     expect(len(rest) == 2 and rest[0].startswith("  ") and rest[0][-1] == "." and rest[1] == "", "the remedy of a refusal", text[:80], told)
     if excerpt:
-        end = text.find(b"\n", place)
-        expect_caret(text[start:end if end >= 0 else len(text)], place - start, *excerpt)
+        expect_caret(*line_around(text, place), *excerpt)
     return head[len(opening):], rest[0]
+
+
+def line_around(text, place):
+    """The line of a place as it is shown, without a carriage return at its end, and the place in it."""
+    start, end = text.rfind(b"\n", 0, place) + 1, text.find(b"\n", place)
+    line = text[start:end if end >= 0 else len(text)]
+    return line[:-1] if end > place + 1 and line.endswith(b"\r") else line, place - start
+
+
+def expect_origin(text, place, told):
+    """Three lines that tell where what is being read at the place began: earlier, at a byte that begins a command."""
+    where = re.fullmatch(r"  (This command|The comment|The definition) began on line (\d+), column (\d+)(:|\. Is a semicolon missing .*\?)", told[0])
+    if expect(where, "where it began", text[:80], told):
+        lines = text.split(b"\n")
+        at = sum(len(line) + 1 for line in lines[:int(where[2]) - 1]) + int(where[3]) - 1
+        expect(at < place and text[at:at + 1] in {"The c": [b"("], "The d": [b"D"]}.get(where[1][:5], [bytes([c]) for c in b"PBRWLCD(0123456789"]),
+               "it began where a command begins", text[:80], told)
+        expect_caret(*line_around(text, at), *told[1:])
 
 
 def shown(line):
@@ -58,10 +84,12 @@ def expect_caret(line, place, told, caret):
     at = len(caret) - 1
     expect(caret == " " * at + "^" and len(told) < 80, "the caret stands alone, and the line is not long", line[:80], told, caret)
     left, right, before, behind = told[4:at], told[at:], shown(line[:place]), shown(line[place:])
-    cut = left.startswith("...") and len(left) >= 40 and before.endswith(left[3:])
+    whole = left == before and right == behind
+    expect(whole or len(told) > 60, "a line that is cut uses the width", line[:80], told)
+    cut = left.startswith("...") and len(left) >= 20 and before.endswith(left[3:])
     expect(told[:4] == "    " and (left == before or cut), "what stands before the caret", line[:80], told, caret)
     cut = right.endswith("...") and len(right) >= 20 and behind.startswith(right[:-3])
-    expect(right == behind or cut, "what stands behind the caret", line[:80], told, caret)
+    expect(right == behind or cut, "what stands after the caret", line[:80], told, caret)
 
 
 def test_every_number():
@@ -96,8 +124,8 @@ def test_cases():
         (2, 5, b"DS1;DD2;DF;E", "do not nest"),
         (2, 0, b"X;E", "no command can start"),
         (2, 0, b"-1;E", "no command can start"),
-        (2, 2, b"()LA;E", "semicolon stands behind this comment"),
-        (2, 3, b"(a));E", "semicolon stands behind this comment"),
+        (2, 2, b"()LA;E", "no semicolon follows this comment"),
+        (2, 3, b"(a));E", "no semicolon follows this comment"),
         (2, 5, b"LABCDE;E", "one to four"),
         (2, 3, b"LM_1;E", "one to four"),
         (2, 4, b"LNM B4 4 0 0;E", "one to four"),
@@ -106,7 +134,8 @@ def test_cases():
         (2, 4, b"LA;R;E", "flash does not"),
         (2, 7, b"LA;W1 2;E", "wire does not"),
         (2, 3, b"C1 A;E", "call does not"),
-        (2, 1, b"DF;E", "none of the forms"),
+        (2, 1, b"DF;E", "none is open"),
+        (2, 1, b"D1;E", "none of the forms"),
         (2, 2, b"E X", "only blanks"),
         (2, 1, b"E;", "only blanks"),
         (7, 3, b"LA;B1 0 0 0;E", "box"),
@@ -119,6 +148,93 @@ def test_cases():
     ):
         told = expect_told(text, number, place, cif("check", "-", text=text).stderr)
         expect(told is not None and words in told[0], "the sentence of a case", words, text, told)
+
+
+def test_origins():
+    """Where a semicolon, a parenthesis or a DF is missing, the message leads to where the command, the comment or the definition began."""
+    for text, began in (
+        (b"L NM\nB 4 4 0 0;\nE", "This command began on line 1, column 1. Is a semicolon missing before this line?"),
+        (b"L NM;\nB 4 4 0 0\nB 4 4 9 9;\nE", "This command began on line 2, column 1. Is a semicolon missing before this line?"),
+        (b"DS1;DF;\n C 1 T 0 0\nC 1;\nE", "This command began on line 2, column 2. Is a semicolon missing before this line?"),
+        (b"L NM;\nB 4 4 0 0\n9 name;\nE", "This command began on line 2, column 1. Is a semicolon missing before this line?"),
+        (b"LA;\nW 4 0 0\n", "This command began on line 2, column 1. Is a semicolon missing after it?"),
+        (b"(a)\nLA;E", "The comment began on line 1, column 1. Is a semicolon missing before this line?"),
+        (b"LA;\n (open (x)\nDF;\nE\n", "The comment began on line 2, column 2:"),
+        (b"LA;(x\n", "The comment began on line 1, column 4:"),
+        (b";DS 1;\nLA;\nE\n", "The definition began on line 1, column 2:"),
+        (b"DS 1;\nDF;\nDS 2;\nDS 3;\nDF;E", "The definition began on line 3, column 1:"),
+        (b"DS 1;\nLA;\n", "The definition began on line 1, column 1:"),
+        (b"L NM B 4 4 0 0;E", None),
+        (b"B 4 4 - 0;E", None),
+    ):
+        told = cif("check", "-", text=text).stderr.decode().split("\n")
+        expect(("  " + began == told[3]) if began else len(told) == 5, "where it began", text, told)
+
+
+def test_remedies():
+    """Remedies that fit what stands there, and texts beside them that get another one."""
+    for words, texts, others in (
+        ("direction, not degrees", (b"C1 R 90;E", b"C1 R 90 T 1 2;E", b"C1 T 5 5 R -90;E"), (b"C1 R 1 0 0;E", b"C1 R;E", b"LA;R 90;E")),
+        ("A call takes T x y", (b"C 1 X 10 20;E", b"C1 A;E"), (b"C 1 T 10;E", b"C 1 B 4;E")),
+        ("A comment is a command of its own", (b"LA;W 10 0 0 (x) 9 9;E", b"L (x) A;E", b"C1 (x) T 0 0;E"), (b"(a)(b);E",)),
+        ("A decimal point is a blank", (b"LA;B 1.5 2 0 0;E", b"LA;R1.5 0 0;E"), (b"LA;B 1 2 3 - 4;E", b"LA;R 1. 0 - 2;E")),
+        ("Lower-case letters are blanks", (b"l nm; b 4 4 0 0; e", b"b -4 4;E", b"Ds 1;Df;E", b"ds 1;e\n"), (b"LA;", b"-4;E", b"D 1;E")),
+        ("the one before it needs its semicolon", (b"L NM B 4 4 0 0;E", b"LA;\nB 4 4 0 0\nB 4 4 9 9;E", b"C1 T 0 0 C 2;E"), (b"LABCDE;E", b"LA;\nB 4 4\n0 - 4;E")),
+    ):
+        for text in texts + others:
+            told = cif("check", "-", text=text)
+            expect(told.returncode == 1 and (words.encode() in told.stderr) == (text in texts), "a remedy that fits", words, text, told.stderr)
+
+
+def test_no_layout():
+    """What is no layout is called so first; the refusal's number and place stay."""
+    for words, texts in (
+        ("the text is empty", (b"",)),
+        ("no layout: the text holds blanks", (b" \n", b"hello, world\n", b"e\n")),
+        ("no layout: it looks like a web page", (b"<!DOCTYPE html>\n<html>", b" <html><body>E", b"<?xml version='1.0'?><svg/>", b"\xef\xbb\xbf<html>")),
+        ("Crystallographic Information File", (b"data_global\n_cell_length_a 5.4\n", b"#\\#CIF_2.0\ndata_x\n", b"# quartz\n_cell_length_a 4.9\nloop_\n")),
+        ("no layout: the file is not a text", (b"\x00\x06\x00\x02\x02\x58", b"\x1f\x8b\x08\x00\x01", b"\x89PNG\r\n\x1a\n\x00", b"%SEMI\x00", b"\xff\xfeE\x00")),
+    ):
+        for text in texts:
+            done = cif("list", "-", text=text)
+            number, place = map(int, done.stdout.split()[1:])
+            told = expect_told(text, number, place, done.stderr)
+            expect(number == 2 and told is not None and words in told[0], "what is no layout", words, text, done)
+    for text in (b"\xef\xbb\xbfE", b"(\xb5m);E", b"X;E", b"(data_);X", b"LA"):
+        told = cif("check", "-", text=text).stderr
+        expect(b"no layout" not in told and b"Crystal" not in told, "what may well be a layout", text, told)
+
+
+def on_terminal(columns, text, **more):
+    """What a terminal of so many columns is sent, as lines."""
+    reading, writing = pty.openpty()
+    fcntl.ioctl(writing, termios.TIOCSWINSZ, struct.pack("HHHH", 24, columns, 0, 0))
+    name = scratch("terminal.cif", text)
+    done = subprocess.Popen([Run.cif, "check", name], stdin=subprocess.DEVNULL, stdout=subprocess.DEVNULL, stderr=writing, env={**os.environ, **more})
+    os.close(writing)
+    sent = b""
+    try:
+        while part := os.read(reading, 4096):
+            sent += part
+    except OSError:  # how Linux tells that nobody writes any more
+        pass
+    os.close(reading)
+    expect(done.wait() == 1, "a refusal on a terminal", done.returncode)
+    return sent.decode().replace("\r\n", "\n").split("\n")
+
+
+def test_terminal():
+    text = b"LA; (" + b"words " * 60 + b"); B 4 4 0 - 4; (" + b"words " * 60 + b");E"
+    for columns in (40, 80, 200):
+        told = on_terminal(columns, text, TERM="xterm", NO_COLOR="1")
+        expect(all("\x1b" not in line for line in told), "no colour where NO_COLOR is set", told)
+        expect(len(told[1]) >= columns - 8 and all(len(line) < columns for line in told[1:]), "lines as wide as the terminal", columns, told)
+        expect(told[1][len(told[2]) - 1] == " " and told[1][len(told[2]) - 2:].startswith("- 4;"), "the caret in its place", told)
+        expect(" ".join(line.strip() for line in told[3:-1]).endswith("the minus sign touches its digit."), "a remedy in several lines", told)
+    told = on_terminal(80, text, TERM="xterm", NO_COLOR="")
+    expect("\x1b[31;1mrefused\x1b[0m 2" in told[0] and told[2].endswith("\x1b[32;1m^\x1b[0m"), "colours on a terminal", told)
+    expect(all("\x1b" not in line for line in on_terminal(80, text, TERM="dumb", NO_COLOR="")), "no colours on a dumb one")
+    expect(b"\x1b" not in cif("check", "-", text=text, env={**os.environ, "TERM": "xterm", "NO_COLOR": ""}).stderr, "no colours in a pipe")
 
 
 def test_excerpts():
@@ -139,6 +255,12 @@ def test_excerpts():
         expect_told(text, 2, place, cif("check", "-", text=text).stderr)
     done = cif("check", scratch("a\x1b[1m\nb.cif", b"X"))
     expect(b"\x1b" not in done.stderr and done.stderr.count(b"\n") == 4, "a name with control bytes is shown safely", done)
+    for name, seen in ((b"a\xc2\x9bb", rb"a\xC2\x9Bb"), (b"a\xe2\x80\xaeb", rb"a\xE2\x80\xAEb"), (b"a\xe2\x81\xa6b", rb"a\xE2\x81\xA6b"), (b"a\xff\xc3b", rb"a\xFF\xC3b"),
+                       (b"a\xd8\x9cb", rb"a\xD8\x9Cb"), (b"a\xc0\xaf", rb"a\xC0\xAF"), (b"\xc3\xa4\xe5\x9b\xbe\xf0\x9f\x98\x80", b"\xc3\xa4\xe5\x9b\xbe\xf0\x9f\x98\x80")):
+        done = cif("check", os.path.join(os.fsencode(Run.folder), name))
+        expect(b"/" + seen + b": " in done.stderr, "a name is shown safely, and in its own letters where that is safe", name, done)
+    done = cif("check", "-", text=b"LA;\r\nB 4 4 - 0;\r\nE\r\n")
+    expect(b"\\x0D" not in done.stderr, "a carriage return before a line end is not shown", done)
 
 
 def random_texts(count):
