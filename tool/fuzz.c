@@ -31,7 +31,7 @@ static unsigned char *copy_of(const unsigned char *from, size_t count) {
 /* ---- texts */
 
 static size_t random_text(unsigned char *text, size_t most) {
-  static const char *const pieces[] = {"DS1 2 3;", "DF;", "DD1;",    "D", "LNM;", "L",  "B4 4 0 0", "W", "P0 0", "C1 MX T5 5;", "(",
+  static const char *const pieces[] = {"DS1 2 3;", "Lmetal1;", "Lpoly1;", "0 a.b;", "94 x", "W4 0 0 1 1", "P 1.5", "DF;", "DD1;",    "D", "LNM;", "L",  "B4 4 0 0", "W", "P0 0", "C1 MX T5 5;", "(",
                                        ")",        "(a(b)c)", ";", "E", "\n",    "\t", "-",        "9 x;", " ", "\r\n"};
   size_t count = 0, parts = below(40);
   for (size_t i = 0; i < parts && count + 300 < most; i++) {
@@ -64,6 +64,19 @@ static void look_at_telling(const struct output *out, struct bytes text, size_t 
   demand(columns_of(byte) == 1 ? over == (byte == '\t' ? ' ' : byte) : over == (at_end ? '\n' : '\\'), "what stands over the caret", out);
 }
 
+/* Hints are short lines, of bytes that can be shown, at places of the text. */
+static void look_at_hints(struct bytes text) {
+  static struct output out;
+  static struct hints hints;
+  static const uint64_t answer[CIF_WORDS];
+  out = (struct output){.file = DROPPED};
+  find_hints(text, answer, &hints);
+  demand(hints.count > 0 && hints.count <= MOST_HINTS, "no call, or nothing drawn, at the least", &out);
+  for (size_t i = 0; i < hints.count; i++) demand(hints.all[i].place <= text.count && strlen(hints.all[i].words) + 1 < HINT_WORDS, "a hint", &out);
+  tell_hints(&out, "f", text, &hints);
+  for (size_t i = 0; i < out.used; i++) demand(out.waiting[i] == '\n' || (out.waiting[i] >= ' ' && out.waiting[i] < 127), "a hint that cannot be shown", &out);
+}
+
 static void try_text(void) {
   static unsigned char room[16384];
   static struct output out;
@@ -81,7 +94,7 @@ static void try_text(void) {
     demand((sentence_for(number, text, text.count) != NULL) == (number >= 1 && number <= 18), "a sentence for each number", &out);
     tell_refusal(&out, "f", text, number, (uint64_t)below(1u << 30) << 33);
   }
-  tell_hint(&out, "f", text);
+  look_at_hints(text);
   free(copy);
 }
 

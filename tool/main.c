@@ -16,6 +16,7 @@ static const char help[] =
     "  cif plot FILE [-o OUT.svg]   a picture of the shapes, layer by layer\n"
     "  cif --help, cif --version\n"
     "\n"
+    "With --strict an accepted text that gets a hint ends with status 1 too.\n"
     "FILE or OUT may be -, for standard input or output; without -o it is standard output.\n"
     "OUT appears whole or not at all. A refusal goes to standard error and writes no OUT.\n"
     "Exit status: 0 accepted, 1 refused, 2 could not run.\n"
@@ -80,6 +81,7 @@ struct request {
   const struct task *task;
   const char *file;
   const char *out; /* NULL: not said */
+  bool strict;     /* a hint counts as a refusal does */
 };
 
 static bool same(const char *one, const char *other) { return strcmp(one, other) == 0; }
@@ -119,6 +121,7 @@ static bool take_words(struct request *request, char **words) {
   for (int at = 1; words[at] != NULL; at++) {
     bool option = options && words[at][0] == '-' && words[at][1] != 0;
     if (option && same(words[at], "--")) options = false;
+    else if (option && same(words[at], "--strict")) request->strict = true;
     else if (option && words[at][1] != 'o') return misread("no such option:", words[at]);
     else if (!(option ? take_out(request, words, &at) : take_file(request, words[at]))) return false;
   }
@@ -144,10 +147,13 @@ static enum status show(const struct request *request, const struct reading *rea
 static enum status answer(const struct request *request, const struct reading *reading) {
   enum status status = show(request, reading);
   uint64_t number = reading->answer[CIF_NUMBER];
+  static struct hints hints;
+  hints.count = 0;
   if (number != 0) tell_refusal(&standard_error, reading->name, reading->text, number, reading->answer[CIF_PLACE]);
-  else if (status == ACCEPTED && reading->answer[CIF_CALLS] == 0) tell_hint(&standard_error, reading->name, reading->text);
+  else if (status == ACCEPTED) find_hints(reading->text, reading->answer, &hints);
+  tell_hints(&standard_error, reading->name, reading->text, &hints);
   flush(&standard_error);
-  return status;
+  return request->strict && hints.count > 0 ? REFUSED : status;
 }
 
 static enum status run(const struct request *request) {

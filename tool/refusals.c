@@ -280,7 +280,7 @@ static struct origin origin_of(char key, struct bytes text, size_t place) {
 
 /* ---- telling */
 
-static void put_head(struct output *out, const char *name, struct bytes text, size_t place) {
+void put_head(struct output *out, const char *name, struct bytes text, size_t place) {
   struct position position = position_of(text, place);
   put_name(out, name);
   put_text(out, ":");
@@ -342,14 +342,4 @@ void tell_refusal(struct output *out, const char *name, struct bytes text, uint6
   if (number != 1 && number != 18) put_excerpt(out, text, at);
   put_origin(out, &origin, text, at);
   if (sentence != NULL) put_remedy(out, sentence, text, at, &origin);
-}
-
-void tell_hint(struct output *out, const char *name, struct bytes text) {
-  size_t definitions = context_at_end(text).definitions;
-  if (definitions == 0) return;
-  put_name(out, name);
-  put_text(out, ": hint: no symbol is called, so what the ");
-  put_number(out, (int64_t)definitions);
-  put_text(out, definitions == 1 ? " definition holds" : " definitions hold");
-  put_text(out, " is not drawn.\n  Call the top symbol, C n; with its number, before the E. Some programs write that call only when they are told to.\n");
 }

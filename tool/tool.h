@@ -123,8 +123,27 @@ struct sentence {
 /* The sentence for a refusal; NULL for a number that none has. */
 const struct sentence *sentence_for(uint64_t number, struct bytes text, size_t place);
 void tell_refusal(struct output *out, const char *name, struct bytes text, uint64_t number, uint64_t place);
-/* A hint on an accepted text that defines symbols and calls none. */
-void tell_hint(struct output *out, const char *name, struct bytes text);
+/* "NAME:LINE:COLUMN: ", as editors and build logs understand it. */
+void put_head(struct output *out, const char *name, struct bytes text, size_t place);
+
+/* ---- hints.c: accepted texts that look as if something else was meant. */
+
+enum { MOST_HINTS = 9, HINT_WORDS = 256 };
+
+struct hint {
+  const char *name; /* as docs/HINTS.md has it */
+  size_t place;
+  char words[HINT_WORDS];
+};
+
+struct hints {
+  size_t count;
+  struct hint all[MOST_HINTS];
+};
+
+void find_hints(struct bytes text, const uint64_t answer[CIF_WORDS], struct hints *hints);
+/* A line for each. */
+void tell_hints(struct output *out, const char *name, struct bytes text, const struct hints *hints);
 
 /* ---- excerpt.c */
 

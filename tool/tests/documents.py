@@ -1,4 +1,4 @@
-"""What the documents show is what happens: the example host, the texts of REFUSALS.md, the sessions, the picture."""
+"""What the documents show is what happens: the example host, the texts of REFUSALS.md and HINTS.md, the sessions, the picture."""
 import os
 import re
 import subprocess
@@ -33,9 +33,27 @@ def test_refusals():
     expect([int(n) for n in re.findall(r"^## (\d+):", page, re.M)] == list(range(1, 19)), "REFUSALS.md has a part for each number")
 
 
+def test_hints():
+    """Every text of docs/HINTS.md, written as `text`: hint at line:column, or `text`: no hint. Of the texts in the section of a hint some get it, some not."""
+    page = document("docs/HINTS.md")
+    sections = re.findall(r"^## ([a-z-]+): .*\n((?:(?!## ).*\n)*)", page, re.M)
+    source = document("tool/hints.c")
+    names = re.search(r"names\[KINDS\] = \{(.*)\};", source)[1]
+    expect([name for name, _ in sections] == re.findall(r'"([a-z-]+)"', names), "HINTS.md has a section for each hint, in their order", sections)
+    for name, section in sections:
+        found = re.findall(r"`([^`\n]+)`: (no hint|hint at (\d+:\d+))", section)
+        words = re.search(r"\*\*(.*?)\*\*", section)[1].encode()
+        expect({bool(place) for _, _, place in found} == {True, False}, "a text that gets the hint and one that does not", name)
+        for text, verdict, place in found:
+            done = cif("check", "-", text=text.encode().decode("unicode_escape").encode())
+            told = [line for line in done.stderr.split(b"\n") if words in line]
+            seen = not told if not place else len(told) == 1 and told[0].startswith(f"standard input:{place}: hint: ".encode())
+            expect(done.returncode == 0 and seen, "a text of HINTS.md", name, text, verdict, done)
+
+
 def test_sessions():
     """Each line `$ command` of these documents, and what it shows."""
-    for name in ("README.md", "docs/REFUSALS.md"):
+    for name in ("README.md", "docs/REFUSALS.md", "docs/HINTS.md"):
         if not os.path.exists(os.path.join(TOP, name)):
             continue
         for command, shows in re.findall(r"^    \$ (.*)\n((?:    (?!\$ ).*\n)*)", document(name), re.M):

@@ -85,15 +85,15 @@ def test_vectors():
         list(pool.map(try_vector, rows))
 
 
-def test_hint():
-    """Where symbols are defined and none is called."""
-    for text, said in ((b"DS1;LA;R1 0 0;DF;E", b"the 1 definition holds"), (b"DS1;DF;D blank S 2;C1;DF;DD1;E", b"the 2 definitions hold"),
-                       (b"LA;R1 0 0;DS1;DF;E", b"1 definition")):
-        done = cif("flat", "-", text=text)
-        expect(done.returncode == 0 and said in done.stderr and b"C n;" in done.stderr, "a hint where nothing is called", text, done)
-    for text in (b"E", b"LA;R1 0 0;E", b"DS1;DF;C1;E", b"(DS1;DF;);E", b"9 DS1;E", b"DD1;E", b"LDS;E"):
-        done = cif("flat", "-", text=text)
-        expect(done.returncode == 0 and done.stderr == b"", "no hint", text, done)
+def test_strict():
+    """A hint is a line with its place, and changes no answer; with --strict it changes the exit status."""
+    for text, hinted in ((EXAMPLE, False), (b"LA;R1 0 0;94 x;E", True), (b"DS1;LA;R1 0 0;DF;E", True)):
+        for task in ("check", "flat", "list", "plot"):
+            plain, strict = cif(task, "-", text=text), cif(task, "--strict", "-", text=text)
+            expect((plain.returncode, strict.returncode) == (0, 1 if hinted else 0), "--strict", text, task, plain, strict)
+            expect((plain.stdout, plain.stderr) == (strict.stdout, strict.stderr), "--strict changes nothing else", text, task)
+            expect(re.fullmatch(rb"(standard input:\d+:\d+: hint: [ -~]+\.\n)+" if hinted else b"", plain.stderr), "hints are lines", plain.stderr)
+    expect(cif("check", "--strict", "-", text=b"X").returncode == 1, "a refusal with --strict")
 
 
 def test_longest():
