@@ -87,12 +87,12 @@ static void try_text(void) {
     size_t place = below((unsigned)text.count + 1);
     uint64_t number = 2 + below(16);
     out = (struct output){.file = DROPPED};
-    tell_refusal(&out, "f", text, number, place);
+    tell_refusal(&out, &(struct reading){"f", text, {text.at, 0}, {number, place}}, true);
     look_at_telling(&out, text, place);
   }
   for (uint64_t number = 0; number < 30; number++) {
     demand((sentence_for(number, text, text.count) != NULL) == (number >= 1 && number <= 18), "a sentence for each number", &out);
-    tell_refusal(&out, "f", text, number, (uint64_t)below(1u << 30) << 33);
+    tell_refusal(&out, &(struct reading){"f", text, {text.at, 0}, {number, (uint64_t)below(1u << 30) << 33}}, below(2) == 0);
   }
   look_at_hints(text);
   free(copy);

@@ -5,83 +5,62 @@
 
 #include "tool.h"
 
-#define VERSION "1.0"
+#define VERSION "2.0"
 
 static const char help[] =
-    "cif reads layouts in CIF 2.0 and answers exactly as the definition says, or says why not.\n"
+    "cif reads layouts in CIF 2.0 (Caltech Intermediate Form) and answers exactly as the\n"
+    "definition says, or says why not.\n"
     "\n"
-    "  cif check FILE               tell whether FILE is accepted, and what it draws\n"
+    "  cif check FILE ..            tell whether each FILE is accepted, and what it draws\n"
     "  cif flat FILE [-o OUT]       write the flat file: layers and shapes, every call drawn\n"
-    "  cif list FILE                a line for each shape, the totals and the window\n"
+    "  cif list FILE [-o OUT]       a line for each shape, the totals and the window\n"
     "  cif plot FILE [-o OUT.svg]   a picture of the shapes, layer by layer\n"
-    "  cif --help, cif --version\n"
+    "  cif -h, --help; cif -V, --version\n"
     "\n"
-    "With --strict an accepted text that gets a hint ends with status 1 too.\n"
+    "  -q         with check: say nothing of texts that are accepted without a hint\n"
+    "  --json     with check: an object of JSON for each FILE, on a line of its own\n"
+    "  --strict   an accepted text that gets a hint ends with status 1 too\n"
+    "\n"
     "FILE or OUT may be -, for standard input or output; without -o it is standard output.\n"
     "OUT appears whole or not at all. A refusal goes to standard error and writes no OUT.\n"
-    "Exit status: 0 accepted, 1 refused, 2 could not run.\n"
-    "Texts and flat files have at most 16,777,216 bytes. See also cif(1), docs/REFUSALS.md.\n";
+    "Exit status: 0 accepted, 1 refused, 2 could not run; of several FILEs the worst.\n"
+    "Texts and flat files have at most 16,777,216 bytes.\n"
+    "See also cif(1), docs/REFUSALS.md, docs/HINTS.md, docs/JSON.md.\n";
 
 static const char version[] = "cif " VERSION ": the CIF 2.0 reader Wadhuulexi\n";
 
-/* What the reader answered to a text. `flat` is empty on a refusal. */
-struct reading {
-  const char *name; /* of the text, as it is shown */
-  struct bytes text, flat;
-  uint64_t answer[CIF_WORDS];
+/* ---- the tasks and the words of the command line */
+
+/* What goes with a task. */
+enum takes { OUT = 1, QUIET = 2, JSON = 4, STRICT = 8, MANY = 16, REFUSALS = 32 };
+
+struct task {
+  const char *name;
+  /* What it writes for a text, NULL for check, which has its own way. False where there is not enough memory. */
+  bool (*show)(struct output *out, const struct reading *reading);
+  unsigned takes;
 };
-
-/* ---- the tasks: what each writes for an accepted text. False where there is not enough memory. */
-
-static bool check(struct output *out, const struct reading *reading) {
-  put_name(out, reading->name);
-  put_text(out, ": accepted: ");
-  put_count(out, reading->answer[CIF_SHAPES], " shape");
-  put_text(out, ", ");
-  put_count(out, reading->answer[CIF_CALLS], " call");
-  put_text(out, ", ");
-  put_count(out, reading->answer[CIF_REDEFINITIONS], " redefinition");
-  put_text(out, "; the flat file has ");
-  put_count(out, reading->answer[CIF_LENGTH], " byte");
-  put_text(out, "\n");
-  return true;
-}
 
 static bool flat(struct output *out, const struct reading *reading) {
   put(out, reading->flat.at, reading->flat.count);
   return true;
 }
 
-/* The lines of a text, accepted or refused: asked for with no room first, to learn how long they are. */
-static bool list(struct output *out, const struct reading *reading) {
-  unsigned char none;
-  size_t length = cif_list(reading->flat.at, reading->flat.count, reading->answer, &none, 0);
-  unsigned char *lines = malloc(length);
-  if (lines == NULL) return false;
-  (void)cif_list(reading->flat.at, reading->flat.count, reading->answer, lines, length);
-  put(out, lines, length);
-  free(lines);
-  return true;
-}
-
 static bool plot(struct output *out, const struct reading *reading) { return put_plot(out, reading->flat); }
 
-struct task {
-  const char *name;
-  bool (*show)(struct output *out, const struct reading *reading);
-  bool takes_out;      /* -o goes with it */
-  bool shows_refusals; /* it has something to write for a refused text too: document 01's list has a line for it */
+static const struct task tasks[] = {
+    {"check", NULL, QUIET | JSON | STRICT | MANY},
+    {"flat", flat, OUT | STRICT},
+    {"list", put_list, OUT | STRICT | REFUSALS},
+    {"plot", plot, OUT | STRICT},
 };
-
-static const struct task tasks[] = {{"check", check, false, false}, {"flat", flat, true, false}, {"list", list, false, true}, {"plot", plot, true, false}};
-
-/* ---- the words of the command line */
 
 struct request {
   const struct task *task;
-  const char *file;
+  char **files; /* the words that are no options */
+  int count;
   const char *out; /* NULL: not said */
-  bool strict;     /* a hint counts as a refusal does */
+  unsigned given;  /* of QUIET, JSON, STRICT */
 };
 
 static bool same(const char *one, const char *other) { return strcmp(one, other) == 0; }
@@ -97,83 +76,187 @@ static bool take_task(struct request *request, const char *word) {
   for (size_t i = 0; i < sizeof tasks / sizeof *tasks; i++) {
     if (same(tasks[i].name, word)) request->task = &tasks[i];
   }
-  return request->task != NULL || misread("no such task:", word);
+  return request->task != NULL || misread(*word == '-' ? "no such option:" : "no such task:", word);
 }
 
-/* The word behind -o, or the rest of the same word. */
+/* The word after -o, or the rest of the same word. */
 static bool take_out(struct request *request, char **words, int *at) {
-  if (!request->task->takes_out) return misread("no -o goes with", request->task->name);
+  if ((request->task->takes & OUT) == 0) return misread("no -o goes with", request->task->name);
   if (request->out != NULL) return misread("a second -o:", words[*at]);
   if (words[*at][2] != 0) request->out = words[*at] + 2;
   else if (words[*at + 1] != NULL) request->out = words[++*at];
-  return request->out != NULL || misread("no file name behind", words[*at]);
+  return request->out != NULL || misread("no file name after", words[*at]);
 }
 
-static bool take_file(struct request *request, const char *word) {
-  if (request->file != NULL) return misread("one FILE at a time, and this is a second one:", word);
-  request->file = word;
-  return true;
+static bool take_option(struct request *request, char **words, int *at) {
+  static const struct {
+    const char *word;
+    unsigned takes;
+  } options[] = {{"-q", QUIET}, {"--json", JSON}, {"--strict", STRICT}};
+  for (size_t i = 0; i < sizeof options / sizeof *options; i++) {
+    if (!same(options[i].word, words[*at])) continue;
+    request->given |= options[i].takes;
+    return (request->task->takes & options[i].takes) != 0 || misread("this option does not go with it:", words[*at]);
+  }
+  return words[*at][1] == 'o' ? take_out(request, words, at) : misread("no such option:", words[*at]);
 }
 
+/* Files are gathered at the front of the words. */
 static bool take_words(struct request *request, char **words) {
   if (!take_task(request, words[0])) return false;
   bool options = true;
+  request->files = words;
   for (int at = 1; words[at] != NULL; at++) {
     bool option = options && words[at][0] == '-' && words[at][1] != 0;
     if (option && same(words[at], "--")) options = false;
-    else if (option && same(words[at], "--strict")) request->strict = true;
-    else if (option && words[at][1] != 'o') return misread("no such option:", words[at]);
-    else if (!(option ? take_out(request, words, &at) : take_file(request, words[at]))) return false;
+    else if (option && !take_option(request, words, &at)) return false;
+    else if (!option && request->count == 1 && (request->task->takes & MANY) == 0) return misread("one FILE at a time, and this is a second one:", words[at]);
+    else if (!option) words[request->count++] = words[at];
   }
-  return request->file != NULL || misread("no FILE behind", words[0]);
+  return request->count > 0 || misread("no FILE after", request->task->name);
 }
 
-/* ---- answering */
+/* ---- reading */
 
-static enum status show(const struct request *request, const struct reading *reading) {
-  static struct output out;
-  bool accepted = reading->answer[CIF_NUMBER] == 0;
-  if (!accepted && !request->task->shows_refusals) return REFUSED;
-  if (accepted && !is_flat(reading->flat)) return complain("this should not happen: the reader wrote something else than a flat file for", reading->name, 0);
-  if (!open_output(&out, request->out)) return COULD_NOT_RUN;
-  if (!request->task->show(&out, reading)) {
-    abandon_output(&out);
-    return complain("not enough memory to show", reading->name, 0);
-  }
-  if (!close_output(&out)) return COULD_NOT_RUN;
-  return accepted ? ACCEPTED : REFUSED;
-}
+static const char *shown_name(const char *file) { return same(file, "-") ? "standard input" : file; }
 
-static enum status answer(const struct request *request, const struct reading *reading) {
-  enum status status = show(request, reading);
-  uint64_t number = reading->answer[CIF_NUMBER];
-  static struct hints hints;
-  hints.count = 0;
-  if (number != 0) tell_refusal(&standard_error, reading->name, reading->text, number, reading->answer[CIF_PLACE]);
-  else if (status == ACCEPTED) find_hints(reading->text, reading->answer, &hints);
-  tell_hints(&standard_error, reading->name, reading->text, &hints);
-  flush(&standard_error);
-  return request->strict && hints.count > 0 ? REFUSED : status;
-}
-
-static enum status run(const struct request *request) {
-  struct reading reading = {.name = same(request->file, "-") ? "standard input" : request->file};
-  unsigned char *text;
+/* False and a complaint where the file cannot be read or memory is short. Else to be released. */
+static bool read_text(const char *file, struct reading *reading) {
+  unsigned char *text, *room;
   size_t count;
+  *reading = (struct reading){.name = shown_name(file)};
   /* One byte more than the reader takes, so that it sees that a text is too long. */
-  if (!read_file(request->file, CIF_MOST_BYTES + 1, &text, &count)) return COULD_NOT_RUN;
-  unsigned char *room = malloc(CIF_MOST_BYTES);
-  enum status status;
+  if (!read_file(file, CIF_MOST_BYTES + 1, &text, &count)) return false;
+  room = malloc(CIF_MOST_BYTES);
   if (room == NULL) {
-    status = complain("not enough memory to read", reading.name, 0);
-  } else {
-    cif_flatten(text, count, room, CIF_MOST_BYTES, reading.answer);
-    reading.text = (struct bytes){text, count};
-    reading.flat = (struct bytes){room, (size_t)reading.answer[CIF_LENGTH]};
-    status = answer(request, &reading);
+    free(text);
+    complain("not enough memory to read", reading->name, 0);
+    return false;
   }
-  free(room);
-  free(text);
+  cif_flatten(text, count, room, CIF_MOST_BYTES, reading->answer);
+  reading->text = (struct bytes){text, count};
+  reading->flat = (struct bytes){room, (size_t)reading->answer[CIF_LENGTH]};
+  if (reading->answer[CIF_NUMBER] == 0 && !is_flat(reading->flat)) {
+    complain("this should not happen: the reader wrote something else than a flat file for", reading->name, 0);
+    free(text);
+    free(room);
+    return false;
+  }
+  return true;
+}
+
+static void release_reading(struct reading *reading) {
+  free((void *)reading->text.at);
+  free((void *)reading->flat.at);
+}
+
+static bool accepted(const struct reading *reading) { return reading->answer[CIF_NUMBER] == 0; }
+
+static void look_for_hints(const struct reading *reading, struct hints *hints) {
+  hints->count = 0;
+  if (accepted(reading)) find_hints(reading->text, reading->answer, hints);
+}
+
+static enum status status_of(const struct request *request, const struct reading *reading, const struct hints *hints) {
+  return accepted(reading) && ((request->given & STRICT) == 0 || hints->count == 0) ? ACCEPTED : REFUSED;
+}
+
+/* ---- check */
+
+static void put_counts(struct output *out, const struct reading *reading) {
+  put_name(out, reading->name);
+  put_text(out, ": accepted: ");
+  put_count(out, reading->answer[CIF_SHAPES], " shape");
+  put_text(out, ", ");
+  put_count(out, reading->answer[CIF_CALLS], " call");
+  put_text(out, ", ");
+  put_count(out, reading->answer[CIF_REDEFINITIONS], " redefinition");
+  put_text(out, "; the flat file has ");
+  put_count(out, reading->answer[CIF_LENGTH], " byte");
+  put_text(out, "\n");
+}
+
+static enum status check_reading(const struct request *request, struct output *out, const struct reading *reading) {
+  static struct hints hints;
+  look_for_hints(reading, &hints);
+  if ((request->given & JSON) != 0) {
+    if (!put_json(out, reading, &hints)) return complain("not enough memory to show", reading->name, 0);
+  } else {
+    if (accepted(reading) && (request->given & QUIET) == 0) put_counts(out, reading);
+    flush(out);
+    if (!accepted(reading)) tell_refusal(&standard_error, reading, request->count == 1);
+    tell_hints(&standard_error, reading->name, reading->text, &hints);
+  }
+  flush(out);
+  flush(&standard_error);
+  return status_of(request, reading, &hints);
+}
+
+static enum status check_file(const struct request *request, struct output *out, const char *file) {
+  struct reading reading;
+  if (!read_text(file, &reading)) {
+    if ((request->given & JSON) != 0) put_unread(out, shown_name(file));
+    return COULD_NOT_RUN;
+  }
+  enum status status = check_reading(request, out, &reading);
+  release_reading(&reading);
+  return status;
+}
+
+/* "3 files: 2 accepted, 1 refused" */
+static void put_tally(struct output *out, const struct request *request, const int tally[3]) {
+  const char *const words[] = {" accepted", (request->given & STRICT) != 0 ? " refused or with a hint" : " refused", " could not be read"};
+  put_count(out, (uint64_t)request->count, " file");
+  for (int status = 0; status < 3; status++) {
+    if (status == COULD_NOT_RUN && tally[status] == 0) continue;
+    put_text(out, status == 0 ? ": " : ", ");
+    put_number(out, tally[status]);
+    put_text(out, words[status]);
+  }
+  put_text(out, "\n");
+}
+
+static enum status check_files(const struct request *request) {
+  static struct output out;
+  int tally[3] = {0};
+  enum status worst = ACCEPTED;
+  if (!open_output(&out, NULL)) return COULD_NOT_RUN;
+  for (int i = 0; i < request->count; i++) {
+    enum status status = check_file(request, &out, request->files[i]);
+    tally[status]++;
+    if (status > worst) worst = status;
+  }
+  if (request->count > 1 && (request->given & (QUIET | JSON)) == 0) put_tally(&out, request, tally);
+  return close_output(&out) ? worst : COULD_NOT_RUN;
+}
+
+/* ---- the other tasks: one file, and what is written for it */
+
+static bool is_shown(const struct request *request, const struct reading *reading) {
+  return accepted(reading) || ((request->task->takes & REFUSALS) != 0 && (request->out == NULL || same(request->out, "-")));
+}
+
+static bool show(const struct request *request, const struct reading *reading) {
+  static struct output out;
+  if (!is_shown(request, reading)) return true;
+  if (!open_output(&out, request->out)) return false;
+  if (request->task->show(&out, reading)) return close_output(&out);
+  abandon_output(&out);
+  complain("not enough memory to show", reading->name, 0);
+  return false;
+}
+
+static enum status show_file(const struct request *request) {
+  static struct hints hints;
+  struct reading reading;
+  if (!read_text(request->files[0], &reading)) return COULD_NOT_RUN;
+  bool shown = show(request, &reading);
+  look_for_hints(&reading, &hints);
+  if (!accepted(&reading)) tell_refusal(&standard_error, &reading, true);
+  else if (shown) tell_hints(&standard_error, reading.name, reading.text, &hints);
+  flush(&standard_error);
+  enum status status = shown ? status_of(request, &reading, &hints) : COULD_NOT_RUN;
+  release_reading(&reading);
   return status;
 }
 
@@ -193,9 +276,10 @@ int main(int count, char **words) {
     return COULD_NOT_RUN;
   }
   for (int i = 1; i < count && !same(words[i], "--"); i++) {
-    if (same(words[i], "--help")) return (int)say(help);
-    if (same(words[i], "--version")) return (int)say(version);
+    if (same(words[i], "--help") || same(words[i], "-h")) return (int)say(help);
+    if (same(words[i], "--version") || same(words[i], "-V")) return (int)say(version);
   }
   struct request request = {0};
-  return (int)(take_words(&request, words + 1) ? run(&request) : COULD_NOT_RUN);
+  if (!take_words(&request, words + 1)) return COULD_NOT_RUN;
+  return (int)(request.task->show == NULL ? check_files(&request) : show_file(&request));
 }

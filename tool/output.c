@@ -75,8 +75,7 @@ void put_visible(struct output *out, unsigned char byte) {
   put(out, shown, columns);
 }
 
-/* How many bytes a character of UTF-8 takes, 1 for a byte that starts none. `code` is the character. */
-static size_t take_character(const char *from, uint32_t *code) {
+size_t take_character(const char *from, uint32_t *code) {
   static const struct {
     unsigned char mask, head;
     uint32_t least;

@@ -325,11 +325,7 @@ static void put_remedy(struct output *out, const struct sentence *sentence, stru
   else put_paragraph(out, sentence->remedy);
 }
 
-void tell_refusal(struct output *out, const char *name, struct bytes text, uint64_t number, uint64_t place) {
-  size_t at = place < text.count ? (size_t)place : text.count;
-  const struct sentence *sentence = sentence_for(number, text, at);
-  struct origin origin = number == 2 ? origin_of(sentence->key, text, at) : (struct origin){0};
-  put_head(out, name, text, at);
+static void put_refusal(struct output *out, const struct sentence *sentence, uint64_t number, uint64_t place) {
   put_marked(out, RED_MARK, "refused");
   put_text(out, " ");
   put_number(out, (int64_t)number);
@@ -338,6 +334,17 @@ void tell_refusal(struct output *out, const char *name, struct bytes text, uint6
   put_text(out, ": ");
   put_text(out, sentence == NULL ? "a number that this tool does not know." : sentence->wrong);
   put_text(out, "\n");
+}
+
+void tell_refusal(struct output *out, const struct reading *reading, bool whole) {
+  struct bytes text = reading->text;
+  uint64_t number = reading->answer[CIF_NUMBER], place = reading->answer[CIF_PLACE];
+  size_t at = place < text.count ? (size_t)place : text.count;
+  const struct sentence *sentence = sentence_for(number, text, at);
+  struct origin origin = number == 2 ? origin_of(sentence->key, text, at) : (struct origin){0};
+  put_head(out, reading->name, text, at);
+  put_refusal(out, sentence, number, place);
+  if (!whole) return;
   /* 1 and 18 are about the text as a whole: no line of it is to blame. */
   if (number != 1 && number != 18) put_excerpt(out, text, at);
   put_origin(out, &origin, text, at);

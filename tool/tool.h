@@ -17,6 +17,13 @@ struct bytes {
   size_t count;
 };
 
+/* What the archive answered to a text. `flat` is empty on a refusal. */
+struct reading {
+  const char *name; /* of the text, as it is shown */
+  struct bytes text, flat;
+  uint64_t answer[CIF_WORDS];
+};
+
 /* ---- output.c: bytes on their way out. The first failure is kept, and told when the output is closed. */
 
 struct output {
@@ -43,6 +50,8 @@ void put_count(struct output *out, uint64_t count, const char *what);
 /* A byte as it can be shown on any terminal, a tab as one space, and how many columns that takes. */
 void put_visible(struct output *out, unsigned char byte);
 size_t columns_of(unsigned char byte);
+/* How many bytes a character of UTF-8 takes, 1 for a byte that starts none. `code` is the character. */
+size_t take_character(const char *from, uint32_t *code);
 /* A file name, with all escaped that could change what a terminal shows around it. */
 void put_name(struct output *out, const char *name);
 /* In the colour of the mark, where colours are shown. */
@@ -122,7 +131,8 @@ struct sentence {
 
 /* The sentence for a refusal; NULL for a number that none has. */
 const struct sentence *sentence_for(uint64_t number, struct bytes text, size_t place);
-void tell_refusal(struct output *out, const char *name, struct bytes text, uint64_t number, uint64_t place);
+/* All of it, or its first line only. */
+void tell_refusal(struct output *out, const struct reading *reading, bool whole);
 /* "NAME:LINE:COLUMN: ", as editors and build logs understand it. */
 void put_head(struct output *out, const char *name, struct bytes text, size_t place);
 
@@ -193,12 +203,19 @@ struct run { /* neighbouring shapes on one layer */
   uint32_t shapes;
 };
 
+/* Lowest x and y, highest x and y, of all centres and path points: what the list calls a window. */
+struct window {
+  bool some;
+  int64_t number[4];
+};
+
 struct layer {
   uint32_t name;
   uint32_t start; /* where its first line stands */
   uint32_t colour;
   size_t first_run, runs;
   size_t shapes;
+  struct window window; /* by find_windows */
 };
 
 struct layers {
@@ -211,6 +228,20 @@ struct layers {
 /* False where there is no memory. What it answers is to be released. */
 bool find_layers(struct bytes flat, struct layers *layers);
 void release_layers(struct layers *layers);
+
+/* ---- listing.c: the list, by the archive. */
+
+/* The list of a text, accepted or refused. False where there is no memory. */
+bool put_list(struct output *out, const struct reading *reading);
+/* The window of each layer and of all of them. False where there is no memory. */
+bool find_windows(const struct reading *reading, struct layers *layers, struct window *whole);
+
+/* ---- json.c */
+
+/* False where there is no memory; then nothing is put. */
+bool put_json(struct output *out, const struct reading *reading, const struct hints *hints);
+/* For a file that cannot be read. */
+void put_unread(struct output *out, const char *name);
 
 /* ---- colours.c */
 

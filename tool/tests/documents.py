@@ -53,7 +53,7 @@ def test_hints():
 
 def test_sessions():
     """Each line `$ command` of these documents, and what it shows."""
-    for name in ("README.md", "docs/REFUSALS.md", "docs/HINTS.md"):
+    for name in ("README.md", "docs/REFUSALS.md", "docs/HINTS.md", "docs/JSON.md"):
         if not os.path.exists(os.path.join(TOP, name)):
             continue
         for command, shows in re.findall(r"^    \$ (.*)\n((?:    (?!\$ ).*\n)*)", document(name), re.M):

@@ -1,5 +1,6 @@
 """The words of the command line, and what is written for an accepted text."""
 import concurrent.futures
+import json
 import os
 import re
 
@@ -8,11 +9,12 @@ from refusals import expect_told
 
 
 def test_help():
-    for words in (["--help"], ["flat", "--help"]):
+    for words in (["--help"], ["flat", "--help"], ["-h"], ["check", "-h"]):
         done = cif(*words)
         expect(done.returncode == 0 and b"cif flat FILE" in done.stdout and not done.stderr, "help on standard output", words, done)
     done = cif()
     expect(done.returncode == 2 and not done.stdout and b"cif flat FILE" in done.stderr, "no words: the help on standard error", done)
+    expect(cif("-V").stdout == cif("--version").stdout, "-V is --version")
     done = cif("--version")
     expect(done.returncode == 0 and re.fullmatch(rb"cif \d+\.\d+: .*\n", done.stdout), "--version", done)
     first = content(os.path.join(TOP, "tool", "cif.1")).split(b"\n")[0]
@@ -22,7 +24,7 @@ def test_help():
 def test_bad_words():
     good = scratch("good.cif", EXAMPLE)
     for words in (["flatten", good], ["flat"], ["flat", good, good], ["flat", "-x", good], ["flat", good, "-o"], ["flat", good, "-o", "a", "-o", "b"],
-                  ["check", good, "-o", "a"], ["list", good, "-o", "a"], ["--nothing"], ["flat", "--output", "a", good]):
+                  ["check", good, "-o", "a"], ["--nothing"], ["flat", "--output", "a", good], ["flat", "-q", good], ["list", "--json", good], ["check"], ["check", "-q"]):
         done = cif(*words)
         expect(done.returncode == 2 and not done.stdout and b"cif --help" in done.stderr, "bad words end with 2", words, done)
 
@@ -42,6 +44,10 @@ def test_accepted():
     expect(cif("flat", "-", text=EXAMPLE).stdout == EXAMPLE_FLAT, "a text from standard input")
     done = cif("list", good)
     expect((done.returncode, done.stdout, done.stderr) == (0, EXAMPLE_LIST, b""), "document 01's list", done)
+    done = cif("list", good, "-o", out)
+    expect((done.returncode, done.stdout, done.stderr, content(out)) == (0, b"", b"", EXAMPLE_LIST), "list -o", done)
+    done = cif("list", "-", "-o", out, text=b"X")
+    expect((done.returncode, done.stdout, content(out)) == (1, b"", EXAMPLE_LIST), "list -o writes no file for a refusal", done)
     done = cif("list", "-", text=b"E")
     expect(done.stdout == b"total\t0\t0\t0\nwindow\tnone\n", "the list of a text without shapes", done)
     done = cif("check", good)
@@ -94,6 +100,48 @@ def test_strict():
             expect((plain.stdout, plain.stderr) == (strict.stdout, strict.stderr), "--strict changes nothing else", text, task)
             expect(re.fullmatch(rb"(standard input:\d+:\d+: hint: [ -~]+\.\n)+" if hinted else b"", plain.stderr), "hints are lines", plain.stderr)
     expect(cif("check", "--strict", "-", text=b"X").returncode == 1, "a refusal with --strict")
+
+
+def test_many_files():
+    """A line for each file, one that counts them, and the worst status."""
+    good, bad, odd, none = scratch("good.cif", EXAMPLE), scratch("bad.cif", b"LA;\nB 4 4 - 0;\nE"), scratch("odd.cif", b"LA;R1 0 0;94 x;E"), scratch("none.cif")
+    line = f"{good}: accepted: 1 shape, 1 call, 0 redefinitions; the flat file has 26 bytes\n"
+    for files, status, end in (([good, good], 0, "2 files: 2 accepted, 0 refused\n"), ([good, bad, good], 1, "3 files: 2 accepted, 1 refused\n"),
+                               ([none, good, bad], 2, "3 files: 1 accepted, 1 refused, 1 could not be read\n")):
+        done = cif("check", *files)
+        expect((done.returncode, done.stdout.decode()) == (status, line * files.count(good) + end), "check of several files", files, done)
+        told = done.stderr.decode().split("\n")[:-1]
+        expect(len(told) == len(files) - files.count(good), "a line for each that is not accepted", files, told)
+        expect(all(t.startswith((f"{bad}:2:8: refused 2 at byte 11: ", f"cif: cannot read {none}: ")) for t in told), "what each is told", told)
+        done = cif("check", "-q", *files)
+        expect((done.returncode, done.stdout, done.stderr.decode().split("\n")[:-1]) == (status, b"", told), "check -q", files, done)
+    expect(len(cif("check", "-q", bad).stderr.split(b"\n")) == 5, "one file is told of at length")
+    done = cif("check", "--strict", good, odd)
+    expect(done.returncode == 1 and done.stdout.endswith(b"2 files: 1 accepted, 1 refused or with a hint\n"), "check --strict of several files", done)
+    expect(cif("check", "-", good, text=b"E").stdout.startswith(b"standard input: accepted: 0 shapes"), "standard input among several files")
+
+
+def test_json():
+    """An object for each file: every field that docs/JSON.md names, and no other."""
+    texts = {"good": EXAMPLE, "bad": b"LA;\nB 4 4 - 0;\nE", "odd": b"LA;R4 0 0;LB;W2 5 -5 9 9;94 \x01;LA;B2 2 7 7;E", "empty": b"E"}
+    files = [scratch(name + ".cif", text) for name, text in texts.items()] + [scratch("n\"\\\t\udcff\u00e4.cif", EXAMPLE), scratch("none.cif")]
+    done = cif("check", "--json", *files)
+    found = [json.loads(line) for line in done.stdout.split(b"\n")[:-1]]
+    expect(done.returncode == 2 and [f["file"] for f in found] == files, "an object for each file, in their order, under its name", files, found)
+    good, bad, odd, empty, _, none = found
+    expect(none == {"file": files[-1], "status": "unread"}, "a file that cannot be read", none)
+    expect(good == {"file": files[0], "status": "accepted", "number": 0, "bytes": 26, "shapes": 1, "calls": 1, "redefinitions": 0, "window": [75, 0, 75, 0],
+                    "layers": [{"name": "CM", "shapes": 1, "window": [75, 0, 75, 0]}], "hints": []}, "an accepted text", good)
+    message = bad.pop("message", "")
+    expect(bad == {"file": files[1], "status": "refused", "number": 2, "place": 11, "line": 2, "column": 8} and "this box" in message, "a refused text", bad)
+    layers = [{"name": "A", "shapes": 2, "window": [0, 0, 7, 7]}, {"name": "B", "shapes": 1, "window": [5, -5, 9, 9]}]
+    hint = {"name": "extensions", "place": 25, "line": 1, "column": 26, "message": "1 user extension is skipped: 94 (1)."}
+    expect(odd["layers"] == layers and odd["hints"] == [hint] and odd["window"] == [0, -5, 9, 9], "layers and hints", odd)
+    expect(empty["window"] is None and empty["layers"] == [], "no shapes, no window", empty)
+    expect(cif("check", "--json", "--strict", files[2]).returncode == 1 and cif("check", "--json", files[2]).stderr == b"", "--json tells all in its object")
+    page = content(os.path.join(TOP, "docs", "JSON.md")).decode()
+    names = {name for o in found + odd["layers"] + odd["hints"] for name in o} | {"message"}
+    expect(names == set(re.findall(r"^\| `([a-z]+)` \|", page, re.M)), "docs/JSON.md has every field", names)
 
 
 def test_longest():

@@ -1,0 +1,84 @@
+/* The list of a text, and windows: asked of the proved archive, never worked out here. */
+#include <stdlib.h>
+#include <string.h>
+
+#include "tool.h"
+
+/* Asked for with no room first, to learn how long the list is. NULL where there is no memory; else to be freed. */
+static unsigned char *listing_of(struct bytes flat, const uint64_t answer[CIF_WORDS], size_t *length) {
+  unsigned char none;
+  *length = cif_list(flat.at, flat.count, answer, &none, 0);
+  unsigned char *lines = malloc(*length);
+  if (lines != NULL) (void)cif_list(flat.at, flat.count, answer, lines, *length);
+  return lines;
+}
+
+bool put_list(struct output *out, const struct reading *reading) {
+  size_t length;
+  unsigned char *lines = listing_of(reading->flat, reading->answer, &length);
+  if (lines == NULL) return false;
+  put(out, lines, length);
+  free(lines);
+  return true;
+}
+
+static int64_t take_number(const unsigned char **at, const unsigned char *end) {
+  bool negative = *at < end && **at == '-';
+  int64_t value = 0;
+  for (*at += negative; *at < end && is_digit(**at); ++*at) value = value * 10 + (**at - '0');
+  return negative ? -value : value;
+}
+
+/* The window stands in the list's last line: four numbers after tabs, or a word. */
+static struct window last_window(const unsigned char *lines, size_t length) {
+  const unsigned char *end = lines + length - 1, *at = end;
+  struct window window = {0};
+  while (at > lines && at[-1] != '\n') at--;
+  for (int i = 0; i < 4; i++) {
+    while (at < end && *at != '\t') at++;
+    at += at < end;
+    window.some = at < end && (*at == '-' || is_digit(*at));
+    window.number[i] = take_number(&at, end);
+  }
+  return window;
+}
+
+static bool ask_window(struct bytes flat, struct window *window) {
+  static const uint64_t nothing[CIF_WORDS];
+  size_t length;
+  unsigned char *lines = listing_of(flat, nothing, &length);
+  if (lines == NULL) return false;
+  *window = last_window(lines, length);
+  free(lines);
+  return true;
+}
+
+/* The lines of one layer, as a flat file of their own in the room. */
+static size_t gather_layer(const struct reading *reading, const struct layers *layers, const struct layer *layer, unsigned char *room) {
+  char name[5];
+  size_t used = 0;
+  spell_layer(layer->name, name);
+  room[used++] = 'L';
+  for (size_t i = 0; name[i] != 0; i++) room[used++] = (unsigned char)name[i];
+  room[used++] = ';';
+  room[used++] = '\n';
+  for (size_t i = 0; i < layer->runs; i++) {
+    const struct run *run = &layers->runs[layer->first_run + i];
+    memcpy(room + used, reading->flat.at + run->start, run->end - run->start);
+    used += run->end - run->start;
+  }
+  room[used++] = 'E';
+  room[used++] = '\n';
+  return used;
+}
+
+bool find_windows(const struct reading *reading, struct layers *layers, struct window *whole) {
+  unsigned char *room = malloc(reading->flat.count + 16);
+  bool found = room != NULL && ask_window(reading->flat, whole);
+  for (size_t i = 0; found && i < layers->count; i++) {
+    struct layer *layer = &layers->all[i];
+    found = ask_window((struct bytes){room, gather_layer(reading, layers, layer, room)}, &layer->window);
+  }
+  free(room);
+  return found;
+}
