@@ -15,11 +15,14 @@ static const char help[] =
     "  cif flat FILE [-o OUT]       write the flat file: layers and shapes, every call drawn\n"
     "  cif list FILE [-o OUT]       a line for each shape, the totals and the window\n"
     "  cif plot FILE [-o OUT.svg]   a picture of the shapes, layer by layer\n"
+    "  cif summary FILE [-o OUT]    shapes by layer and kind, windows, symbols, depth of calls\n"
+    "  cif compare A B              tell whether two texts draw the same shapes\n"
     "  cif -h, --help; cif -V, --version\n"
     "\n"
-    "  -q         with check: say nothing of texts that are accepted without a hint\n"
-    "  --json     with check: an object of JSON for each FILE, on a line of its own\n"
-    "  --strict   an accepted text that gets a hint ends with status 1 too\n"
+    "  -q           with check: say nothing of texts that are accepted without a hint\n"
+    "  --json       with check: an object of JSON for each FILE, on a line of its own\n"
+    "  --any-order  with compare: whatever the order of the shapes\n"
+    "  --strict     an accepted text that gets a hint ends with status 1 too\n"
     "\n"
     "FILE or OUT may be -, for standard input or output; without -o it is standard output.\n"
     "OUT appears whole or not at all. A refusal goes to standard error and writes no OUT.\n"
@@ -32,11 +35,11 @@ static const char version[] = "cif " VERSION ": the CIF 2.0 reader Wadhuulexi\n"
 /* ---- the tasks and the words of the command line */
 
 /* What goes with a task. */
-enum takes { OUT = 1, QUIET = 2, JSON = 4, STRICT = 8, MANY = 16, REFUSALS = 32 };
+enum takes { OUT = 1, QUIET = 2, JSON = 4, STRICT = 8, MANY = 16, REFUSALS = 32, TWO = 64, ANY_ORDER = 128 };
 
 struct task {
   const char *name;
-  /* What it writes for a text, NULL for check, which has its own way. False where there is not enough memory. */
+  /* What it writes for a text, NULL for check and compare, which have their own ways. False where there is not enough memory. */
   bool (*show)(struct output *out, const struct reading *reading);
   unsigned takes;
 };
@@ -53,6 +56,8 @@ static const struct task tasks[] = {
     {"flat", flat, OUT | STRICT},
     {"list", put_list, OUT | STRICT | REFUSALS},
     {"plot", plot, OUT | STRICT},
+    {"summary", put_summary, OUT | STRICT},
+    {"compare", NULL, TWO | ANY_ORDER},
 };
 
 struct request {
@@ -60,7 +65,7 @@ struct request {
   char **files; /* the words that are no options */
   int count;
   const char *out; /* NULL: not said */
-  unsigned given;  /* of QUIET, JSON, STRICT */
+  unsigned given;  /* of QUIET, JSON, STRICT, ANY_ORDER */
 };
 
 static bool same(const char *one, const char *other) { return strcmp(one, other) == 0; }
@@ -92,13 +97,25 @@ static bool take_option(struct request *request, char **words, int *at) {
   static const struct {
     const char *word;
     unsigned takes;
-  } options[] = {{"-q", QUIET}, {"--json", JSON}, {"--strict", STRICT}};
+  } options[] = {{"-q", QUIET}, {"--json", JSON}, {"--strict", STRICT}, {"--any-order", ANY_ORDER}};
   for (size_t i = 0; i < sizeof options / sizeof *options; i++) {
     if (!same(options[i].word, words[*at])) continue;
     request->given |= options[i].takes;
     return (request->task->takes & options[i].takes) != 0 || misread("this option does not go with it:", words[*at]);
   }
   return words[*at][1] == 'o' ? take_out(request, words, at) : misread("no such option:", words[*at]);
+}
+
+static bool take_file(struct request *request, char *word) {
+  int most = (request->task->takes & TWO) != 0 ? 2 : 1;
+  if ((request->task->takes & MANY) == 0 && request->count == most) return misread("one FILE too many:", word);
+  request->files[request->count++] = word;
+  return true;
+}
+
+static bool has_files(const struct request *request) {
+  if (request->count == 0) return misread("no FILE after", request->task->name);
+  return (request->task->takes & TWO) == 0 || request->count == 2 || misread("only one FILE after", request->task->name);
 }
 
 /* Files are gathered at the front of the words. */
@@ -109,11 +126,9 @@ static bool take_words(struct request *request, char **words) {
   for (int at = 1; words[at] != NULL; at++) {
     bool option = options && words[at][0] == '-' && words[at][1] != 0;
     if (option && same(words[at], "--")) options = false;
-    else if (option && !take_option(request, words, &at)) return false;
-    else if (!option && request->count == 1 && (request->task->takes & MANY) == 0) return misread("one FILE at a time, and this is a second one:", words[at]);
-    else if (!option) words[request->count++] = words[at];
+    else if (!(option ? take_option(request, words, &at) : take_file(request, words[at]))) return false;
   }
-  return request->count > 0 || misread("no FILE after", request->task->name);
+  return has_files(request);
 }
 
 /* ---- reading */
@@ -260,6 +275,36 @@ static enum status show_file(const struct request *request) {
   return status;
 }
 
+/* ---- compare */
+
+/* Both accepted, or it is told which is not. */
+static enum status read_both(const struct request *request, struct reading readings[2]) {
+  enum status status = ACCEPTED;
+  for (int i = 0; i < 2; i++) {
+    if (!read_text(request->files[i], &readings[i])) status = COULD_NOT_RUN;
+    else if (!accepted(&readings[i])) {
+      tell_refusal(&standard_error, &readings[i], true);
+      flush(&standard_error);
+      if (status == ACCEPTED) status = REFUSED;
+    }
+  }
+  return status;
+}
+
+static enum status compare_files(const struct request *request) {
+  static struct output out;
+  struct reading readings[2] = {0};
+  bool same_shapes = false;
+  enum status status = read_both(request, readings);
+  if (status == ACCEPTED && !open_output(&out, NULL)) status = COULD_NOT_RUN;
+  if (status == ACCEPTED) {
+    if (!put_comparison(&out, readings, (request->given & ANY_ORDER) != 0, &same_shapes)) status = complain("not enough memory to compare", readings[0].name, 0);
+    if (!close_output(&out)) status = COULD_NOT_RUN;
+  }
+  for (int i = 0; i < 2; i++) release_reading(&readings[i]);
+  return status == ACCEPTED && !same_shapes ? REFUSED : status;
+}
+
 static enum status say(const char *text) {
   static struct output out;
   if (!open_output(&out, NULL)) return COULD_NOT_RUN;
@@ -281,5 +326,6 @@ int main(int count, char **words) {
   }
   struct request request = {0};
   if (!take_words(&request, words + 1)) return COULD_NOT_RUN;
-  return (int)(request.task->show == NULL ? check_files(&request) : show_file(&request));
+  if (request.task->show != NULL) return (int)show_file(&request);
+  return (int)((request.task->takes & TWO) != 0 ? compare_files(&request) : check_files(&request));
 }

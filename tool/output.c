@@ -59,6 +59,18 @@ void put_number(struct output *out, int64_t number) {
   put(out, digits + first, sizeof digits - first);
 }
 
+void put_decimal(struct output *out, int64_t value, int decimals) {
+  char digits[20];
+  int64_t whole = value < 0 ? -value : value;
+  int count = 0;
+  for (int i = decimals; i > 0; whole /= 10) digits[--i] = (char)('0' + whole % 10);
+  for (int i = 0; i < decimals; i++) count = digits[i] == '0' ? count : i + 1;
+  if (value < 0) put_text(out, "-");
+  put_number(out, whole);
+  if (count > 0) put_text(out, ".");
+  put(out, digits, (size_t)count);
+}
+
 void put_count(struct output *out, uint64_t count, const char *what) {
   put_number(out, (int64_t)count);
   put_text(out, what);

@@ -25,20 +25,7 @@ struct frame {
 
 enum { SIDE = 800, EDGE = 24, ROW = 20, LEGEND = 150, LEGEND_ROWS = 38, LEAST_WIDTH = 420, FOOT = 56 };
 
-/* ---- numbers and words */
-
-/* A whole number with the decimal point moved, and no zeros at the end behind it. */
-static void put_decimal(struct output *out, int64_t value, int decimals) {
-  char digits[20];
-  int64_t whole = value < 0 ? -value : value;
-  int count = 0;
-  for (int i = decimals; i > 0; whole /= 10) digits[--i] = (char)('0' + whole % 10);
-  for (int i = 0; i < decimals; i++) count = digits[i] == '0' ? count : i + 1;
-  if (value < 0) put_text(out, "-");
-  put_number(out, whole);
-  if (count > 0) put_text(out, ".");
-  put(out, digits, (size_t)count);
-}
+/* ---- attributes */
 
 static void open_attribute(struct output *out, const char *name) {
   put_text(out, " ");

@@ -45,6 +45,8 @@ extern struct output standard_error;
 void put(struct output *out, const void *bytes, size_t count);
 void put_text(struct output *out, const char *text);
 void put_number(struct output *out, int64_t number);
+/* A whole number with the decimal point moved, and no zeros at its end. */
+void put_decimal(struct output *out, int64_t value, int decimals);
 /* "3 shapes": the thing with a space before it, and an s after it unless there is one. */
 void put_count(struct output *out, uint64_t count, const char *what);
 /* A byte as it can be shown on any terminal, a tab as one space, and how many columns that takes. */
@@ -235,6 +237,20 @@ void release_layers(struct layers *layers);
 bool put_list(struct output *out, const struct reading *reading);
 /* The window of each layer and of all of them. False where there is no memory. */
 bool find_windows(const struct reading *reading, struct layers *layers, struct window *whole);
+
+/* ---- calls.c, summary.c */
+
+enum { UNKNOWN_DEPTH = -1 };
+
+/* How deep the calls of an accepted text go. False where there is no memory. */
+bool find_depth(const struct reading *reading, int *depth);
+/* False where there is no memory; then nothing is put. */
+bool put_summary(struct output *out, const struct reading *reading);
+
+/* ---- compare.c */
+
+/* Tells whether two accepted texts draw the same, and the first differences. False where there is no memory; then nothing is put. */
+bool put_comparison(struct output *out, const struct reading readings[2], bool any_order, bool *same);
 
 /* ---- json.c */
 

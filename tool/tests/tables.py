@@ -1,0 +1,71 @@
+"""The summary of a text, and the comparison of two."""
+import re
+
+from common import EXAMPLE, cif, expect, scratch
+
+
+def summary(text):
+    done = cif("summary", "-", text=text)
+    expect(done.returncode == 0, "a summary", text[:80], done)
+    head, *rows = done.stdout.decode().split("\n")[:-1]
+    return head, rows
+
+
+def test_summary():
+    head, rows = summary(EXAMPLE)
+    expect(head == "standard input: 1 shape, 1 call (1 deep), 1 definition, 0 redefinitions, 0 user extensions skipped", "the first line", head)
+    head, rows = summary(b"9 x;LA;B4 4 0 0;B4 4 150 -25;W2 1 1;LB1;R4 -7 0;P0 0 9 9 0 9;P0 0 9 9 9 0;LA;W2 200 5 3 3;94 y;E")
+    expect(head.endswith(" 7 shapes, 0 calls, 0 definitions, 0 redefinitions, 2 user extensions skipped"), "what is counted", head)
+    want = [("A", 2, 0, 0, 2, "x 0 to 2, y -0.25 to 0.05"), ("B1", 0, 2, 1, 0, "x -0.07 to 0.09, y 0 to 0.09"), ("all", 2, 2, 1, 2, "x -0.07 to 2, y -0.25 to 0.09")]
+    got = [re.fullmatch(r"  (\w+) +(\d+) +(\d+) +(\d+) +(\d+)   (.*)", row).groups() for row in rows[1:]]
+    expect(got == [tuple(map(str, w)) for w in want], "a row for each layer: boxes, polygons, flashes, wires, window", rows)
+    expect(len({re.search(r"\d(?=   x)", row).start() for row in rows[1:]}) == 1, "columns stand under each other", rows)
+    expect(summary(b"(nothing);E")[1] == [], "no table where nothing is drawn")
+    done = cif("summary", "-", text=b"X")
+    expect(done.returncode == 1 and not done.stdout and b"refused 2" in done.stderr, "the summary of a refused text", done)
+    out = scratch("summary.out")
+    expect(cif("summary", scratch("good.cif", EXAMPLE), "-o", out).returncode == 0 and open(out).read().count("\n") == 4, "summary -o")
+
+
+def test_depth():
+    """The deepest call that is drawn, with definitions replaced, deleted, and never called."""
+    for text, depth in (
+        (b"DS1;DF;E", 0), (b"DS1;DF;C1;E", 1), (b"DS1;C2;DF;DS2;DF;C1;E", 2), (b"DS1;C2;DF;DS2;DF;C2;E", 1),
+        (b"DS1;C2;DF;DS2;C3;DF;DS3;DF;C1;DS2;DF;C1;E", 3), (b"DS1;C2;DF;DS2;DF;C1;DS2;C3;DF;DS3;C4;DF;DS4;DF;E", 2),
+        (b"DS1;C2;DF;DS2;DF;DS9;C1;DF;DD5;DS9;DF;C9;E", 1), (b"DS1;C2;DF;DS2;C1;DF;E", 0), (b"(C1;);DS 1;9 C1;DF;Call Symbol #1 T 5 5;E", 1),
+        (b"".join(b"DS%d;C%d;DF;" % (i, i + 1) for i in range(1, 32)) + b"DS32;DF;C1;E", 32),
+        (b"".join(b"DS%d;C%d;C%d;DF;" % (i, i + 1, i + 1) for i in range(1, 19)) + b"DS19;DF;C1;E", 19),
+    ):
+        head, _ = summary(text)
+        found = re.search(r" calls? \((?:up to )?(\d+) deep\)", head)
+        expect((int(found[1]) if found else 0) == depth, "how deep calls go", text[:80], depth, head)
+
+
+def test_compare():
+    shapes = [b"LA;B4 4 0 0;", b"LA;B4 4 0 0 1 0;", b"LB;R4 0 0;", b"LA;W2 0 0 9 9;", b"LC;P0 0 9 0 9 9;", b"LA;B4 4 0 0;"]
+    one = scratch("one.cif", b"".join(shapes) + b"E")
+
+    def compared(text, *words):
+        done = cif("compare", *words, one, "-", text=text)
+        expect(done.stderr == b"", "a comparison", done)
+        return done.returncode, done.stdout.decode().split("\n")[:-1]
+    same = [f"{one} and standard input draw the same 6 shapes, in the same order"]
+    expect(compared(b"".join(shapes) + b"E") == (0, same), "the same text")
+    expect(compared(b"DS1;" + b"".join(shapes).replace(b"LA;B4 4 0 0;", b"L A; Box 4 4 0 0 1 0;") + b"DF;C1;E") == (0, same), "the same drawing, written otherwise")
+    turned = b"".join(shapes[::-1]) + b"E"
+    expect(compared(turned, "--any-order") == (0, [same[0].replace("the same order", "any order")]), "the same shapes in another order")
+    status, told = compared(turned)
+    expect(status == 1 and told[0].endswith(" differ: 6 shapes and 6; 4 places differ"), "another order", told)
+    expect(told[1:3] == [f"  shape 2 of {one}: LA; B4 4 0 0 1 0;", "  shape 2 of standard input: LC; P0 0 9 0 9 9;"] and len(told) == 9, "what differs", told)
+    for words in ([], ["--any-order"]):
+        status, told = compared(b"".join(shapes[:5]) + b"E", *words)
+        expect(status == 1 and told[-1] == f"  shape 6 of {one}: LA; B4 4 0 0 1 0;" and len(told) == 2, "a shape less, of which there are three", words, told)
+        expect(compared(b"".join(shapes).replace(b"LB", b"LD") + b"E", *words)[0] == 1, "another layer")
+        status, told = compared(b"LA;" + b"R9 9 9;" * 1000 + b"E", *words)
+        expect(status == 1 and len(told) <= 11 and "of which the first are" in told[0], "only the first differences are shown", words, told)
+    for files in ((one, scratch("bad.cif", b"X")), (scratch("bad.cif", b"X"), one)):
+        done = cif("compare", *files)
+        expect(done.returncode == 1 and not done.stdout and b"bad.cif:1:1: refused 2" in done.stderr, "a refused text cannot be compared", done)
+    expect(cif("compare", one, scratch("none.cif")).returncode == 2, "a file that cannot be read")
+    for words in (["compare", one], ["compare", one, one, one], ["compare", "--strict", one, one], ["flat", "--any-order", one]):
+        expect(cif(*words).returncode == 2, "bad words for a comparison", words)
