@@ -19,6 +19,8 @@ static int read_up_to(int file, unsigned char *room, size_t most, size_t *count)
   return 0;
 }
 
+bool is_typed(const char *name) { return strcmp(name, "-") == 0 && isatty(0) == 1; }
+
 bool read_file(const char *name, size_t most, unsigned char **text, size_t *count) {
   bool standard = strcmp(name, "-") == 0;
   int file = standard ? 0 : open(name, O_RDONLY | O_NOCTTY | O_CLOEXEC);

@@ -31,6 +31,7 @@ extern int *__errno_location(void);
 #define EEXIST 17
 #define EISDIR 21
 #define EINVAL 22
+#define EPIPE 32
 
 /* fcntl.h, unistd.h */
 typedef long ssize_t;
@@ -48,6 +49,8 @@ extern int fcntl(int file, int command, ...);
 extern int isatty(int file);
 extern int access(const char *path, int mode);
 extern int close(int file);
+extern int dup(int file);
+extern unsigned alarm(unsigned seconds);
 extern int fsync(int file);
 extern int unlink(const char *path);
 extern pid_t getpid(void);
@@ -77,7 +80,9 @@ extern int ioctl(int file, unsigned long request, ...);
 /* signal.h */
 #define SIGHUP 1
 #define SIGINT 2
+#define SIGQUIT 3
 #define SIGPIPE 13
+#define SIGALRM 14
 #define SIGTERM 15
 #define SIGSTOP 19
 #define SIGXFSZ 25
@@ -93,6 +98,7 @@ extern int sigaddset(sigset_t *set, int number);
 extern int sigprocmask(int how, const sigset_t *set, sigset_t *old);
 extern void (*signal(int number, void (*handler)(int)))(int);
 extern int raise(int number);
+typedef int sig_atomic_t;
 
 /* stdlib.h, string.h */
 extern void *malloc(size_t count);
@@ -101,7 +107,10 @@ extern char *getenv(const char *name);
 extern char *realpath(const char *path, char *room);
 extern void qsort(void *first, size_t count, size_t size, int (*order)(const void *, const void *));
 extern void *memcpy(void *to, const void *from, size_t count);
+extern int memcmp(const void *one, const void *other, size_t count);
 extern int strcmp(const char *one, const char *other);
+extern int strncmp(const char *one, const char *other, size_t count);
+extern char *strchr(const char *text, int byte);
 extern char *strerror(int number);
 extern char *strrchr(const char *text, int byte);
 extern size_t strlen(const char *text);

@@ -135,34 +135,36 @@ static bool take_words(struct request *request, char **words) {
 
 static const char *shown_name(const char *file) { return same(file, "-") ? "standard input" : file; }
 
-/* False and a complaint where the file cannot be read or memory is short. Else to be released. */
-static bool read_text(const char *file, struct reading *reading) {
-  unsigned char *text, *room;
-  size_t count;
-  *reading = (struct reading){.name = shown_name(file)};
-  /* One byte more than the reader takes, so that it sees that a text is too long. */
-  if (!read_file(file, CIF_MOST_BYTES + 1, &text, &count)) return false;
-  room = malloc(CIF_MOST_BYTES);
-  if (room == NULL) {
-    free(text);
-    complain("not enough memory to read", reading->name, 0);
-    return false;
-  }
-  cif_flatten(text, count, room, CIF_MOST_BYTES, reading->answer);
-  reading->text = (struct bytes){text, count};
-  reading->flat = (struct bytes){room, (size_t)reading->answer[CIF_LENGTH]};
-  if (reading->answer[CIF_NUMBER] == 0 && !is_flat(reading->flat)) {
-    complain("this should not happen: the reader wrote something else than a flat file for", reading->name, 0);
-    free(text);
-    free(room);
-    return false;
-  }
-  return true;
-}
-
 static void release_reading(struct reading *reading) {
   free((void *)reading->text.at);
   free((void *)reading->flat.at);
+  reading->text = reading->flat = (struct bytes){0};
+}
+
+/* Reads the file and has it answered, into memory of its own. */
+static bool flatten_file(const char *file, struct reading *reading) {
+  unsigned char *text, *room;
+  size_t count;
+  /* One byte more than the reader takes, so that it sees that a text is too long. */
+  if (!read_file(file, CIF_MOST_BYTES + 1, &text, &count)) return false;
+  reading->text = (struct bytes){text, count};
+  room = malloc(CIF_MOST_BYTES);
+  if (room == NULL) return complain("not enough memory to read", reading->name, 0) == ACCEPTED;
+  cif_flatten(text, count, room, CIF_MOST_BYTES, reading->answer);
+  reading->flat = (struct bytes){room, (size_t)reading->answer[CIF_LENGTH]};
+  if (reading->answer[CIF_NUMBER] == 0 && !is_flat(reading->flat))
+    return complain("this should not happen: the reader wrote something else than a flat file for", reading->name, 0) == ACCEPTED;
+  return true;
+}
+
+/* False and a complaint where the file cannot be read or memory is short. Else to be released. */
+static bool read_text(const char *file, struct reading *reading) {
+  *reading = (struct reading){.name = shown_name(file)};
+  if (!is_typed(file)) start_progress(reading->name);
+  bool read = flatten_file(file, reading);
+  end_progress();
+  if (!read) release_reading(reading);
+  return read;
 }
 
 static bool accepted(const struct reading *reading) { return reading->answer[CIF_NUMBER] == 0; }

@@ -16,7 +16,7 @@ struct output standard_error = {.file = 2, .name = "standard error"};
 
 /* The temporary file to remove when one of these signals ends the tool. */
 static const char *volatile pending;
-static const int ending[] = {SIGHUP, SIGINT, SIGTERM};
+static const int ending[] = {SIGHUP, SIGINT, SIGQUIT, SIGTERM};
 enum { ENDING = sizeof ending / sizeof *ending };
 
 /* ---- bytes */
@@ -205,12 +205,12 @@ static char *name_beside(const char *path, int attempt) {
 }
 
 /* Makes a file and notes that it is to be removed, and lets no signal come between. */
-static int create_pending(const char *name) {
+static int create_pending(const char *name, mode_t mode) {
   sigset_t caught, before;
   (void)sigemptyset(&caught);
   for (int i = 0; i < ENDING; i++) (void)sigaddset(&caught, ending[i]);
   (void)sigprocmask(SIG_BLOCK, &caught, &before);
-  int file = open(name, O_WRONLY | O_CREAT | O_EXCL | O_NOCTTY | O_CLOEXEC, 0666);
+  int file = open(name, O_WRONLY | O_CREAT | O_EXCL | O_NOCTTY | O_CLOEXEC, mode);
   int error = errno;
   if (file >= 0) pending = name;
   (void)sigprocmask(SIG_SETMASK, &before, NULL);
@@ -219,11 +219,11 @@ static int create_pending(const char *name) {
 }
 
 /* Makes the temporary file; a name that is taken, by an earlier run that was killed, is passed over. */
-static bool make_temporary(struct output *out) {
+static bool make_temporary(struct output *out, mode_t mode) {
   for (int attempt = 0; attempt < 1000; attempt++) {
     char *name = name_beside(out->path, attempt);
     if (name == NULL) break;
-    out->file = create_pending(name);
+    out->file = create_pending(name, mode);
     if (out->file >= 0) {
       out->temporary = name;
       return true;
@@ -236,18 +236,39 @@ static bool make_temporary(struct output *out) {
   return false;
 }
 
-/* A file that is there keeps its permissions, and a link to it stays a link. */
+/* A file that is there keeps its permissions, which the temporary file has from the start, and a link to it stays a link. */
 static bool replace_file(struct output *out, const char *name, const struct stat *old) {
   out->path = old == NULL ? copy_text(name) : realpath(name, NULL);
   if (out->path == NULL) return false;
   if (old != NULL && access(out->path, W_OK) != 0) return false;
-  if (!make_temporary(out)) return false;
+  if (!make_temporary(out, old == NULL ? 0666 : old->st_mode & 0777)) return false;
   if (old != NULL) (void)fchmod(out->file, old->st_mode & 0777);
   return true;
 }
 
+/* The open file that a name such as /dev/stdout or /dev/fd/3 stands for, or DROPPED. */
+static int open_already(const char *name) {
+  static const char *const folders[] = {"/dev/fd/", "/proc/self/fd/"};
+  if (strcmp(name, "/dev/stdout") == 0) return 1;
+  if (strcmp(name, "/dev/stderr") == 0) return 2;
+  for (int i = 0; i < 2; i++) {
+    size_t count = strlen(folders[i]);
+    int file = 0;
+    if (strncmp(name, folders[i], count) != 0 || name[count] == 0) continue;
+    for (name += count; *name >= '0' && *name <= '9' && file < 100000; name++) file = file * 10 + (*name - '0');
+    return *name == 0 ? file : DROPPED;
+  }
+  return DROPPED;
+}
+
 static bool open_file(struct output *out, const char *name) {
   struct stat old;
+  int already = open_already(name);
+  if (already != DROPPED) {
+    /* Written to as it is: the file that it leads to must not be replaced. */
+    out->file = dup(already);
+    return out->file >= 0;
+  }
   if (stat(name, &old) != 0) return errno == ENOENT && *name != 0 && replace_file(out, name, NULL);
   if (S_ISREG(old.st_mode)) return replace_file(out, name, &old);
   if (S_ISDIR(old.st_mode)) {
@@ -304,9 +325,47 @@ bool close_output(struct output *out) {
     forget_names(out);
     return true;
   }
+  /* A pipe that nobody reads any more wants no more, and no message. */
+  bool unwanted = out->error == EPIPE && out->temporary == NULL;
   abandon_output(out);
-  complain("cannot write", out->name, out->error);
+  if (!unwanted) complain("cannot write", out->name, out->error);
   return false;
+}
+
+/* ---- progress */
+
+enum { PATIENCE = 2 }; /* seconds */
+
+static struct output progress = {.file = DROPPED};
+static volatile sig_atomic_t progress_shown;
+
+static void show_progress(int number) {
+  int error = errno;
+  const void *shown = progress_shown ? "." : (const void *)progress.waiting;
+  if (write(2, shown, progress_shown ? 1 : progress.used) < 0) progress_shown = 1;
+  progress_shown = 1;
+  (void)signal(number, show_progress);
+  (void)alarm(PATIENCE);
+  errno = error;
+}
+
+void start_progress(const char *name) {
+  if (standard_error.columns == 0) return;
+  progress.used = 0;
+  progress_shown = 0;
+  put_text(&progress, "cif: reading ");
+  put_name(&progress, name);
+  put_text(&progress, " ");
+  (void)signal(SIGALRM, show_progress);
+  (void)alarm(PATIENCE);
+}
+
+void end_progress(void) {
+  if (standard_error.columns == 0) return;
+  (void)alarm(0);
+  if (progress_shown) put_text(&standard_error, "\n");
+  flush(&standard_error);
+  progress_shown = 0;
 }
 
 /* ---- guards */

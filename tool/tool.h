@@ -73,6 +73,10 @@ bool close_output(struct output *out);
 /* For an output that is not wanted after all: nothing of a file appears. */
 void abandon_output(struct output *out);
 
+/* Between the two, a terminal is told after some seconds what is being read. */
+void start_progress(const char *name);
+void end_progress(void);
+
 /* Standard files that are closed are filled, so that no file of ours takes their place; a temporary file is removed when a signal ends the tool. */
 void guard_files(void);
 
@@ -81,6 +85,8 @@ enum status complain(const char *what, const char *name, int error);
 
 /* ---- input.c */
 
+/* Whether the file is standard input, and somebody sits at it and types. */
+bool is_typed(const char *name);
 /* The whole file, or standard input for "-": at most MOST bytes are kept. `text` is to be freed. Complains and answers false if it cannot be read. */
 bool read_file(const char *name, size_t most, unsigned char **text, size_t *count);
 

@@ -1,6 +1,7 @@
 """What cannot be read or written, and the file that appears whole or not at all."""
 import os
 import platform
+import pty
 import resource
 import signal
 import stat
@@ -80,7 +81,8 @@ def test_standard_output():
         expect(done.returncode == 2 and b"cannot write standard output: Bad file" in done.stderr, "a closed standard output", words, done)
     reading, writing = os.pipe()
     os.close(reading)
-    expect_trouble(cif("flat", good, stdout=writing), b"standard output", b"Broken pipe")
+    done = cif("flat", good, stdout=writing)
+    expect((done.returncode, done.stderr) == (2, b""), "a pipe that nobody reads gets no message", done)
     os.close(writing)
 
 
@@ -119,6 +121,37 @@ def test_output_file():
     expect(cif("flat", both, "-o", both).returncode == 0 and content(both) == EXAMPLE_FLAT, "FILE as OUT")
 
 
+def test_open_files():
+    """OUT that stands for an open file is written to where it is, and what it leads to is not replaced."""
+    good, log = scratch("good.cif", EXAMPLE), scratch("log", b"")
+    for words, more in ((["-o", "/dev/stdout"], {}), (["-o", "/dev/fd/1"], {}), (["-o", "/proc/self/fd/1"], {}), (["-o", "/dev/stderr"], {"stderr": "stdout"})):
+        with open(log, "wb") as out:
+            out.write(b"before\n")
+            out.flush()
+            before = os.fstat(out.fileno()).st_ino
+            done = cif("flat", good, *words, stdout=out, stderr=out if more else subprocess.PIPE)
+            out.seek(0, os.SEEK_END)
+            out.write(b"after\n")
+        expect(done.returncode == 0 and content(log) == b"before\n" + EXAMPLE_FLAT + b"after\n" and os.stat(log).st_ino == before, "an open file as OUT", words, done, content(log))
+    expect_trouble(cif("flat", good, "-o", "/dev/fd/77"), b"cannot write /dev/fd/77", b"Bad file descriptor")
+
+
+def test_progress():
+    """A terminal is told what is being read. The file is a pipe that gives nothing until the terminal has been told."""
+    pipe = scratch("slow.cif")
+    os.mkfifo(pipe)
+    reading, writing = pty.openpty()
+    done = subprocess.Popen([Run.cif, "check", pipe], stdout=subprocess.DEVNULL, stderr=writing)
+    os.close(writing)
+    with open(pipe, "wb") as text:
+        told = b""
+        while b".." not in told:
+            told += os.read(reading, 4096)
+        text.write(EXAMPLE)
+    expect(done.wait() == 0 and told.startswith(b"cif: reading " + pipe.encode() + b" .."), "progress on a terminal", told)
+    os.close(reading)
+
+
 def test_special_files():
     good, pipe = scratch("good.cif", EXAMPLE), scratch("pipe")
     expect(cif("flat", good, "-o", "/dev/null").returncode == 0 and stat.S_ISCHR(os.stat("/dev/null").st_mode), "a device stays a device")
@@ -129,12 +162,30 @@ def test_special_files():
     os.close(reading)
 
 
+def no_core():
+    resource.setrlimit(resource.RLIMIT_CORE, (0, 0))
+
+
+def test_mode_from_the_start():
+    """Nobody may read the temporary file who may not read what it replaces."""
+    folder = tempfile.mkdtemp(dir=Run.folder)
+    good, out = scratch("good.cif", EXAMPLE), os.path.join(folder, "a.svg")
+    for wanted in (0o600, 0o640, 0o666):
+        with open(out, "wb"):
+            os.chmod(out, wanted)
+        done = subprocess.Popen([Run.held, "flat", good, "-o", out])
+        _, status = os.waitpid(done.pid, os.WUNTRACED)
+        expect(os.WIFSTOPPED(status) and [mode(os.path.join(folder, name)) for name in leftovers(folder)] == [wanted], "the mode of the temporary file", status)
+        done.send_signal(signal.SIGCONT)
+        expect(done.wait() == 0 and content(out) == EXAMPLE_FLAT and mode(out) == wanted, "the mode stays", oct(mode(out)))
+
+
 def test_interrupted():
     """A build that stops before its file is whole gets the signal then, and goes on: no moment has to be met."""
     folder = tempfile.mkdtemp(dir=Run.folder)
     good, out = scratch("good.cif", EXAMPLE), os.path.join(folder, "a.svg")
-    for number in (signal.SIGTERM, signal.SIGINT, signal.SIGHUP):
-        done = subprocess.Popen([Run.held, "plot", good, "-o", out], stderr=subprocess.DEVNULL)
+    for number in (signal.SIGTERM, signal.SIGINT, signal.SIGHUP, signal.SIGQUIT):
+        done = subprocess.Popen([Run.held, "plot", good, "-o", out], stderr=subprocess.DEVNULL, preexec_fn=no_core)
         _, status = os.waitpid(done.pid, os.WUNTRACED)
         seen = leftovers(folder)
         if not expect(os.WIFSTOPPED(status) and seen and not os.path.exists(out), "the tool stops while it writes", status, seen):
