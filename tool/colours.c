@@ -1,5 +1,7 @@
-/* The colours of layers: the usual ones for the names that are usual, and for any other name one that follows from its letters, so that a layer looks the
-   same in every picture. Two layers of one picture get different colours as long as there are any left. */
+/* How layers look: the usual colours and the usual stacking order for the names that are usual, and for any other name a colour that follows from its letters
+   and is left, so that a layer looks much the same in every picture and none takes metal's blue. */
+#include <stdlib.h>
+
 #include "tool.h"
 
 enum { GREEN, RED, BLACK, BLUE, YELLOW, BROWN, GREY, PURPLE, TEAL, ORANGE, PINK, OLIVE, SKY, LIME, VIOLET, SAND, NAVY, MINT, ROSE, MAROON, COLOURS };
@@ -10,15 +12,19 @@ static const uint32_t shades[COLOURS] = {
     [VIOLET] = 0x6a5acd, [SAND] = 0xcfa97a, [NAVY] = 0x1c2f7a, [MINT] = 0x55cda0, [ROSE] = 0xc2476a, [MAROON] = 0x701c2c,
 };
 
-/* The primer's nMOS layers in the colours of that school, and the scalable CMOS layers by their counterparts. */
+/* The primer's nMOS layers in the colours of that school, and the scalable CMOS layers by their counterparts; from the lowest to the highest, with cuts over
+   what they open, so that they can be seen. Wells and implants are outlined. */
 static const struct {
   char name[5];
-  int shade;
+  unsigned char shade;
+  bool outlined;
 } usual[] = {
-    {"ND", GREEN}, {"NP", RED},  {"NC", BLACK},  {"NM", BLUE},   {"NI", YELLOW}, {"NB", BROWN},  {"NG", GREY},   {"CAA", GREEN}, {"CPG", RED},  {"CMF", BLUE},
-    {"CMS", PURPLE}, {"CMT", TEAL}, {"CCC", BLACK}, {"CCA", BLACK}, {"CCP", BLACK}, {"CVA", MAROON}, {"CVS", NAVY}, {"CWN", SAND}, {"CWP", MINT}, {"CSN", LIME},
-    {"CSP", ORANGE}, {"CEL", YELLOW}, {"COG", GREY},
+    {"CWN", SAND, true},    {"CWP", MINT, true},    {"NI", YELLOW, true},   {"CSN", LIME, true},    {"CSP", ORANGE, true},  {"ND", GREEN, false},
+    {"CAA", GREEN, false},  {"NB", BROWN, false},   {"NP", RED, false},     {"CPG", RED, false},    {"CEL", YELLOW, false}, {"NM", BLUE, false},
+    {"CMF", BLUE, false},   {"NC", BLACK, false},   {"CCC", BLACK, false},  {"CCA", BLACK, false},  {"CCP", BLACK, false},  {"CMS", PURPLE, false},
+    {"CVA", MAROON, false}, {"CMT", TEAL, false},   {"CVS", NAVY, false},   {"NG", GREY, false},    {"COG", GREY, false},
 };
+enum { USUAL = sizeof usual / sizeof *usual };
 
 static bool has_name(uint32_t layer, const char *name) {
   uint32_t packed = 0;
@@ -26,19 +32,34 @@ static bool has_name(uint32_t layer, const char *name) {
   return packed == layer;
 }
 
-static int shade_of(uint32_t layer) {
-  for (size_t i = 0; i < sizeof usual / sizeof *usual; i++) {
-    if (has_name(layer, usual[i].name)) return usual[i].shade;
-  }
-  return (int)((layer ^ layer >> 13) * 2654435761u >> 8 & 0xffffff) % COLOURS;
+/* Which of the usual layers, or USUAL for none of them. */
+static int usual_layer(uint32_t layer) {
+  int i = 0;
+  while (i < USUAL && !has_name(layer, usual[i].name)) i++;
+  return i;
+}
+
+static int by_height(const void *one, const void *other) {
+  const struct layer *a = one, *b = other;
+  if (a->height != b->height) return a->height - b->height;
+  return (a->start > b->start) - (a->start < b->start);
 }
 
 void colour_layers(struct layer *layers, size_t count) {
   bool taken[COLOURS] = {false};
   for (size_t i = 0; i < count; i++) {
-    int shade = shade_of(layers[i].name);
+    layers[i].height = usual_layer(layers[i].name);
+    if (layers[i].height == USUAL) continue;
+    layers[i].outlined = usual[layers[i].height].outlined;
+    layers[i].colour = shades[usual[layers[i].height].shade];
+    taken[usual[layers[i].height].shade] = true;
+  }
+  for (size_t i = 0; i < count; i++) {
+    if (layers[i].height < USUAL) continue;
+    int shade = (int)((layers[i].name ^ layers[i].name >> 13) * 2654435761u >> 8 & 0xffffff) % COLOURS;
     for (int tried = 1; taken[shade] && tried < COLOURS; tried++) shade = (shade + 1) % COLOURS;
     taken[shade] = true;
     layers[i].colour = shades[shade];
   }
+  qsort(layers, count, sizeof *layers, by_height);
 }

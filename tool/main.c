@@ -49,13 +49,11 @@ static bool flat(struct output *out, const struct reading *reading) {
   return true;
 }
 
-static bool plot(struct output *out, const struct reading *reading) { return put_plot(out, reading->flat); }
-
 static const struct task tasks[] = {
     {"check", NULL, QUIET | JSON | STRICT | MANY},
     {"flat", flat, OUT | STRICT},
     {"list", put_list, OUT | STRICT | REFUSALS},
-    {"plot", plot, OUT | STRICT},
+    {"plot", put_plot, OUT | STRICT},
     {"summary", put_summary, OUT | STRICT},
     {"compare", NULL, TWO | ANY_ORDER},
 };

@@ -1,6 +1,8 @@
-/* A picture of a flat file, as SVG: a group for each layer, a legend, and a bar for the scale. Inside the frame places are counted from its upper left
+/* A picture of a flat file, as SVG: a group for each layer with few paths in it, a legend, and a bar for the scale. Inside the frame places are counted from its upper left
    corner and downward, as SVG wants it, in CIF's unit with the decimal point moved so that the frame is some thousands long: nothing is rounded away where
    a small picture lies far from zero, and viewers that hold numbers to some range draw the largest. */
+#include <string.h>
+
 #include "tool.h"
 
 /* Distances in the plane: ten-thousandths of CIF's unit. Halves of lengths are exact in it. */
@@ -23,7 +25,7 @@ struct frame {
   int decimals; /* where the decimal point stands in numbers of the frame */
 };
 
-enum { SIDE = 800, EDGE = 24, ROW = 20, LEGEND = 150, LEGEND_ROWS = 38, LEAST_WIDTH = 420, FOOT = 56 };
+enum { SIDE = 800, EDGE = 24, ROW = 20, LEGEND = 150, LEGEND_ROWS = 38, LEAST_WIDTH = 420, HEAD = 44, FOOT = 56 };
 
 /* ---- attributes */
 
@@ -113,12 +115,19 @@ static fine larger(fine one, fine other) { return one > other ? one : other; }
 
 static fine longer_side(const struct reach *reach) { return larger(reach->high.x - reach->low.x, reach->high.y - reach->low.y); }
 
+/* The two leading digits: numbers that are counted from a round margin are short. */
+static fine rounded_off(fine value) {
+  fine power = 1;
+  while (value / power >= 100) power *= 10;
+  return value / power * power;
+}
+
 static struct frame frame_of(struct bytes flat) {
   static struct shape shape;
   struct frame frame = {.drawn = nothing};
   struct walk walk = walk_over(flat);
   while (next_shape(&walk, &shape)) extend_by_shape(&frame.drawn, &shape);
-  fine margin = larger(longer_side(&frame.drawn) / 25, FINE);
+  fine margin = larger(rounded_off(longer_side(&frame.drawn) / 25), FINE);
   frame.left = frame.drawn.low.x - margin;
   frame.top = frame.drawn.high.y + margin;
   frame.width = frame.drawn.high.x - frame.left + margin;
@@ -131,7 +140,7 @@ static struct frame frame_of(struct bytes flat) {
   return frame;
 }
 
-/* Twice the area inside a polygon that does not cross itself. */
+/* Twice the area inside a polygon that does not cross itself; negative where it goes round clockwise. */
 static int64_t twice_area(const struct shape *polygon) {
   int64_t sum = 0;
   const int32_t *number = polygon->numbers;
@@ -139,7 +148,7 @@ static int64_t twice_area(const struct shape *polygon) {
     size_t next = (i + 2) % polygon->count;
     sum += (int64_t)number[i] * number[next + 1] - (int64_t)number[next] * number[i + 1];
   }
-  return sum < 0 ? -sum : sum;
+  return sum;
 }
 
 /* How thick a shape is, about: its smaller size, and for a polygon the width of a box as long and as large. */
@@ -149,65 +158,19 @@ static double thickness(const struct shape *shape) {
   struct reach reach = nothing;
   extend_by_shape(&reach, shape);
   fine length = longer_side(&reach);
-  return length == 0 ? 0 : (double)twice_area(shape) * FINE / 2 * FINE / (double)length;
+  double area = (double)twice_area(shape);
+  return length == 0 ? 0 : (area < 0 ? -area : area) * FINE / 2 * FINE / (double)length;
 }
 
-/* ---- shapes */
+/* ---- shapes, as parts of paths
 
-/* What is thinner than a pixel gets a line of that width around it, or along it, so that it can be seen. The width is given in the frame's unit for viewers
-   that know no lines of fixed width; the others take it from the style of the picture, and it does not grow with the picture. */
-static bool is_thin(const struct frame *frame, const struct shape *shape) { return thickness(shape) < (double)frame->pixel; }
+   A layer is drawn by few paths, since a browser is slow with many elements and shows pale gaps between shapes that touch where each is an element of its own.
+   All that is filled goes round the same way, so that nothing is cancelled where shapes overlap. */
 
-static void put_line(struct output *out, const struct frame *frame) {
-  put_text(out, " class=\"line\"");
-  put_attribute(out, frame, "stroke-width", frame->pixel);
-}
+enum part { SOLID, THIN, DOTS, CROSSED, WIRES, THIN_WIRES, PARTS };
 
-static void put_spot(struct output *out, const struct frame *frame, struct spot spot) {
-  put_decimal(out, spot.x - frame->left, frame->decimals);
-  put_text(out, ",");
-  put_decimal(out, frame->top - spot.y, frame->decimals);
-}
-
-static void put_points(struct output *out, const struct frame *frame, const struct shape *shape) {
-  struct spot corners[4];
-  bool box = shape->kind == 'B';
-  if (box) find_corners(shape, corners);
-  put_text(out, " points=\"");
-  for (size_t i = 0; i < (box ? 4 : point_count(shape)); i++) {
-    if (i > 0) put_text(out, " ");
-    put_spot(out, frame, box ? corners[i] : point_of(shape, i));
-  }
-  put_text(out, "\"/>\n");
-}
-
-/* A flash, or a shape whose points are one: a wire is round there, and a polygon is a dot that only marks its place. */
-static void put_circle(struct output *out, const struct frame *frame, const struct shape *shape) {
-  struct spot centre = point_of(shape, 0);
-  fine radius = shape->kind == 'P' ? 2 * frame->pixel : (fine)shape->numbers[0] * (FINE / 2);
-  put_text(out, "<circle");
-  put_attribute(out, frame, "cx", centre.x - frame->left);
-  put_attribute(out, frame, "cy", frame->top - centre.y);
-  put_attribute(out, frame, "r", radius);
-  if (is_thin(frame, shape)) put_line(out, frame);
-  put_text(out, "/>\n");
-}
-
-static void put_polygon(struct output *out, const struct frame *frame, const struct shape *shape) {
-  put_text(out, "<polygon");
-  if (is_thin(frame, shape)) put_line(out, frame);
-  put_points(out, frame, shape);
-}
-
-static void put_wire(struct output *out, const struct frame *frame, const struct shape *wire) {
-  put_text(out, "<polyline fill=\"none\"");
-  put_attribute(out, frame, "stroke-width", (fine)wire->numbers[0] * FINE);
-  put_points(out, frame, wire);
-  if (!is_thin(frame, wire)) return;
-  put_text(out, "<polyline fill=\"none\"");
-  put_line(out, frame);
-  put_points(out, frame, wire);
-}
+/* What is thinner than a pixel gets a line of that width around it, or along it, so that it can be seen, and a dot a wider one. */
+enum { DOT = 3 };
 
 static bool has_one_point(const struct shape *shape) {
   for (size_t i = first_point(shape) + 2; i < shape->count; i++) {
@@ -216,16 +179,220 @@ static bool has_one_point(const struct shape *shape) {
   return true;
 }
 
-static void put_shape(struct output *out, const struct frame *frame, const struct shape *shape) {
-  if (shape->kind != 'B' && has_one_point(shape)) put_circle(out, frame, shape);
-  else if (shape->kind == 'W') put_wire(out, frame, shape);
-  else put_polygon(out, frame, shape);
+static int side_of(struct spot from, struct spot to, struct spot spot) {
+  double turn = (double)(to.x - from.x) * (double)(spot.y - from.y) - (double)(to.y - from.y) * (double)(spot.x - from.x);
+  return (turn > 0) - (turn < 0);
 }
 
-static void put_run(struct output *out, const struct frame *frame, struct bytes flat, const struct run *run) {
+/* Whether two edges may meet: so also where they touch, and where one goes on along the other. */
+static bool may_meet(struct spot a, struct spot b, struct spot c, struct spot d) {
+  return side_of(a, b, c) * side_of(a, b, d) <= 0 && side_of(c, d, a) * side_of(c, d, b) <= 0;
+}
+
+/* Whether a polygon surely does not touch itself. One with many corners is not looked at: it gets a path of its own, as one that does. */
+static bool is_simple(const struct shape *polygon) {
+  enum { MANY_CORNERS = 64 };
+  size_t count = point_count(polygon);
+  if (count > MANY_CORNERS) return false;
+  for (size_t i = 0; i < count; i++) {
+    struct spot a = point_of(polygon, i), b = point_of(polygon, (i + 1) % count);
+    if (side_of(a, b, point_of(polygon, (i + 2) % count)) == 0) return false;
+    for (size_t j = i + 2; j < count && (i > 0 || j + 1 < count); j++) {
+      if (may_meet(a, b, point_of(polygon, j), point_of(polygon, (j + 1) % count))) return false;
+    }
+  }
+  return true;
+}
+
+static bool is_in_part(const struct frame *frame, const struct shape *shape, enum part part) {
+  bool dot = shape->kind != 'B' && has_one_point(shape), thin = thickness(shape) < (double)frame->pixel;
+  if (dot && thickness(shape) < DOT * (double)frame->pixel) return part == DOTS;
+  if (shape->kind == 'W' && !dot) return part == WIRES || (part == THIN_WIRES && thin);
+  if (shape->kind == 'P' && !is_simple(shape)) return part == CROSSED;
+  return part == (thin ? THIN : SOLID);
+}
+
+/* A number of the frame, without a zero before its point: there are many of them. */
+static void put_short(struct output *out, const struct frame *frame, fine value) {
+  static struct output whole = {.file = DROPPED};
+  whole.used = 0;
+  put_decimal(&whole, value, frame->decimals);
+  size_t sign = value < 0, zero = whole.used > sign + 1 && whole.waiting[sign] == '0';
+  put(out, whole.waiting, sign);
+  put(out, whole.waiting + sign + zero, whole.used - sign - zero);
+}
+
+static void put_spot(struct output *out, const struct frame *frame, struct spot spot) {
+  put_short(out, frame, spot.x - frame->left);
+  put_text(out, ",");
+  put_short(out, frame, frame->top - spot.y);
+}
+
+static void put_step(struct output *out, const struct frame *frame, const char *letter, fine value) {
+  put_text(out, letter);
+  put_short(out, frame, value);
+}
+
+/* Where a closed part begins: counted from where the one before it began, which is short, or from the frame, so that no viewer's rounding adds up. */
+struct start {
+  bool near;
+  struct spot spot;
+};
+
+static void put_start(struct output *out, const struct frame *frame, struct start *start, struct spot spot) {
+  if (start->near) {
+    put_step(out, frame, "m", spot.x - start->spot.x);
+    put_step(out, frame, ",", start->spot.y - spot.y);
+  } else {
+    put_text(out, "M");
+    put_spot(out, frame, spot);
+  }
+  start->spot = spot;
+}
+
+static bool is_upright(const struct shape *box) { return box->numbers[4] == 0 || box->numbers[5] == 0; }
+
+/* A box along the axes: from its lower left corner to the right. */
+static void put_upright(struct output *out, const struct frame *frame, const struct shape *box, struct start *start) {
+  bool along = box->numbers[5] == 0;
+  fine width = (fine)box->numbers[along ? 0 : 1] * FINE, height = (fine)box->numbers[along ? 1 : 0] * FINE;
+  struct spot centre = point_of(box, 0);
+  put_start(out, frame, start, (struct spot){centre.x - width / 2, centre.y - height / 2});
+  put_step(out, frame, "h", width);
+  put_step(out, frame, "v", -height);
+  put_step(out, frame, "h", -width);
+  put_text(out, "z");
+}
+
+static void put_circle(struct output *out, const struct frame *frame, const struct shape *shape, struct start *start) {
+  struct spot centre = point_of(shape, 0);
+  fine radius = shape->kind == 'P' ? 0 : (fine)shape->numbers[0] * (FINE / 2);
+  put_start(out, frame, start, (struct spot){centre.x - radius, centre.y});
+  for (int half = 0; half < 2; half++) {
+    put_step(out, frame, "a", radius);
+    put_step(out, frame, ",", radius);
+    put_text(out, " 0 1 0 ");
+    put_short(out, frame, half == 0 ? 2 * radius : -2 * radius);
+    put_text(out, ",0");
+  }
+  put_text(out, "z");
+}
+
+static void put_corners(struct output *out, const struct frame *frame, const struct shape *box) {
+  struct spot corners[4];
+  find_corners(box, corners);
+  for (int i = 0; i < 4; i++) {
+    put_text(out, i == 0 ? "M" : " ");
+    put_spot(out, frame, corners[i]);
+  }
+  put_text(out, "z");
+}
+
+/* The points of a polygon, counterclockwise, or those of a wire. */
+static void put_points(struct output *out, const struct frame *frame, const struct shape *shape) {
+  size_t count = point_count(shape);
+  bool turned = shape->kind == 'P' && twice_area(shape) < 0;
+  for (size_t i = 0; i < count; i++) {
+    put_text(out, i == 0 ? "M" : " ");
+    put_spot(out, frame, point_of(shape, turned ? count - 1 - i : i));
+  }
+  if (shape->kind == 'P') put_text(out, "z");
+}
+
+static void put_subpath(struct output *out, const struct frame *frame, const struct shape *shape, struct start *start) {
+  bool box = shape->kind == 'B', circle = !box && has_one_point(shape);
+  if (box && is_upright(shape)) put_upright(out, frame, shape, start);
+  else if (circle) put_circle(out, frame, shape, start);
+  else if (box) put_corners(out, frame, shape);
+  else put_points(out, frame, shape);
+  start->near = circle || (box && is_upright(shape));
+}
+
+/* ---- the paths of a layer */
+
+struct pencil {
+  struct output *out;
+  const struct frame *frame;
+  const struct layer *layer;
+  enum part part;
+  bool down;      /* a path is open */
+  int32_t width;  /* of wires: those of one width share a path */
+  int32_t wider;  /* the next width that was met, or 0 */
+  int32_t drawn;  /* where there are many widths: all up to this one are drawn, and now a path ends where the width changes */
+  size_t on_line; /* shapes since the last line end */
+  struct start start;
+};
+
+static void put_line(struct output *out, const struct frame *frame, const char *name, int pixels) {
+  open_attribute(out, "class");
+  put_text(out, name);
+  put_text(out, "\"");
+  put_attribute(out, frame, "stroke-width", pixels * frame->pixel);
+}
+
+static void lower(struct pencil *pencil) {
+  struct output *out = pencil->out;
+  put_text(out, "<path");
+  if (pencil->part == WIRES || pencil->part == THIN_WIRES) put_text(out, " fill=\"none\"");
+  if (pencil->part == WIRES) put_attribute(out, pencil->frame, "stroke-width", (fine)pencil->width * FINE);
+  else if (pencil->part == DOTS) put_line(out, pencil->frame, "dot", DOT);
+  else if (pencil->part == THIN || pencil->part == THIN_WIRES || pencil->layer->outlined) put_line(out, pencil->frame, "line", 1);
+  if (pencil->layer->outlined) put_text(out, pencil->part == WIRES ? " stroke-opacity=\"0.2\"" : " fill-opacity=\"0.1\"");
+  put_text(out, " d=\"");
+  pencil->down = true;
+  pencil->on_line = 0;
+  pencil->start.near = false;
+}
+
+static void lift(struct pencil *pencil) {
+  if (pencil->down) put_text(pencil->out, "\"/>\n");
+  pencil->down = false;
+}
+
+/* Whether a wire of the width is drawn now. */
+static bool takes_width(struct pencil *pencil, int32_t width) {
+  if (pencil->drawn != 0) {
+    if (width != pencil->width) lift(pencil);
+    pencil->width = width;
+    return width > pencil->drawn;
+  }
+  if (width > pencil->width && (pencil->wider == 0 || width < pencil->wider)) pencil->wider = width;
+  return width == pencil->width;
+}
+
+static void draw(struct pencil *pencil, const struct shape *shape) {
+  enum { SHAPES_ON_A_LINE = 16 };
+  if (!is_in_part(pencil->frame, shape, pencil->part)) return;
+  if (pencil->part == WIRES && !takes_width(pencil, shape->numbers[0])) return;
+  if (pencil->part == CROSSED) lift(pencil);
+  if (!pencil->down) lower(pencil);
+  put_subpath(pencil->out, pencil->frame, shape, &pencil->start);
+  if (++pencil->on_line < SHAPES_ON_A_LINE) return;
+  put_text(pencil->out, "\n");
+  pencil->on_line = 0;
+  pencil->start.near = false;
+}
+
+static void draw_part(struct pencil *pencil, struct bytes flat, const struct layers *layers) {
   static struct shape shape;
-  struct walk walk = {.flat = flat, .at = run->start, .layer = run->layer};
-  while (walk.at < run->end && next_shape(&walk, &shape)) put_shape(out, frame, &shape);
+  pencil->wider = 0;
+  for (size_t i = 0; i < pencil->layer->runs; i++) {
+    const struct run *run = &layers->runs[pencil->layer->first_run + i];
+    struct walk walk = {.flat = flat, .at = run->start, .layer = run->layer};
+    while (walk.at < run->end && next_shape(&walk, &shape)) draw(pencil, &shape);
+  }
+  lift(pencil);
+}
+
+/* Once, and for wires once for each width, up to some. */
+static void draw_widths(struct pencil *pencil, struct bytes flat, const struct layers *layers) {
+  enum { MANY_WIDTHS = 16 };
+  draw_part(pencil, flat, layers);
+  for (int widths = 0; pencil->wider != 0; widths++) {
+    pencil->drawn = widths == MANY_WIDTHS ? pencil->width : 0;
+    pencil->width = pencil->wider;
+    draw_part(pencil, flat, layers);
+  }
 }
 
 static void put_layer(struct output *out, const struct frame *frame, struct bytes flat, const struct layers *layers, const struct layer *layer) {
@@ -233,18 +400,38 @@ static void put_layer(struct output *out, const struct frame *frame, struct byte
   spell_layer(layer->name, name);
   put_text(out, "<g id=\"layer-");
   put_text(out, name);
-  put_text(out, "\" opacity=\"0.65\" fill-rule=\"nonzero\" stroke-linecap=\"round\" stroke-linejoin=\"round\" stroke-width=\"0\"");
+  put_text(out, layer->outlined ? "\"" : "\" opacity=\"0.65\"");
+  put_text(out, " fill-rule=\"nonzero\" stroke-linecap=\"round\" stroke-linejoin=\"round\" stroke-width=\"0\"");
   put_colour(out, "fill", layer->colour);
   put_colour(out, "stroke", layer->colour);
   put_text(out, ">\n");
-  for (size_t i = 0; i < layer->runs; i++) put_run(out, frame, flat, &layers->runs[layer->first_run + i]);
+  for (int part = 0; part < PARTS; part++) {
+    struct pencil pencil = {.out = out, .frame = frame, .layer = layer, .part = (enum part)part};
+    draw_widths(&pencil, flat, layers);
+  }
   put_text(out, "</g>\n");
+}
+
+/* A cross at zero, where that is in the frame. */
+static void put_origin(struct output *out, const struct frame *frame) {
+  static const struct spot zero;
+  fine arm = 6 * frame->pixel;
+  if (frame->left > 0 || frame->left + frame->width < 0 || frame->top < 0 || frame->top - frame->height > 0) return;
+  put_text(out, "<path id=\"origin\" fill=\"none\" stroke=\"#000\"");
+  put_line(out, frame, "line", 1);
+  put_text(out, " d=\"M");
+  put_spot(out, frame, (struct spot){zero.x - arm, zero.y});
+  put_step(out, frame, "h", 2 * arm);
+  put_text(out, "M");
+  put_spot(out, frame, (struct spot){zero.x, zero.y + arm});
+  put_step(out, frame, "v", 2 * arm);
+  put_text(out, "\"/>\n");
 }
 
 static void put_drawing(struct output *out, const struct frame *frame, struct bytes flat, const struct layers *layers) {
   put_text(out, "<svg");
   put_pixels(out, "x", EDGE);
-  put_pixels(out, "y", EDGE);
+  put_pixels(out, "y", HEAD);
   put_pixels(out, "width", frame->pixels_wide);
   put_pixels(out, "height", frame->pixels_high);
   put_text(out, " viewBox=\"0 0 ");
@@ -253,6 +440,7 @@ static void put_drawing(struct output *out, const struct frame *frame, struct by
   put_decimal(out, frame->height, frame->decimals);
   put_text(out, "\">\n");
   for (size_t i = 0; i < layers->count; i++) put_layer(out, frame, flat, layers, &layers->all[i]);
+  put_origin(out, frame);
   put_text(out, "</svg>\n");
 }
 
@@ -265,29 +453,44 @@ static void open_text(struct output *out, int64_t x, int64_t y) {
   put_text(out, ">");
 }
 
-static void put_legend_row(struct output *out, const struct layer *layer, int64_t x, int64_t y) {
-  char name[5];
-  spell_layer(layer->name, name);
-  put_text(out, "<rect width=\"14\" height=\"14\" opacity=\"0.65\"");
+static void put_swatch(struct output *out, const struct layer *layer, int64_t x, int64_t y) {
+  put_text(out, layer->outlined ? "<rect width=\"14\" height=\"14\"" : "<rect width=\"14\" height=\"14\" opacity=\"0.65\"");
   put_pixels(out, "x", x);
   put_pixels(out, "y", y);
   put_colour(out, "fill", layer->colour);
+  if (layer->outlined) {
+    put_text(out, " fill-opacity=\"0.1\"");
+    put_colour(out, "stroke", layer->colour);
+  }
   put_text(out, "/>");
+}
+
+static void put_legend_row(struct output *out, const struct layer *layer, int64_t x, int64_t y) {
+  char name[5];
+  spell_layer(layer->name, name);
+  put_text(out, "<g class=\"row\" data-layer=\"layer-");
+  put_text(out, name);
+  put_text(out, "\">");
+  put_swatch(out, layer, x, y);
   open_text(out, x + ROW, y + 12);
   put_text(out, name);
   put_text(out, "</text>");
   open_text(out, x + 4 * ROW, y + 12);
   put_number(out, (int64_t)layer->shapes);
-  put_text(out, "</text>\n");
+  put_text(out, "</text></g>\n");
 }
 
 static size_t legend_rows(const struct layers *layers) { return layers->count < LEGEND_ROWS ? layers->count : LEGEND_ROWS; }
 
 static void put_legend(struct output *out, const struct layers *layers, int64_t x) {
   size_t rows = legend_rows(layers);
-  for (size_t i = 0; i < rows; i++) put_legend_row(out, &layers->all[i], x, EDGE + (int64_t)i * ROW);
+  open_text(out, x + ROW, HEAD - 8);
+  put_text(out, "layer</text>");
+  open_text(out, x + 4 * ROW, HEAD - 8);
+  put_text(out, "shapes</text>\n");
+  for (size_t i = 0; i < rows; i++) put_legend_row(out, &layers->all[i], x, HEAD + (int64_t)i * ROW);
   if (rows == layers->count) return;
-  open_text(out, x, EDGE + (int64_t)rows * ROW + 12);
+  open_text(out, x, HEAD + (int64_t)rows * ROW + 12);
   put_text(out, "and ");
   put_count(out, layers->count - rows, " more layer");
   put_text(out, "</text>\n");
@@ -343,7 +546,21 @@ static void put_foot(struct output *out, const struct frame *frame, const struct
   put_text(out, " \xC2\xB5m</text>\n");
 }
 
-static void open_picture(struct output *out, int64_t width, int64_t height) {
+/* The last part of the file's name, with what means something in XML escaped. */
+static void put_file_name(struct output *out, const char *name) {
+  static struct output shown;
+  const char *slash = strrchr(name, '/');
+  shown = (struct output){.file = DROPPED};
+  put_name(&shown, slash == NULL ? name : slash + 1);
+  for (size_t i = 0; i < shown.used; i++) {
+    unsigned char byte = shown.waiting[i];
+    if (byte == '&') put_text(out, "&amp;");
+    else if (byte == '<') put_text(out, "&lt;");
+    else put(out, &byte, 1);
+  }
+}
+
+static void open_picture(struct output *out, const char *name, int64_t width, int64_t height) {
   put_text(out, "<?xml version=\"1.0\" encoding=\"UTF-8\"?>\n<svg xmlns=\"http://www.w3.org/2000/svg\"");
   put_pixels(out, "width", width);
   put_pixels(out, "height", height);
@@ -354,44 +571,64 @@ static void open_picture(struct output *out, int64_t width, int64_t height) {
   put_text(out, "\" font-family=\"sans-serif\" font-size=\"13\">\n"
                 "<style>@supports (vector-effect: non-scaling-stroke) {\n"
                 ".line { stroke-width: 1px; vector-effect: non-scaling-stroke }\n"
-                "}</style>\n"
-                "<rect width=\"100%\" height=\"100%\" fill=\"#fff\"/>\n");
+                ".dot { stroke-width: 3px; vector-effect: non-scaling-stroke }\n"
+                "}\n"
+                ".row { cursor: pointer }</style>\n<title>");
+  put_file_name(out, name);
+  put_text(out, "</title>\n<rect width=\"100%\" height=\"100%\" fill=\"#fff\"/>\n<text id=\"name\" font-weight=\"bold\"");
+  put_pixels(out, "x", EDGE);
+  put_pixels(out, "y", EDGE + 4);
+  put_text(out, ">");
+  put_file_name(out, name);
+  put_text(out, "</text>\n");
+}
+
+/* In a browser a click on a row of the legend hides its layer, and another shows it again. Without a script all is shown. */
+static void put_script(struct output *out) {
+  put_text(out, "<script><![CDATA[\n"
+                "document.querySelectorAll(\".row\").forEach(row => row.addEventListener(\"click\", () => {\n"
+                "  const layer = document.getElementById(row.getAttribute(\"data-layer\")), hidden = layer.style.display === \"none\";\n"
+                "  layer.style.display = hidden ? \"\" : \"none\";\n"
+                "  row.style.opacity = hidden ? 1 : 0.3;\n"
+                "}));\n"
+                "]]></script>\n");
 }
 
 static void put_border(struct output *out, const struct frame *frame) {
   put_text(out, "<rect fill=\"none\" stroke=\"#ccc\"");
   put_pixels(out, "x", EDGE);
-  put_pixels(out, "y", EDGE);
+  put_pixels(out, "y", HEAD);
   put_pixels(out, "width", frame->pixels_wide);
   put_pixels(out, "height", frame->pixels_high);
   put_text(out, "/>\n");
 }
 
-static void put_empty(struct output *out) {
-  open_picture(out, LEAST_WIDTH, 3 * EDGE);
-  open_text(out, EDGE, 2 * EDGE - 6);
+static void put_empty(struct output *out, const char *name) {
+  open_picture(out, name, LEAST_WIDTH, 3 * EDGE);
+  open_text(out, EDGE, 2 * EDGE + 6);
   put_text(out, "no shapes</text>\n</svg>\n");
 }
 
-static void put_picture(struct output *out, struct bytes flat, const struct layers *layers) {
-  struct frame frame = frame_of(flat);
+static void put_picture(struct output *out, const struct reading *reading, const struct layers *layers) {
+  struct frame frame = frame_of(reading->flat);
   int64_t legend_high = ((int64_t)legend_rows(layers) + 1) * ROW;
-  int64_t wide = larger(frame.pixels_wide + LEGEND, LEAST_WIDTH) + 2 * EDGE, high = larger(frame.pixels_high, legend_high) + EDGE + FOOT;
-  open_picture(out, wide, high);
-  put_drawing(out, &frame, flat, layers);
+  int64_t wide = larger(frame.pixels_wide + LEGEND, LEAST_WIDTH) + 2 * EDGE, high = larger(frame.pixels_high, legend_high) + HEAD + FOOT;
+  open_picture(out, reading->name, wide, high);
+  put_drawing(out, &frame, reading->flat, layers);
   put_border(out, &frame);
   put_legend(out, layers, EDGE + frame.pixels_wide + EDGE);
   put_foot(out, &frame, layers, high - FOOT);
+  put_script(out);
   put_text(out, "</svg>\n");
 }
 
-bool put_plot(struct output *out, struct bytes flat) {
+bool put_plot(struct output *out, const struct reading *reading) {
   struct layers layers;
-  bool found = find_layers(flat, &layers);
-  if (found && layers.count == 0) put_empty(out);
+  bool found = find_layers(reading->flat, &layers);
+  if (found && layers.count == 0) put_empty(out, reading->name);
   if (found && layers.count > 0) {
     colour_layers(layers.all, layers.count);
-    put_picture(out, flat, &layers);
+    put_picture(out, reading, &layers);
   }
   release_layers(&layers);
   return found;

@@ -221,6 +221,8 @@ struct layer {
   uint32_t name;
   uint32_t start; /* where its first line stands */
   uint32_t colour;
+  bool outlined; /* an implant or a well: it covers much and must not hide the rest */
+  int height;    /* in the usual stacking order */
   size_t first_run, runs;
   size_t shapes;
   struct window window; /* by find_windows */
@@ -267,12 +269,12 @@ void put_unread(struct output *out, const char *name);
 
 /* ---- colours.c */
 
-/* Gives each layer its colour: the one that goes with its name, or the next one if a layer before it has that already. */
+/* Gives each layer its colour, and puts them into the order in which they are drawn: usual ones as they are stacked, then others as they first appear. */
 void colour_layers(struct layer *layers, size_t count);
 
 /* ---- plot.c: the picture of a flat file. */
 
 /* False where there is no memory; then nothing is put. */
-bool put_plot(struct output *out, struct bytes flat);
+bool put_plot(struct output *out, const struct reading *reading);
 
 #endif

@@ -1,26 +1,54 @@
 """The pictures: where each shape is drawn, how, and what stands around it."""
+import re
 import xml.etree.ElementTree as tree
 
-from common import EXAMPLE, cif, expect
+from common import EXAMPLE, cif, expect, scratch
 
 SVG = "{http://www.w3.org/2000/svg}"
 
 
 class Picture:
-    def __init__(self, text):
-        done = cif("plot", "-", text=text)
-        expect(done.returncode == 0, "a picture", text, done.stderr)
+    def __init__(self, text, *words):
+        done = cif("plot", *words, "-", text=text)
+        expect(done.returncode == 0, "a picture", text[:80], done.stderr)
+        self.svg = done.stdout
         self.root = tree.fromstring(done.stdout)
         self.frame = self.root.find(SVG + "svg")
         self.words = [t.text for t in self.root.iter(SVG + "text")]
-        self.layers = {g.get("id")[len("layer-"):]: g for g in self.root.iter(SVG + "g")}
+        self.layers = {g.get("id")[len("layer-"):]: g for g in self.root.iter(SVG + "g") if g.get("id")}
 
-    def of(self, layer, kind):
-        return self.layers[layer].findall(SVG + kind)
+    def paths(self, layer):
+        return self.layers[layer].findall(SVG + "path")
+
+    def shapes(self, layer):
+        """What the paths of a layer draw: (attributes of the path, points, radius or None, closed)."""
+        return [(path.attrib, *sub) for path in self.paths(layer) for sub in subpaths(path.get("d"))]
 
 
-def points(element):
-    return [tuple(map(float, p.split(","))) for p in element.get("points").split()]
+def subpaths(data):
+    """The parts of a path that this tool may write: points, the radius of a circle or None, whether it is closed."""
+    start = (0.0, 0.0)
+    for letter, part in re.findall(r"([Mm])([^Mm]*)", data):
+        part, (first, second) = part.strip(), re.match(r"([-\d.]+),([-\d.]+)", part).groups()
+        base = start if letter == "m" else (0.0, 0.0)
+        start = (base[0] + float(first), base[1] + float(second))
+        expect(letter == "M" or "h" in part or "a" in part, "only boxes and circles are counted from the one before", part)
+        part = f"{start[0]:.10f},{start[1]:.10f}" + part[len(first) + 1 + len(second):]
+        circle = re.fullmatch(r"([-\d.]+),([-\d.]+)a([-\d.]+),([-\d.]+) 0 1 0 ([-\d.]+),0a([-\d.]+),([-\d.]+) 0 1 0 ([-\d.]+),0z", part)
+        if circle:
+            x, y, *radii = map(float, circle.groups())
+            r = radii[0]
+            expect(radii[1] == r and abs(radii[2] - 2 * r) < 1e-9 and radii[3:5] == [r, r] and radii[5] == -radii[2], "a circle of two halves", part)
+            yield [(x + r, y)], r, True
+            continue
+        closed, part = part.endswith("z"), part.rstrip("z")
+        step = re.fullmatch(r"([-\d.]+),([-\d.]+)h([-\d.]+)v([-\d.]+)(?:h([-\d.]+))?", part)
+        if step:
+            x, y, h, v = map(float, step.groups()[:4])
+            expect(float(step[5]) == -h and closed, "a box goes back to where it began", part)
+            yield [(x, y), (x + h, y), (x + h, y + v), (x, y + v)], None, closed
+        else:
+            yield [tuple(map(float, p.split(","))) for p in part.split(" ")], None, closed
 
 
 def near(some, others, within):
@@ -29,12 +57,14 @@ def near(some, others, within):
 
 def expect_placed(picture, layer, corners):
     """The polygon of a layer has these corners: measured against a box of 10 by 10 around zero on layer REF, and y goes upward."""
-    x, y = zip(*points(picture.of("REF", "polygon")[0]))
+    x, y = zip(*picture.shapes("REF")[0][1])
     unit = (max(x) - min(x)) / 10
     want = [((min(x) + max(x)) / 2 + a * unit, (min(y) + max(y)) / 2 - b * unit) for a, b in corners]
-    got = points(picture.of(layer, "polygon")[0])
+    got = picture.shapes(layer)[0][1]
     turned = [got[i:] + got[:i] for i in range(len(got))]
     expect(any(near(t, want, unit / 1000) for t in turned + [t[::-1] for t in turned]), "where a shape is drawn", layer, got, want)
+    area = sum(a * d - b * c for (a, b), (c, d) in zip(got, got[1:] + got[:1]))
+    expect(area < 0, "all that is filled goes round counterclockwise on the screen", layer, got)
 
 
 def test_boxes_and_polygons():
@@ -46,36 +76,58 @@ def test_boxes_and_polygons():
     expect_placed(picture, "C", slanting)
     expect_placed(picture, "D", slanting)
     expect_placed(picture, "F", [(0, 0), (7, 0), (7, 9)])
+    expect_placed(Picture(b"LREF;B10 10 0 0;LF;P0 0 7 9 7 0;E"), "F", [(0, 0), (7, 0), (7, 9)])
     half = 0.5 ** 0.5  # the primer's box: length 25 toward (-20, 20), width 60 across it
     expect_placed(picture, "G", [(80 - a * 12.5 * half + b * 30 * half, 40 + a * 12.5 * half + b * 30 * half) for a, b in around])
 
 
 def test_round_shapes():
     picture = Picture(b"LA;R6 10 20;LB;W4 0 0 30 0 30 40;LC;W8 5 5;W8 6 6 6 6;LD;B2 2 0 0;E")
-    x = [p[0] for p in points(picture.of("D", "polygon")[0])]
+    x = [p[0] for p in picture.shapes("D")[0][1]]
     unit = (max(x) - min(x)) / 2
-    circle = picture.of("A", "circle")[0]
-    expect(abs(float(circle.get("r")) / unit - 3) < 1e-6, "a flash is a circle", circle.attrib)
-    wire, group = picture.of("B", "polyline")[0], picture.layers["B"]
-    wide = abs(float(wire.get("stroke-width")) / unit - 4) < 1e-6
-    expect(wide and wire.get("fill") == "none" and len(points(wire)) == 3, "a wire is a line of its width", wire.attrib)
+    expect(abs(picture.shapes("A")[0][2] / unit - 3) < 1e-6, "a flash is a circle", picture.shapes("A"))
+    (look, spots, _, closed), group = picture.shapes("B")[0], picture.layers["B"]
+    wide = abs(float(look["stroke-width"]) / unit - 4) < 1e-6
+    expect(wide and look["fill"] == "none" and len(spots) == 3 and not closed, "a wire is a line of its width", look)
     expect(group.get("stroke-linecap") == group.get("stroke-linejoin") == "round", "a wire has round ends", group.attrib)
     expect(group.get("stroke") == group.get("fill"), "a wire has the layer's colour", group.attrib)
-    expect([abs(float(c.get("r")) / unit - 4) < 1e-6 for c in picture.of("C", "circle")] == [True, True], "a wire of one point is a circle")
+    expect([abs(s[2] / unit - 4) < 1e-6 for s in picture.shapes("C")] == [True, True], "a wire of one point is a circle")
     expect(all(g.get("fill-rule") == "nonzero" for g in picture.layers.values()), "the winding rule")
+
+
+def test_paths():
+    """Few paths for a layer, and nothing cancelled: what crosses or touches itself has a path of its own, wires of one width share one."""
+    boxes = b"".join(b"B4 4 %d %d;P%d %d %d %d %d %d;R4 %d 30;" % (i, i, i, 0, i, 9, i + 9, 9, i) for i in range(100))
+    picture = Picture(b"LA;" + boxes + b"E")
+    expect(len(picture.paths("A")) == 1 and len(picture.shapes("A")) == 300, "one path for all that is filled", len(picture.paths("A")))
+    crossing = [b"P0 0 9 9 9 0 0 9;", b"P0 0 9 0 9 9 0 9 0 0 3 3 3 6 6 6 6 3 3 3;", b"P0 0 9 0 4 0 4 9;", b"P0 0 9 0 9 9 9 0;"]
+    picture = Picture(b"LA;B4 4 0 0;" + b"".join(crossing) + b"P0 0 9 0 9 9 5 9 5 5 0 5;E")
+    expect([len(list(subpaths(p.get("d")))) for p in picture.paths("A")] == [2, 1, 1, 1, 1], "what touches itself stands alone", [p.attrib for p in picture.paths("A")])
+    picture = Picture(b"LA;" + b"".join(b"W%d 0 %d 999 %d;" % (1 + i % 3, i, i) for i in range(99)) + b"E")
+    expect(len([p for p in picture.paths("A") if p.get("class") is None]) == 3, "a path for each width of wires", [p.attrib for p in picture.paths("A")])
+    picture = Picture(b"LA;" + b"".join(b"W%d 0 %d 9999 %d;" % (100 + i % 50, i, i) for i in range(500)) + b"E")
+    wires = [s for s in picture.shapes("A") if s[0].get("class") is None]
+    expect(len(wires) == 500 and len({s[0]["stroke-width"] for s in wires}) == 50, "many widths: each wire once, at its width", len(wires))
+
+
+def test_small_shapes():
+    """What is thinner than a pixel gets a line, and flashes and one-point wires never vanish."""
+    far = b"LZ;B100000 100000 0 0;"
+    for text, look in ((b"R1 0 0;", "dot"), (b"W1 5 5;", "dot"), (b"W1 5 5 5 5;", "dot"), (b"P5 5 5 5 5 5;", "dot"), (b"B1 9000 0 0;", "line"), (b"W1 0 0 9000 0;", "line"),
+                       (b"P0 0 1 0 1 9000 0 9000;", "line"), (b"R9000 0 0;", None), (b"B900 900 0 0;", None)):
+        shapes = Picture(far + b"LA;" + text + b"E").shapes("A")
+        expect([s[0].get("class") for s in shapes][-1] == look, "a line where a shape is thin, a dot where it is small", text, shapes)
+        expect(look is None or float(shapes[-1][0]["stroke-width"]) > 0, "and a width for viewers without styles", text, shapes)
 
 
 def reach(picture):
     """How far the drawing goes in the frame: lowest x and y, highest x and y."""
     x, y = [], []
-    for element in picture.frame.iter():
-        spots, half = [], 0
-        if element.get("points"):
-            spots, half = points(element), float(element.get("stroke-width") or 0) / 2 if element.tag == SVG + "polyline" else 0
-        elif element.get("r"):
-            spots, half = [(float(element.get("cx")), float(element.get("cy")))], float(element.get("r"))
-        x += [a + side for a, _ in spots for side in (-half, half)]
-        y += [b + side for _, b in spots for side in (-half, half)]
+    for layer in picture.layers:
+        for look, spots, radius, closed in picture.shapes(layer):
+            half = radius if radius is not None else float(look["stroke-width"]) / 2 if not closed and "class" not in look else 0
+            x += [a + side for a, _ in spots for side in (-half, half)]
+            y += [b + side for _, b in spots for side in (-half, half)]
     return min(x), min(y), max(x), max(y)
 
 
@@ -92,23 +144,50 @@ def test_frames():
     _, _, width, height = map(float, Picture(EXAMPLE).frame.get("viewBox").split())
     expect(abs(width / height - 108 / 58) < 1e-6, "a margin of a twenty-fifth of the longer side", width, height)
     empty = Picture(b"DS1;LA;R1 0 0;DF;E")
-    expect(empty.words == ["no shapes"] and not empty.layers and len(empty.root.get("viewBox").split()) == 4, "no shapes: a picture that says so", empty.words)
+    expect(empty.words == ["standard input", "no shapes"] and len(empty.root.get("viewBox").split()) == 4, "no shapes: a picture that says so", empty.words)
 
 
 def test_legend_and_colours():
     one = Picture(b"LNM;R9 0 0;R9 20 0;LND;R9 9 9;LNM;R9 40 0;LQQ;R9 5 5;E")
     other = Picture(b"LZ;R9 0 0;LND;R9 0 0;LQQ;R9 0 0;LNM;R9 0 0;E")
-    expect(one.words[:6] == ["NM", "3", "ND", "1", "QQ", "1"], "the legend: names and counts, in order", one.words)
-    expect(list(one.layers) == ["NM", "ND", "QQ"] and len(one.of("NM", "circle")) == 3, "a group for each layer", list(one.layers))
+    expect(one.words[1:9] == ["layer", "shapes", "ND", "1", "NM", "3", "QQ", "1"], "the legend: headings, names and counts, as they are stacked", one.words)
+    expect(list(one.layers) == ["ND", "NM", "QQ"] and len(one.shapes("NM")) == 3, "a group for each layer", list(one.layers))
     expect(all(one.layers[n].get("fill") == other.layers[n].get("fill") for n in one.layers), "a layer has the same colour in each picture")
     crowd = Picture(b"".join(b"L%c;R9 0 0;" % c for c in b"ABCDEFGHIJKLMNOPQRST") + b"E")
     expect(len({g.get("fill") for g in crowd.layers.values()}) == 20, "twenty layers, twenty colours")
+    crowd = Picture(b"".join(b"L%c;R9 0 0;" % c for c in b"ABCDEFGHIJKLMNOPQR") + b"LNM;R9 0 0;LCMF;R9 0 0;E")
+    usual = crowd.layers["NM"].get("fill")
+    expect(usual == one.layers["NM"].get("fill") == crowd.layers["CMF"].get("fill"), "usual layers have their colour, whatever came before them", usual)
+    expect([n for n, g in crowd.layers.items() if g.get("fill") == usual] == ["NM", "CMF"], "and no other layer has metal's blue")
+    stack = Picture(b"".join(b"L%s;R9 0 0;" % n for n in (b"CMS", b"CCP", b"CMF", b"X", b"CPG", b"CAA", b"CSN", b"CWN")) + b"E")
+    expect(list(stack.layers) == ["CWN", "CSN", "CAA", "CPG", "CMF", "CCP", "CMS", "X"], "the usual stacking order", list(stack.layers))
+    implants = {n for n in stack.layers if any(s[0].get("fill-opacity") for s in stack.shapes(n))}
+    expect(implants == {"CWN", "CSN"}, "wells and implants are outlines", implants)
+
+
+def test_around():
+    """The file's name, the origin, and the legend that hides layers by a script."""
+    name = scratch("a<b>&\".cif", EXAMPLE)
+    root = tree.fromstring(cif("plot", name).stdout)
+    names = [root.find(SVG + "title").text, root.find(SVG + "text").text]
+    expect(names == ["a<b>&\".cif"] * 2, "the title and the heading are the file's name", names)
+    for text, crossed in ((b"LA;B4 4 0 0;E", True), (b"LA;B4 4 90 90;E", False), (b"LA;B4 4 -3 -3;B4 4 3 90;E", True)):
+        picture = Picture(text)
+        cross = [p for p in picture.frame.findall(SVG + "path") if p.get("id") == "origin"]
+        expect(len(cross) == crossed, "a cross at the origin, where that is in the frame", text)
+    picture = Picture(b"LA;B4 4 0 0;LB;B2 2 0 0;E")
+    rows = [g.get("data-layer") for g in picture.root.iter(SVG + "g") if g.get("class") == "row"]
+    expect(rows == ["layer-A", "layer-B"] and {g.get("id") for g in picture.layers.values()} == set(rows), "a row of the legend knows its layer", rows)
+    expect(b'getAttribute("data-layer")' in picture.svg and picture.svg.count(b"<script>") == 1, "a script hides layers")
 
 
 def test_many():
     names = [bytes(65 + (i >> shift) % 8 for shift in (9, 6, 3, 0)) for i in range(4096)]
     picture = Picture(b"".join(b"L%s;R1 %d %d;" % (n, i, j) for j in range(20) for i, n in enumerate(names)) + b"E")
-    expect(len(picture.layers) == 4096 and all(len(g) == 20 for g in picture.layers.values()), "4,096 layers, mixed")
+    expect(len(picture.layers) == 4096 and all(len(picture.shapes(n)) == 20 for n in picture.layers), "4,096 layers, mixed")
     expect(any("more layers" in w for w in picture.words), "a long legend ends", picture.words[-3:])
     done = cif("plot", "-", text=b"DS1;LA;" + b"R1 0 0;" * 1024 + b"DF;" + b"C1;" * 1024 + b"E")
-    expect(done.returncode == 0 and done.stdout.count(b"<circle") == 1048576 and done.stdout.endswith(b"</svg>\n"), "1,048,576 shapes drawn", done.stderr)
+    expect(done.returncode == 0 and done.stdout.count(b"z") >= 1048576 and done.stdout.endswith(b"</svg>\n"), "1,048,576 shapes drawn", done.stderr)
+    boxes = b"DS1;LA;" + b"".join(b"B9 9 %d %d;" % (x * 15, y * 15) for x in range(32) for y in range(32)) + b"DF;"
+    done = cif("plot", "-", text=boxes + b"".join(b"C1T%d %d;" % (x * 480, y * 480) for x in range(32) for y in range(20)) + b"E")
+    expect(done.returncode == 0 and done.stdout.count(b"<path") < 10 and len(done.stdout) < 13500000, "655,360 boxes in few paths and few bytes", len(done.stdout))
