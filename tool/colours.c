@@ -45,6 +45,20 @@ static int by_height(const void *one, const void *other) {
   return (a->start > b->start) - (a->start < b->start);
 }
 
+/* The shade that follows from the name, or the next one that is left. The first four mean diffusion, poly, contact and metal to everybody who looks at layouts,
+   so they are given to no other layer as long as there are others. */
+static int free_shade(uint32_t name, const bool taken[COLOURS]) {
+  enum { MEANT = 4, REST = COLOURS - MEANT };
+  int first = (int)((name ^ name >> 13) * 2654435761u >> 8 & 0xffffff) % REST;
+  for (int i = 0; i < REST; i++) {
+    if (!taken[MEANT + (first + i) % REST]) return MEANT + (first + i) % REST;
+  }
+  for (int i = 0; i < MEANT; i++) {
+    if (!taken[i]) return i;
+  }
+  return MEANT + first;
+}
+
 void colour_layers(struct layer *layers, size_t count) {
   bool taken[COLOURS] = {false};
   for (size_t i = 0; i < count; i++) {
@@ -56,8 +70,7 @@ void colour_layers(struct layer *layers, size_t count) {
   }
   for (size_t i = 0; i < count; i++) {
     if (layers[i].height < USUAL) continue;
-    int shade = (int)((layers[i].name ^ layers[i].name >> 13) * 2654435761u >> 8 & 0xffffff) % COLOURS;
-    for (int tried = 1; taken[shade] && tried < COLOURS; tried++) shade = (shade + 1) % COLOURS;
+    int shade = free_shade(layers[i].name, taken);
     taken[shade] = true;
     layers[i].colour = shades[shade];
   }

@@ -149,10 +149,10 @@ def test_frames():
 
 def test_legend_and_colours():
     one = Picture(b"LNM;R9 0 0;R9 20 0;LND;R9 9 9;LNM;R9 40 0;LQQ;R9 5 5;E")
-    other = Picture(b"LZ;R9 0 0;LND;R9 0 0;LQQ;R9 0 0;LNM;R9 0 0;E")
+    other = Picture(b"LY;R9 0 0;LND;R9 0 0;LQQ;R9 0 0;LNM;R9 0 0;E")
     expect(one.words[1:9] == ["layer", "shapes", "ND", "1", "NM", "3", "QQ", "1"], "the legend: headings, names and counts, as they are stacked", one.words)
     expect(list(one.layers) == ["ND", "NM", "QQ"] and len(one.shapes("NM")) == 3, "a group for each layer", list(one.layers))
-    expect(all(one.layers[n].get("fill") == other.layers[n].get("fill") for n in one.layers), "a layer has the same colour in each picture")
+    expect(all(one.layers[n].get("fill") == other.layers[n].get("fill") for n in one.layers), "a layer has the same colour in each picture, unless another one came first that wants it")
     crowd = Picture(b"".join(b"L%c;R9 0 0;" % c for c in b"ABCDEFGHIJKLMNOPQRST") + b"E")
     expect(len({g.get("fill") for g in crowd.layers.values()}) == 20, "twenty layers, twenty colours")
     crowd = Picture(b"".join(b"L%c;R9 0 0;" % c for c in b"ABCDEFGHIJKLMNOPQR") + b"LNM;R9 0 0;LCMF;R9 0 0;E")
