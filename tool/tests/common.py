@@ -11,7 +11,7 @@ EXAMPLE_LIST = b"shape\t1\tCM\tB\t100 50 75 0 -1 0\ntotal\t1\t1\t0\nwindow\t75\t
 
 class Run:
     """One run of the tests: the programs that are tried, the folder of their files, and what came of it."""
-    cif = host = held = folder = None
+    cif = host = held = folder = archive = None
     tried = wrong = 0
 
 
