@@ -29,7 +29,7 @@ module _ {r : Counted} {x : End} (p : ℕ) (chain : Chain) (ends : x ≡ endOf r
   unfolding endOf
   goes-so c′ q = ends ∙ ap (λ (a : Counted). endOf a p chain) q
 
-  stops-so : (n : ℕ) → r ≡ Full n → x ≡ stopped n p chain
+  stops-so : (n : ℕ) → r ≡ Full n → x ≡ stopped (record { number = n; place = p }) chain
   unfolding endOf
   stops-so n q = ends ∙ ap (λ (a : Counted). endOf a p chain) q
 
@@ -48,11 +48,11 @@ module _ (had most number : ℕ) (into : ℕ → Counts) where
       go false e = rw (u, v, e, n) refl
 
   -- as the definition says it
-  ends-so : (p : ℕ) (chain : Chain) → (if ltb had most then finished (tally (into (had + 1))) else stopped number p chain) ≡ endOf written-out p chain
+  ends-so : (p : ℕ) (chain : Chain) → (if ltb had most then finished (tally (into (had + 1))) else stopped (record { number = number; place = p }) chain) ≡ endOf written-out p chain
   unfolding endOf
   ends-so p chain = go (ltb had most) refl
     where
-      go : (b : Bool) → ltb had most ≡ b → (if ltb had most then finished (tally (into (had + 1))) else stopped number p chain) ≡ endOf written-out p chain
+      go : (b : Bool) → ltb had most ≡ b → (if ltb had most then finished (tally (into (had + 1))) else stopped (record { number = number; place = p }) chain) ≡ endOf written-out p chain
       go true e = rw e refl
       go false e = rw e refl
 
@@ -75,7 +75,7 @@ module _ (c : Counts) {r : Counted} (k : CountsCall c r) where
   pub call-goes : (c′ : Counts) → r ≡ More c′ → (p : ℕ) (chain : Chain) (d : Definition) → counted (tally c) (called p chain d) ≡ finished (tally c′)
   call-goes c′ q p chain d = goes-so p chain (k .ends p chain d) c′ q
 
-  pub call-stops : (n : ℕ) → r ≡ Full n → (p : ℕ) (chain : Chain) (d : Definition) → counted (tally c) (called p chain d) ≡ stopped n p chain
+  pub call-stops : (n : ℕ) → r ≡ Full n → (p : ℕ) (chain : Chain) (d : Definition) → counted (tally c) (called p chain d) ≡ stopped (record { number = n; place = p }) chain
   call-stops n q p chain d = stops-so p chain (k .ends p chain d) n q
 
   pub call-more : (c′ : Counts) → r ≡ More c′ → (c .calls < mostCalls) × (c′ ≡ withCalls c (c .calls + 1))
@@ -92,7 +92,7 @@ module _ (c : Counts) {r : Counted} (k : CountsShape c r) where
   pub shape-goes : (c′ : Counts) → r ≡ More c′ → (d : Drawn) → counted (tally c) (drew d) ≡ finished (tally c′)
   shape-goes c′ q d = goes-so (d .place) (d .chain) (k .ends d) c′ q
 
-  pub shape-stops : (n : ℕ) → r ≡ Full n → (d : Drawn) → counted (tally c) (drew d) ≡ stopped n (d .place) (d .chain)
+  pub shape-stops : (n : ℕ) → r ≡ Full n → (d : Drawn) → counted (tally c) (drew d) ≡ stopped (record { number = n; place = d .place }) (d .chain)
   shape-stops n q d = stops-so (d .place) (d .chain) (k .ends d) n q
 
   pub shape-more : (c′ : Counts) → r ≡ More c′ → (c .shapes < mostShapes) × (c′ ≡ withShapes c (c .shapes + 1))

@@ -54,7 +54,7 @@ answered refusal c = if eqb refusal 0 then More c else Full refusal
 -- how the definition says what is answered at a place and under open calls: one definition for both cases, with document 01's number in it
 unfoldable pub endOf : Counted → ℕ → Chain → End
 endOf (More c) p chain = finished (tally c)
-endOf (Full number) p chain = stopped number p chain
+endOf (Full number) p chain = stopped (record { number = number; place = p }) chain
 
 -- the contracts by value: the answer written out, and that it is the definition's
 pub record CountsCall (c : Counts) (r : Counted) : Type 0 where
