@@ -24,14 +24,14 @@ use Rattle.shapes.specs.declared.Drawn.the-variants.{Done, Refused}
 use Rattle.counts.specs.Counting.{tally}
 use Rattle.shapes.specs.Painting.{goingBy, until, inked, bytesOf, Reached, Goes, Answered, Painted}
 
-pub never : (n p : ℕ) (chain : Chain) (c : Tally) → stopped n p chain ≡ finished c → ⊥
-never n p chain c e = let z : _≡_ {A = ℕ} 0 1 = cc in omega arith
+pub never : (why : Refusal) (chain : Chain) (c : Tally) → stopped why chain ≡ finished c → ⊥
+never why chain c e = let z : _≡_ {A = ℕ} 0 1 = cc in omega arith
 
 -- ---- the events before the first refusal, of joined events
 
 unfoldable pub further : End → List Event → List Event
 further (finished c) b = until c b
-further (stopped n p chain) b = []
+further (stopped why chain) b = []
 
 pub until-++ : (c : Tally) (a b : List Event) → until c (a ++ b) ≡ until c a ++ further (ending c a) b
 unfolding until ending further
@@ -40,7 +40,7 @@ until-++ c (e ∷ a) b = go (counted c e) (λ c′. until-++ c′ a b)
   where
     go : (x : End) → ((c′ : Tally) → until c′ (a ++ b) ≡ until c′ a ++ further (ending c′ a) b) → goingBy x e (λ c′. until c′ (a ++ b)) ≡ goingBy x e (λ c′. until c′ a) ++ further (goOn x (λ c′. ending c′ a)) b
     go (finished c′) f = unfold goingBy goOn in ap (λ (l : List Event). e ∷ l) (f c′)
-    go (stopped n p chain) f = unfold goingBy goOn further in refl
+    go (stopped why chain) f = unfold goingBy goOn further in refl
 
 -- where all happens, all is before the end
 pub until-all : (c : Tally) (es : List Event) (c′ : Tally) → ending c es ≡ finished c′ → until c es ≡ es
@@ -50,7 +50,7 @@ until-all c (x ∷ es) c′ e = go (counted c x) (λ d. until-all d es c′) e
   where
     go : (y : End) → ((d : Tally) → ending d es ≡ finished c′ → until d es ≡ es) → goOn y (λ d. ending d es) ≡ finished c′ → goingBy y x (λ d. until d es) ≡ x ∷ es
     go (finished d) f h = unfold goingBy goOn in ap (λ (l : List Event). x ∷ l) (f d (unfold goOn in h))
-    go (stopped n p chain) f h = absurd (never n p chain c′ (unfold goOn in h))
+    go (stopped why chain) f h = absurd (never why chain c′ (unfold goOn in h))
 
 -- ---- one after another
 
@@ -77,7 +77,7 @@ quiet ink c e room h n k = record {
 }
 
 -- a refusal, before anything is drawn
-pub refusal : (ink : Ink) (e : Event) (es : List Event) (room : List ℕ) (why : Refusal) (chain : Chain) → counted (tally (ink .counts)) e ≡ stopped (why .number) (why .place) chain
+pub refusal : (ink : Ink) (e : Event) (es : List Event) (room : List ℕ) (why : Refusal) (chain : Chain) → counted (tally (ink .counts)) e ≡ stopped why chain
     → Painted ink (e ∷ es) room (Refused why) room
 unfolding Answered until ending goingBy goOn shapesOf lines
 refusal ink e es room why chain h = record { answer = (chain, rw h); laid = rw h }

@@ -53,7 +53,7 @@ module _ {words : List ℤ} {letter end : ℕ} (h : ShapedAt words letter end) (
     tested : any beyond (both (moved ts k .points)) ≡ far
     tested = ap (λ (x : Shape ℤ). any beyond (both (x .points))) (sym (placed-moved ts net carries k)) ∙ sym (m .test)
 
-    is-far : far ≡ true → event ≡ refused 16 p chain
+    is-far : far ≡ true → event ≡ refused (refusing 16) chain
     unfolding drawShape
     is-far e = rw (tested ∙ e)
 
@@ -65,7 +65,7 @@ module _ {words : List ℤ} {letter end : ℕ} (h : ShapedAt words letter end) (
       pub shape-far : far ≡ true → Painted ink (event ∷ []) room (Refused (refusing 16)) room
       shape-far e =
           subst (λ (x : Event). Painted ink (x ∷ []) room (Refused (refusing 16)) room) (sym (is-far e))
-          (refusal ink (refused 16 p chain) [] room (refusing 16) chain (unfold counted in refl))
+          (refusal ink (refused (refusing 16) chain) [] room (refusing 16) chain (unfold counted in refl))
 
       pub shape-many : far ≡ false → {a : Counted} → CountsShape (ink .counts) a → (n : ℕ) → a ≡ Full n → Painted ink (event ∷ []) room (Refused (refusing n)) room
       shape-many e count n q =

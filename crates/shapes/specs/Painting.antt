@@ -28,7 +28,7 @@ use Rattle.shapes.specs.declared.Drawn.the-variants.{Done, Refused}
 -- the events before the first that is refused
 unfoldable pub goingBy : End → Event → (Tally → List Event) → List Event
 goingBy (finished c) e more = e ∷ more c
-goingBy (stopped n p chain) e more = []
+goingBy (stopped why chain) e more = []
 
 unfoldable pub until : Tally → List Event → List Event
 until c [] = []
@@ -60,7 +60,7 @@ pub record Goes (ink : Ink) (es : List Event) (ink′ : Ink) : Type 0 where
 
 unfoldable pub Answered : Ink → List Event → Drawn → Type 0
 Answered ink es (Done ink′) = Goes ink es ink′
-Answered ink es (Refused why) = (chain : Chain) × (ending (tally (ink .counts)) es ≡ stopped (why .number) (why .place) chain)
+Answered ink es (Refused why) = (chain : Chain) × (ending (tally (ink .counts)) es ≡ stopped why chain)
 
 -- the contract of every function that draws
 pub record Painted (ink : Ink) (es : List Event) (room : List ℕ) (r : Drawn) (room′ : List ℕ) : Type 0 where
