@@ -12,12 +12,12 @@ use lib.Dec.{eqb, ltb}
 use lib.IntN.{ℤ}
 use Rattle.definition.specs.Words.{if_then_else_, any, none?}
 use Rattle.definition.specs.Commands.{Turn}
-use Rattle.definition.specs.Table.{Definition}
-use Rattle.definition.specs.Drawing.{Chain, Event, called, refused, callFault, unless}
+use Rattle.definition.specs.Table.{Definition, Table, find}
+use Rattle.definition.specs.Drawing.{Chain, Event, called, refused, Passage, barred, leads, passageTo, passageOf, through}
 use Rattle.definition.specs.Counts.{End, finished, stopped, counted}
 use Rattle.definition.specs.Counts.{counts as tallied, Counts as Tally}
 use Rattle.definition.specs.Limits.{mostCalls}
-use Rattle.definition.specs.declared.Refusal.{Refusal}
+use Rattle.definition.specs.Rules.{Rule, offTheAxes, undefinedSymbol, beingDrawn, tooDeep, tooManyCalls, refuse}
 use Rattle.table.specs.declared.Row.{Row}
 use Rattle.table.specs.declared.Found.{Found}
 use Rattle.table.specs.declared.Found.the-variants.{Live, Nothing}
@@ -58,70 +58,73 @@ true-false e = let z : _≡_ {A = ℕ} 0 1 = cc in omega arith
 -- ---- the definition's events of a call
 
 module _ (p : ℕ) (chain : Chain) where
-  refused-first : (c : Counts) (n : ℕ) (fault : Option ℕ) (found : Option Definition) (go : Definition → List Event) → fault ≡ some n
-      → Stops c (unless fault p chain found go) (record { number = n; place = p }) chain
-  unfolding unless counted
-  refused-first c n fault found go e = record { event = refused n p chain; rest = []; are = rw e; stops = refl }
+  refused-first : (c : Counts) (r : Rule) (x : Passage) (go : Definition → List Event) → x ≡ barred r → Stops c (through x p chain go) (refuse r p) chain
+  unfolding through counted
+  refused-first c r x go e = record { event = refused (refuse r p) chain; rest = []; are = rw e; stops = refl }
 
-  pub called-first : (fault : Option ℕ) (found : Option Definition) (go : Definition → List Event) → fault ≡ none → (d : Definition) → found ≡ some d
-      → unless fault p chain found go ≡ called p chain d ∷ go d
-  unfolding unless
-  called-first fault found go e d q = rw (e, q)
+  pub called-first : (x : Passage) (go : Definition → List Event) (d : Definition) → x ≡ leads d → through x p chain go ≡ called p chain d ∷ go d
+  unfolding through
+  called-first x go d e = rw e
 
-some-found : (found : Option Definition) → none? found ≡ false → (d : Definition) × (found ≡ some d)
-some-found none e = absurd (true-false e)
-some-found (some d) e = (d, refl)
+no-definition : (found : Option Definition) → none? found ≡ true → found ≡ none
+no-definition none e = refl
+no-definition (some d) e = absurd (true-false (sym e))
+
+some-definition : (found : Option Definition) → none? found ≡ false → (d : Definition) × (found ≡ some d)
+some-definition none e = absurd (true-false e)
+some-definition (some d) e = (d, refl)
 
 -- ---- test after test
 
 module _ (rows : List Row) (busy : List ℕ) (call : Call) (left : ℕ) where
-  faulty : (c : Counts) (number : ℕ)
-      → ((found : Option Definition) (chain : Chain) (ts : List (Turn ℤ)) → Fitting rows busy call found chain ts → callFault left found chain (call .symbol) ts ≡ some number)
-      → Opens rows busy left call c (Refused (record { number = number; place = call .place }))
+  faulty : (c : Counts) (r : Rule)
+      → ((table : Table) (chain : Chain) (ts : List (Turn ℤ)) → Fitting rows busy call table chain ts → passageOf left table chain (call .symbol) ts ≡ barred r)
+      → Opens rows busy left call c (Refused (refuse r (call .place)))
   unfolding Opens
-  faulty c number f found chain ts h go = refused-first (call .place) chain c number (callFault left found chain (call .symbol) ts) found go (f found chain ts h)
+  faulty c r f table chain ts h go = refused-first (call .place) chain c r (passageOf left table chain (call .symbol) ts) go (f table chain ts h)
 
-  pub askew-call : (c : Counts) → call .askew ≡ true → Opens rows busy left call c (Refused (record { number = 11; place = call .place }))
-  askew-call c e = faulty c 11 (λ found chain ts h. unfold callFault in rw (sym (h .askew) ∙ e))
+  pub askew-call : (c : Counts) → call .askew ≡ true → Opens rows busy left call c (Refused (refuse offTheAxes (call .place)))
+  askew-call c e = faulty c offTheAxes (λ table chain ts h. unfold passageOf in rw (sym (h .askew) ∙ e))
 
   module _ (straight : call .askew ≡ false) {r : Found} (is : r ≡ foundBy (findRow (call .symbol) rows)) where
-    is-unknown : r ≡ Nothing → {found : Option Definition} {chain : Chain} {ts : List (Turn ℤ)} → Fitting rows busy call found chain ts → none? found ≡ true
-    is-unknown q h = h .known ∙ ap none? (none-found (findRow (call .symbol) rows) (sym is ∙ q))
+    is-unknown : r ≡ Nothing → {table : Table} {chain : Chain} {ts : List (Turn ℤ)} → Fitting rows busy call table chain ts → find (call .symbol) table ≡ none
+    is-unknown q {table} h = no-definition (find (call .symbol) table) (h .known ∙ ap none? (none-found (findRow (call .symbol) rows) (sym is ∙ q)))
 
-    pub unknown-call : (c : Counts) → r ≡ Nothing → Opens rows busy left call c (Refused (record { number = 12; place = call .place }))
-    unknown-call c q = faulty c 12 (λ found chain ts h. unfold callFault in rw (sym (h .askew) ∙ straight, is-unknown q h))
+    pub unknown-call : (c : Counts) → r ≡ Nothing → Opens rows busy left call c (Refused (refuse undefinedSymbol (call .place)))
+    unknown-call c q = faulty c undefinedSymbol (λ table chain ts h. unfold passageOf passageTo in rw (sym (h .askew) ∙ straight, is-unknown q h))
 
     module _ {row : Row} (q : r ≡ Live row) {o : Bool} (busy-is : o ≡ any (λ x. eqb x (call .symbol)) busy) where
       row-is : findRow (call .symbol) rows ≡ some row
       row-is = live-found (findRow (call .symbol) rows) (sym is ∙ q)
 
       -- what is found, and whether the symbol is among the open ones
-      is-known : {found : Option Definition} {chain : Chain} {ts : List (Turn ℤ)} → Fitting rows busy call found chain ts → none? found ≡ false
-      is-known h = h .known ∙ ap none? row-is
+      is-known : {table : Table} {chain : Chain} {ts : List (Turn ℤ)} → Fitting rows busy call table chain ts → (d : Definition) × (find (call .symbol) table ≡ some d)
+      is-known {table} h = some-definition (find (call .symbol) table) (h .known ∙ ap none? row-is)
 
-      is-busy : {found : Option Definition} {chain : Chain} {ts : List (Turn ℤ)} → Fitting rows busy call found chain ts → any (λ c. eqb (c .what) (call .symbol)) chain ≡ o
+      is-busy : {table : Table} {chain : Chain} {ts : List (Turn ℤ)} → Fitting rows busy call table chain ts → any (λ c. eqb (c .what) (call .symbol)) chain ≡ o
       is-busy {chain = chain} h = symbols-any (call .symbol) chain ∙ ap (any (λ x. eqb x (call .symbol))) (h .open-are) ∙ sym busy-is
 
-      pub open-call : (c : Counts) → o ≡ true → Opens rows busy left call c (Refused (record { number = 13; place = call .place }))
-      open-call c e = faulty c 13 (λ found chain ts h. unfold callFault in rw (sym (h .askew) ∙ straight, is-known h, is-busy h ∙ e))
+      pub open-call : (c : Counts) → o ≡ true → Opens rows busy left call c (Refused (refuse beingDrawn (call .place)))
+      open-call c e = faulty c beingDrawn (λ table chain ts h. unfold passageOf passageTo in rw (sym (h .askew) ∙ straight, is-known h .1, is-busy h ∙ e))
 
       module _ (idle : o ≡ false) where
-        pub deep-call : (c : Counts) → left ≡ 0 → Opens rows busy left call c (Refused (record { number = 14; place = call .place }))
-        deep-call c e = faulty c 14 (λ found chain ts h. unfold callFault in rw (sym (h .askew) ∙ straight, is-known h, is-busy h ∙ idle, eq-eqb left 0 e))
+        pub deep-call : (c : Counts) → left ≡ 0 → Opens rows busy left call c (Refused (refuse tooDeep (call .place)))
+        deep-call c e = faulty c tooDeep (λ table chain ts h. unfold passageOf passageTo in rw (sym (h .askew) ∙ straight, is-known h .1, is-busy h ∙ idle, eq-eqb left 0 e))
 
         module _ (some-left : left ≡ 0 → ⊥) where
-          faultless : {found : Option Definition} {chain : Chain} {ts : List (Turn ℤ)} → Fitting rows busy call found chain ts → callFault left found chain (call .symbol) ts ≡ none
-          faultless h = unfold callFault in rw (sym (h .askew) ∙ straight, is-known h, is-busy h ∙ idle, ne-eqb left 0 some-left)
+          faultless : {table : Table} {chain : Chain} {ts : List (Turn ℤ)} → Fitting rows busy call table chain ts → (d : Definition) → find (call .symbol) table ≡ some d
+              → passageOf left table chain (call .symbol) ts ≡ leads d
+          faultless h d e = unfold passageOf passageTo in rw (sym (h .askew) ∙ straight, e, is-busy h ∙ idle, ne-eqb left 0 some-left)
 
           module _ {c : Counts} {a : Counted} (count : CountsCall c a) where
             pub many-calls : {number : ℕ} → a ≡ Full number → Opens rows busy left call c (Refused (record { number = number; place = call .place }))
             unfolding Opens
-            many-calls {number} full found chain ts h go =
-                let (d, q) = some-found found (is-known h) in
+            many-calls {number} full table chain ts h go =
+                let (d, q) = is-known h in
                 record {
                   event = called (call .place) chain d;
                   rest = go d;
-                  are = called-first (call .place) chain (callFault left found chain (call .symbol) ts) found go (faultless h) d q;
+                  are = called-first (call .place) chain (passageOf left table chain (call .symbol) ts) go d (faultless h d q);
                   stops = call-stops c count number full (call .place) chain d;
                 }
 
@@ -130,7 +133,7 @@ module _ (rows : List Row) (busy : List ℕ) (call : Call) (left : ℕ) where
             goes-down {more} e = record {
               is-row = row-is;
               some-left = some-left;
-              no-fault = λ found chain ts h. faultless h;
+              no-fault = λ table chain ts h d q. faultless h d q;
               counts-it = λ chain d. call-goes c count more e (call .place) chain d;
             }
 
@@ -140,7 +143,7 @@ pub counted-few : (c more : Counts) (p : ℕ) → ((chain : Chain) (d : Definiti
 unfolding counted
 counted-few c more p e = go (ltb (c .calls) mostCalls) refl (e [] (record { symbol = 0; place = 0; body = [] }))
   where
-    go : (b : Bool) → ltb (c .calls) mostCalls ≡ b → (if b then finished (tallied (c .calls + 1) (c .shapes) (c .redefinitions)) else stopped 15 p []) ≡ finished (tally more)
+    go : (b : Bool) → ltb (c .calls) mostCalls ≡ b → (if b then finished (tallied (c .calls + 1) (c .shapes) (c .redefinitions)) else stopped (refuse tooManyCalls p) []) ≡ finished (tally more)
         → (more .calls ≤ mostCalls) × (more .shapes ≡ c .shapes)
     go true f q =
         let same : tallied (c .calls + 1) (c .shapes) (c .redefinitions) ≡ tally more = cc in
