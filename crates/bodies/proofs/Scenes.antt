@@ -57,7 +57,7 @@ module _ {t : List ℕ} {rows : List Row} {table : Table} (n : ℕ) (s : Stands 
 
 -- the call that the code's numbers stand for in a scene
 pub fitting : {t : List ℕ} {rows : List Row} {drawing : List ℕ} {level : ℕ} (s : Scene t rows drawing level) (call : Call) {ts : List (Turn ℤ)} → call .askew ≡ offAxes ts
-    → Fitting rows (take level drawing) call (find (call .symbol) (s .table)) (s .chain) ts
+    → Fitting rows (take level drawing) call (s .table) (s .chain) ts
 fitting s call e = record { known = both-known (call .symbol) (s .stands); open-are = s .open-are; askew = e }
 
 pub joined-symbols : (chain : Chain) (p n : ℕ) → map (λ c. c .what) (chain ++ (at p n ∷ [])) ≡ map (λ c. c .what) chain ++ (n ∷ [])

@@ -88,7 +88,7 @@ module _ (table : Table) (d : Definition) (c : Counts) where
   unfolding happens
   fits-in h = rw (le-ltb 512 (length (enter d table)) h)
 
-  too-much : length (enter d table) ≡ 513 → happens table (define d) ≡ refused 10 (d .place) [] ∷ []
+  too-much : length (enter d table) ≡ 513 → happens table (define d) ≡ refused (overfull (d .place)) [] ∷ []
   unfolding happens
   too-much e = rw e
 
@@ -106,7 +106,7 @@ module _ (table : Table) (d : Definition) (c : Counts) where
   refused-so : length (enter d table) ≡ 513 → (pen : Pen) (room : List ℕ) → Painted (inked c pen) (happens table (define d)) room (Refused (overfull (d .place))) room
   refused-so e pen room =
       subst (λ (es : List Event). Painted (inked c pen) es room (Refused (overfull (d .place))) room) (sym (too-much e))
-      (refusal (inked c pen) (refused 10 (d .place) []) [] room (overfull (d .place)) [] (unfold counted in refl))
+      (refusal (inked c pen) (refused (overfull (d .place)) []) [] room (overfull (d .place)) [] (unfold counted in refl))
 
 -- ---- the row of a definition, by the words of its DS
 

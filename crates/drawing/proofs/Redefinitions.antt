@@ -13,8 +13,9 @@ use Rattle.definition.specs.Commands.{Shape, Turn, Command, draw, layer, call, 
 use Rattle.definition.specs.Standing.{Standing, scaledShape}
 use Rattle.definition.specs.Faults.{beyond, both}
 use Rattle.definition.specs.Turns.{moved}
+use Rattle.definition.specs.Rules.{outOfRange, refuse}
 use Rattle.definition.specs.Table.{Step, shape, instance, setting, Definition, Table, find}
-use Rattle.definition.specs.Drawing.{Chain, Event, called, drew, entered, removed, refused, drawShape, drawStep, drawBody, callFault, unless, drawCall}
+use Rattle.definition.specs.Drawing.{Chain, Event, called, drew, entered, removed, refused, drawShape, drawStep, drawBody, Passage, barred, leads, passageOf, through, drawCall}
 use Rattle.laws.proofs.Story.Counting.{redefinitionsOf, counted-all}
 use Rattle.shapes.specs.declared.Ink.{Ink}
 use Rattle.counts.specs.Counting.{tally}
@@ -30,7 +31,7 @@ both-bare [] b f g = g
 both-bare (called p chain d ∷ a) b f g = both-bare a b f g
 both-bare (drew d ∷ a) b f g = both-bare a b f g
 both-bare (removed n before ∷ a) b f g = both-bare a b f g
-both-bare (refused n p chain ∷ a) b f g = both-bare a b f g
+both-bare (refused r chain ∷ a) b f g = both-bare a b f g
 both-bare (entered d before ∷ a) b f g = go (none? (find (d .symbol) before)) f (both-bare a b)
   where
     go : (q : Bool) → (if q then redefinitionsOf a else d ∷ redefinitionsOf a) ≡ [] → (Bare a → Bare b → Bare (a ++ b))
@@ -42,7 +43,7 @@ shape-bare : (chain : Chain) (net : List (Turn ℤ)) (p : ℕ) (l : List ℕ) (k
 unfolding drawShape redefinitionsOf
 shape-bare chain net p l k = go (any beyond (both (moved net k .points)))
   where
-    go : (b : Bool) → Bare ((if b then refused 16 p chain else drew (record { place = p; chain = chain; net = net; layer-of = l; itself = moved net k })) ∷ [])
+    go : (b : Bool) → Bare ((if b then refused (refuse outOfRange p) chain else drew (record { place = p; chain = chain; net = net; layer-of = l; itself = moved net k })) ∷ [])
     go true = unfold redefinitionsOf in refl
     go false = unfold redefinitionsOf in refl
 
@@ -57,18 +58,17 @@ body-bare f chain net h (s ∷ ss) = both-bare (drawStep f chain net (s .place) 
     go (instance n ts) = unfold drawStep in h (s .place) n ts
     go (setting l) = unfold drawStep redefinitionsOf in refl
 
-unless-bare : (o : Option ℕ) (p : ℕ) (chain : Chain) (found : Option Definition) (go : Definition → List Event) → ((d : Definition) → Bare (go d)) → Bare (unless o p chain found go)
-unfolding unless redefinitionsOf
-unless-bare (some n) p chain found go h = refl
-unless-bare none p chain none go h = refl
-unless-bare none p chain (some d) go h = h d
+through-bare : (x : Passage) (p : ℕ) (chain : Chain) (go : Definition → List Event) → ((d : Definition) → Bare (go d)) → Bare (through x p chain go)
+unfolding through redefinitionsOf
+through-bare (barred r) p chain go h = refl
+through-bare (leads d) p chain go h = h d
 
 call-bare : (left : ℕ) (t : Table) (chain : Chain) (net : List (Turn ℤ)) (p n : ℕ) (ts : List (Turn ℤ)) → Bare (drawCall left t chain net p n ts)
 unfolding drawCall
-call-bare zero t chain net p n ts = unless-bare (callFault 0 (find n t) chain n ts) p chain (find n t) (λ d. []) (λ d. unfold redefinitionsOf in refl)
+call-bare zero t chain net p n ts = through-bare (passageOf 0 t chain n ts) p chain (λ d. []) (λ d. unfold redefinitionsOf in refl)
 call-bare (suc left) t chain net p n ts =
     let deeper : Chain = chain ++ (at p n ∷ []) in
-    unless-bare (callFault (suc left) (find n t) chain n ts) p chain (find n t) (λ d. drawBody (drawCall left t deeper (ts ++ net)) deeper (ts ++ net) (d .body))
+    through-bare (passageOf (suc left) t chain n ts) p chain (λ d. drawBody (drawCall left t deeper (ts ++ net)) deeper (ts ++ net) (d .body))
     (λ d. body-bare (drawCall left t deeper (ts ++ net)) deeper (ts ++ net) (call-bare left t deeper (ts ++ net)) (d .body))
 
 drawn-bare : (t : Table) (σ : Standing) (p : ℕ) (d : Command) → Bare (drawnBy t σ p d)
