@@ -9,7 +9,6 @@ use borrow.Author.Tests.{eqb-true, eqb-false}
 use lib.Dec.{eqb}
 use lib.IntN.{ℤ, pos, natAbs}
 use lib.ListN.{length}
-use Rattle.definition.specs.Words.{any}
 use Rattle.definition.specs.Commands.{Number, Shape, Turn, Kind, box, flash, wire, polygon, Command, draw, layer, call, start, finish, delete, nothing}
 use Rattle.definition.specs.Standing.{Standing, scaledShape, scaledTurn}
 use Rattle.definition.specs.Flat.{letterOf}
@@ -21,6 +20,7 @@ use Rattle.rules.specs.Letters.{letterC, letterD, letterL}
 use Rattle.rules.specs.Written.{Written, insideBehind}
 use Rattle.bodies.specs.Voices.{Voice, a-shape, a-call, a-layer, a-start, a-finish, a-delete, a-nothing}
 use Rattle.moves.specs.Moves.{Shaped}
+use Rattle.rules.specs.Rules.{shapely}
 
 -- no shape has the letter of another command
 record Drawable (n : ℕ) : Type 0 where
@@ -118,25 +118,22 @@ module _ {σ : Standing} {c : Written} {l : ℕ} {vs : List ℤ} where
   is-idle (a-start e v i b s t j) o k m n f = absurd (let z : _≡_ {A = Bool} true false = sym o ∙ i in let y : _≡_ {A = ℕ} 0 1 = cc in omega arith)
   is-idle (a-delete e v i) o k m n f = absurd (let z : _≡_ {A = Bool} true false = sym o ∙ i in let y : _≡_ {A = ℕ} 0 1 = cc in omega arith)
 
--- ---- the test of `is_drawable`
+-- ---- the test of `rules::is_shape`
 
-abbrev drawn-letter : ℕ → Bool
-drawn-letter l = any (λ x. eqb l x) (66 ∷ 82 ∷ 87 ∷ 80 ∷ [])
-
-pub some-kind : (l : ℕ) → drawn-letter l ≡ true → (x : Kind) × (l ≡ letterOf x)
-unfolding any letterOf
-some-kind l e = go (eqb l 66) (eqb l 82) (eqb l 87) (eqb l 80) refl refl refl refl e
+pub some-kind : (l : ℕ) → shapely l ≡ true → (x : Kind) × (l ≡ letterOf x)
+unfolding shapely letterOf
+some-kind l e = go (eqb l 66) (eqb l 80) (eqb l 82) (eqb l 87) refl refl refl refl e
   where
-    go : (b r w p : Bool) → eqb l 66 ≡ b → eqb l 82 ≡ r → eqb l 87 ≡ w → eqb l 80 ≡ p → (b || (r || (w || (p || false)))) ≡ true → (x : Kind) × (l ≡ letterOf x)
-    go true r w p f g h i e = (box, eqb-true l 66 f)
-    go false true w p f g h i e = (flash, eqb-true l 82 g)
-    go false false true p f g h i e = (wire, eqb-true l 87 h)
-    go false false false true f g h i e = (polygon, eqb-true l 80 i)
+    go : (b p r w : Bool) → eqb l 66 ≡ b → eqb l 80 ≡ p → eqb l 82 ≡ r → eqb l 87 ≡ w → (b || (p || (r || w))) ≡ true → (x : Kind) × (l ≡ letterOf x)
+    go true p r w f g h i e = (box, eqb-true l 66 f)
+    go false true r w f g h i e = (polygon, eqb-true l 80 g)
+    go false false true w f g h i e = (flash, eqb-true l 82 h)
+    go false false false true f g h i e = (wire, eqb-true l 87 i)
     go false false false false f g h i e = absurd (let y : _≡_ {A = ℕ} 0 1 = cc in omega arith)
 
-pub no-kind : (l : ℕ) → drawn-letter l ≡ false → (x : Kind) → l ≡ letterOf x → ⊥
-unfolding any letterOf
+pub no-kind : (l : ℕ) → shapely l ≡ false → (x : Kind) → l ≡ letterOf x → ⊥
+unfolding shapely letterOf
 no-kind l e box = eqb-false l 66 (or-first _ _ e)
-no-kind l e flash = eqb-false l 82 (or-first _ _ (or-second (eqb l 66) _ e))
-no-kind l e wire = eqb-false l 87 (or-first _ _ (or-second (eqb l 82) _ (or-second (eqb l 66) _ e)))
-no-kind l e polygon = eqb-false l 80 (or-first _ _ (or-second (eqb l 87) _ (or-second (eqb l 82) _ (or-second (eqb l 66) _ e))))
+no-kind l e polygon = eqb-false l 80 (or-first _ _ (or-second (eqb l 66) _ e))
+no-kind l e flash = eqb-false l 82 (or-first _ _ (or-second (eqb l 80) _ (or-second (eqb l 66) _ e)))
+no-kind l e wire = eqb-false l 87 (or-second (eqb l 82) _ (or-second (eqb l 80) _ (or-second (eqb l 66) _ e)))

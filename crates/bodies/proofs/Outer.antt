@@ -11,6 +11,7 @@ use lib.ListN.{length, length-map}
 use Rattle.definition.specs.Words.{any}
 use Rattle.definition.specs.Commands.{Number, Shape, Turn, Kind, Command, draw, call}
 use Rattle.definition.specs.Standing.{Standing, scaledShape, scaledTurn}
+use Rattle.rules.specs.Rules.{shapely}
 use Rattle.definition.specs.Table.{Table}
 use Rattle.definition.specs.Drawing.{Event, drawShape, drawCall}
 use Rattle.definition.specs.Flat.{letterOf}
@@ -69,7 +70,7 @@ module _ {words : List ℤ} {kind end : ℕ} (h : Speaks words kind end) where
 
   -- ---- a shape
 
-  module _ (e : any (λ x. eqb kind x) (66 ∷ 82 ∷ 87 ∷ 80 ∷ []) ≡ true) (long : mostValues + 2 ≤ length words) where
+  module _ (e : shapely kind ≡ true) (long : mostValues + 2 ≤ length words) where
     pub one-shape : (k : Shape Number) × (h .command ≡ draw k) × Shaped kind (h .values) (scaledShape σ k)
     one-shape = let i = some-kind kind e in is-shape (h .voice) (i .0) (i .1)
 
@@ -101,7 +102,7 @@ module _ {words : List ℤ} {kind end : ℕ} (h : Speaks words kind end) where
   none-drawn table p (a-delete e v o) f g = refl
   none-drawn table p (a-nothing s) f g = refl
 
-  pub nothing-painted : (kind ≡ letterC → ⊥) → any (λ x. eqb kind x) (66 ∷ 82 ∷ 87 ∷ 80 ∷ []) ≡ false → {ink : Ink} → Reached ink → (table : Table) (p : ℕ) (room : List ℕ)
+  pub nothing-painted : (kind ≡ letterC → ⊥) → shapely kind ≡ false → {ink : Ink} → Reached ink → (table : Table) (p : ℕ) (room : List ℕ)
       → Painted ink (drawnBy table σ p (h .command)) room (Done ink) room
   nothing-painted g e {ink} r table p room =
       subst (λ (es : List Event). Painted ink es room (Done ink) room) (sym (none-drawn table p (h .voice) (no-kind kind e) g)) (still ink room r)

@@ -6,7 +6,7 @@ use mathlib.Core.Bool.{Bool, true, false}
 use mathlib.Core.List.{List, [], _∷_, _++_, map}
 use Prim.Native.Nat.{ℕ, _+_, _-_, _*_, _^_, _≤_}
 use native.Mathlib.Omega.{arith}
-use lib.Dec.{T, eqb}
+use lib.Dec.{T}
 use lib.IntN.{ℤ, pos, natAbs}
 use lib.Signed.{nonNeg}
 use mir.Syntax.{w32}
@@ -49,6 +49,7 @@ use Rattle.bodies.proofs.Reading.{Met, meets, run-kept, speaks, spoken-
 use Rattle.bodies.proofs.Letters.{is-shape, is-call, is-finish, is-idle, some-kind, no-kind}
 use Rattle.bodies.proofs.Bodies.{Along, start-body, body-out, body-ended, body-did, body-stopped, shape-now, call-now, body-layer, body-idle}
 use Rattle.bodies.proofs.Carried.{some-list}
+use Rattle.rules.specs.Rules.{shapely}
 
 pub record Underway (t : List ℕ) (rows : List Row) (net : Net) (left from a b : ℕ) (ink₀ : Ink) (words₀ numbers₀ : List ℤ) (drawing₀ room₀ : List ℕ)
     (words numbers : List ℤ) (drawing room : List ℕ) (spot : Spot) (layer : ℕ) (ink : Ink) : Type 0 where
@@ -163,13 +164,13 @@ module _ {t : List ℕ} {rows : List Row} {net : Net} {left from a b : ℕ} {ink
         refl refl refl refl
 
     -- any other command
-    pub was-idle : (kind ≡ letterF → ⊥) → (kind ≡ letterL → ⊥) → (kind ≡ letterC → ⊥) → any (λ x. eqb kind x) (66 ∷ 82 ∷ 87 ∷ 80 ∷ []) ≡ false → Next words′ numbers drawing room l ink
+    pub was-idle : (kind ≡ letterF → ⊥) → (kind ≡ letterL → ⊥) → (kind ≡ letterC → ⊥) → shapely kind ≡ false → Next words′ numbers drawing room l ink
     was-idle f i j e =
         onward (λ s k outer h. let g = w .along s k outer h in body-idle g (met g) (is-idle (met g .voice) (g .opened) (no-kind kind e) j i f)) refl refl refl refl
 
     -- ---- a shape
 
-    module _ (a-shape : any (λ x. eqb kind x) (66 ∷ 82 ∷ 87 ∷ 80 ∷ []) ≡ true) where
+    module _ (a-shape : shapely kind ≡ true) where
       one-shape : {f : ℕ → ℕ → List (Turn ℤ) → List Event} {chain : Chain} {outer : List (Turn ℤ)} {all : List Event} (g : Along t a b f chain outer all ink₀ room₀ spot l ink room)
           → (k : Shape Number) × (met g .command ≡ draw k) × Shaped kind (met g .values) (scaledShape (g .standing) k)
       one-shape g = let i = some-kind kind a-shape in is-shape (met g .voice) (i .0) (i .1)

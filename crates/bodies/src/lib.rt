@@ -4,12 +4,9 @@ use shapes::Drawn;
 use shapes::Ink;
 ghost use mathlib.Core.Path.{_≡_};
 ghost use mathlib.Core.Bool.{true};
-ghost use mathlib.Core.List.{[], _∷_};
 ghost use Prim.Native.Nat.{_+_, _-_, _*_, _^_, _≤_};
-ghost use lib.Dec.{eqb};
 ghost use lib.ListN.{length, take};
 ghost use Rattle.grammar.specs.Steps.{KindsLent, NextLent};
-ghost use Rattle.definition.specs.Words.{any};
 ghost use Rattle.definition.specs.Limits.{mostBytes, deepest};
 ghost use Rattle.definition.specs.Table.{Table};
 ghost use Rattle.turns.specs.Nets.{Near};
@@ -177,7 +174,7 @@ fn draw_body<'a>(
                             return Drawn::Refused(refusal);
                         }
                     }
-                } else if is_drawable(kind) {
+                } else if rules::is_shape(kind) {
                     match shapes::draw_shape(
                         words,
                         numbers,
@@ -200,25 +197,6 @@ fn draw_body<'a>(
             }
         }
     }
-}
-
-// Whether the letter is a shape's.
-fn is_drawable(letter: u8) -> bool
-    ensures { λ r. ⌜ r ≡ any (λ x. eqb letter x) (66 ∷ 82 ∷ 87 ∷ 80 ∷ []) ⌝ }
-{
-    if letter == b'B' {
-        return true;
-    }
-    if letter == b'R' {
-        return true;
-    }
-    if letter == b'W' {
-        return true;
-    }
-    if letter == b'P' {
-        return true;
-    }
-    false
 }
 
 // A command outside of definitions that draws: a call (01: an executable call has depth 1) or a shape. Any other draws nothing.
@@ -273,7 +251,7 @@ pub fn draw_outer<'a>(
             ink,
         );
     }
-    if is_drawable(kind) {
+    if rules::is_shape(kind) {
         return shapes::draw_shape(words, numbers, room, kind, end, still, layer, place, ink);
     }
     Drawn::Done(ink)

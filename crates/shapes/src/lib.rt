@@ -44,7 +44,8 @@ pub fn draw_shape(
     if moves::move_shape(words, numbers, letter, end, net) {
         return Drawn::Refused(definition::Refusal { number: 16, place });
     }
-    match counts::count_shape(ink.counts) {
+    let had = ink.counts;
+    match counts::count_shape(had) {
         counts::Counted::Full(number) => {
             return Drawn::Refused(definition::Refusal { number, place });
         }

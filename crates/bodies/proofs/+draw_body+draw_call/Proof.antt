@@ -22,7 +22,7 @@ use Rattle.bodies.proofs.draw_call.Kinds as draw-call-kinds
 use Rattle.bodies.proofs.+draw_body+draw_call.Lts-draw_call as draw-call-lts
 use Rattle.bodies.proofs.body_at.Reads as body-at-reads
 use Rattle.shapes.proofs.draw_shape.Reads as draw-shape-reads
-use Rattle.bodies.proofs.is_drawable.Reads as is-drawable-reads
+use Rattle.rules.proofs.is_shape.Reads as is-shape-reads
 use Rattle.calls.proofs.open_call.Reads as open-call-reads
 use Rattle.calls.proofs.read_call.Reads as read-call-reads
 use Rattle.commands.proofs.read_command.Reads as read-command-reads
@@ -59,8 +59,8 @@ body-claims t = (
   read-call-reads.Learnt,
   draw-call-below t,
   draw-call.Post,
-  is-drawable-reads.Asked,
-  is-drawable-reads.Learnt,
+  is-shape-reads.Asked,
+  is-shape-reads.Learnt,
   draw-shape-reads.Asked,
   draw-shape-reads.Learnt,
 )
@@ -171,11 +171,11 @@ draw-body-same-length-12 t c = c .before .before .before .before .before .before
 draw-body-returns-3 : (t : ℕ) → draw-body-lts.Need-returns-3 (body-claims t) (draw-body-at t) draw-body.Post draw-body-Inv-loop draw-body-μ-loop
 draw-body-returns-3 t c = (call-refused (c .before .before .before .before .before .before .before .before .before .before .before .before .before .before .before .before .before .before .before .before .before .before .before .before .before .loop .inv) (c .before .before .before .before .before .before .before .before .before .before .before .before .before .before .before .before .before .before .before .before .before .before .before .before .before .before .before .before .before .before .pre .1 .1 .1 .1 .0 .0) (decoded (c .before .before .before .before .before .before .before .before .before .before .before .before .before .before .before .before .before .before .before .before .before .before .before .before .before .loop .inv) (c .before .before .before .before .before .before .before .before .before .before .before .before .before .before .before .before .before .before .before .before .before .before .before .read-command .result) (c .before .before .before .before .before .before .before .before .before .before .before .before .before .before .before .before .before .before .before .before .before .before .before .read-command .ensures) (c .before .before .before .before .before .before .before .before .before .before .before .before .before .before .before .before .before .before .before .before .kind .given .1) .1) (c .before .before .before .before .before .before .before .before .before .before .before .before .before .before .before .before .if3 .taken) (c .before .before .before .before .before .before .before .before .before .before .before .before .before .before .read-call .ensures) (c .before .before .before .before .before .before .before .before .before .draw-call .ensures .0) (c .before .refusal .given .1), c .before .before .before .before .before .before .before .before .before .draw-call .ensures .1 ∙ c .before .before .before .before .before .before .before .before .before .before .before .before .before .before .before .before .before .before .before .before .before .before .before .before .before .loop .inv .open-kept)
 
-draw-body-is-drawable-requires : (t : ℕ) → draw-body-lts.Need-is-drawable-requires (body-claims t) (draw-body-at t) draw-body.Post draw-body-Inv-loop draw-body-μ-loop
-draw-body-is-drawable-requires t c κs = search needs
+draw-body-is-shape-requires : (t : ℕ) → draw-body-lts.Need-is-shape-requires (body-claims t) (draw-body-at t) draw-body.Post draw-body-Inv-loop draw-body-μ-loop
+draw-body-is-shape-requires t c κs = search needs
 
 draw-body-draw-shape-requires : (t : ℕ) → draw-body-lts.Need-draw-shape-requires (body-claims t) (draw-body-at t) draw-body.Post draw-body-Inv-loop draw-body-μ-loop
-draw-body-draw-shape-requires t c κs = ((shape-asked (c .before .before .before .before .before .before .before .before .before .before .before .before .before .before .loop .inv) (c .before .before .before .before .before .before .before .before .before .before .before .before .before .before .before .before .before .before .before .pre .1 .1 .1 .1 .0 .0) (decoded (c .before .before .before .before .before .before .before .before .before .before .before .before .before .before .loop .inv) (c .before .before .before .before .before .before .before .before .before .before .before .before .read-command .result) (c .before .before .before .before .before .before .before .before .before .before .before .before .read-command .ensures) (c .before .before .before .before .before .before .before .before .before .kind .given .1) .1) (sym (c .before .before .before .before .is-drawable .ensures) ∙ c .before .before .before .if4 .taken), shape-within (c .before .before .before .before .before .before .before .before .before .before .before .before .before .before .loop .inv) (c .before .before .before .before .before .before .before .before .before .before .before .before .before .before .before .before .before .before .before .pre .1 .1 .1 .1 .0 .0) (decoded (c .before .before .before .before .before .before .before .before .before .before .before .before .before .before .loop .inv) (c .before .before .before .before .before .before .before .before .before .before .before .before .read-command .result) (c .before .before .before .before .before .before .before .before .before .before .before .before .read-command .ensures) (c .before .before .before .before .before .before .before .before .before .kind .given .1) .1) (sym (c .before .before .before .before .is-drawable .ensures) ∙ c .before .before .before .if4 .taken) (omega (arith, c .before .before .before .before .before .before .before .before .before .before .before .before .before .before .loop .inv .numbers-kept, c .before .before .before .before .before .before .before .before .before .before .before .before .before .before .before .before .before .before .before .pre .1 .1 .1 .1 .0 .1))), (near-more (omega arith) (c .before .before .before .before .before .before .before .before .before .before .before .before .before .before .before .before .before .before .before .pre .1 .1 .1 .1 .1 .0 .0), reached-here (c .before .before .before .before .before .before .before .before .before .before .before .before .before .before .loop .inv)))
+draw-body-draw-shape-requires t c κs = ((shape-asked (c .before .before .before .before .before .before .before .before .before .before .before .before .before .before .loop .inv) (c .before .before .before .before .before .before .before .before .before .before .before .before .before .before .before .before .before .before .before .pre .1 .1 .1 .1 .0 .0) (decoded (c .before .before .before .before .before .before .before .before .before .before .before .before .before .before .loop .inv) (c .before .before .before .before .before .before .before .before .before .before .before .before .read-command .result) (c .before .before .before .before .before .before .before .before .before .before .before .before .read-command .ensures) (c .before .before .before .before .before .before .before .before .before .kind .given .1) .1) (sym (c .before .before .before .before .is-shape .ensures) ∙ c .before .before .before .if4 .taken), shape-within (c .before .before .before .before .before .before .before .before .before .before .before .before .before .before .loop .inv) (c .before .before .before .before .before .before .before .before .before .before .before .before .before .before .before .before .before .before .before .pre .1 .1 .1 .1 .0 .0) (decoded (c .before .before .before .before .before .before .before .before .before .before .before .before .before .before .loop .inv) (c .before .before .before .before .before .before .before .before .before .before .before .before .read-command .result) (c .before .before .before .before .before .before .before .before .before .before .before .before .read-command .ensures) (c .before .before .before .before .before .before .before .before .before .kind .given .1) .1) (sym (c .before .before .before .before .is-shape .ensures) ∙ c .before .before .before .if4 .taken) (omega (arith, c .before .before .before .before .before .before .before .before .before .before .before .before .before .before .loop .inv .numbers-kept, c .before .before .before .before .before .before .before .before .before .before .before .before .before .before .before .before .before .before .before .pre .1 .1 .1 .1 .0 .1))), (near-more (omega arith) (c .before .before .before .before .before .before .before .before .before .before .before .before .before .before .before .before .before .before .before .pre .1 .1 .1 .1 .1 .0 .0), reached-here (c .before .before .before .before .before .before .before .before .before .before .before .before .before .before .loop .inv)))
 
 draw-body-enum-known-shown : (t : ℕ) → draw-body-lts.Need-enum-known-shown (body-claims t) (draw-body-at t) draw-body.Post draw-body-Inv-loop draw-body-μ-loop
 draw-body-enum-known-shown t c = c .match3 .keys1
@@ -184,7 +184,7 @@ draw-body-loop-less-3 : (t : ℕ) → draw-body-lts.Need-loop-less-3 (body-claim
 draw-body-loop-less-3 t c = omega (arith, decoded (c .before .before .before .before .before .before .before .before .before .before .before .before .before .before .before .before .before .before .before .before .before .loop .inv) (c .before .before .before .before .before .before .before .before .before .before .before .before .before .before .before .before .before .before .before .read-command .result) (c .before .before .before .before .before .before .before .before .before .before .before .before .before .before .before .before .before .before .before .read-command .ensures) (c .before .before .before .before .before .before .before .before .before .before .before .before .before .before .before .before .kind .given .1) .1 .ahead, decoded (c .before .before .before .before .before .before .before .before .before .before .before .before .before .before .before .before .before .before .before .before .before .loop .inv) (c .before .before .before .before .before .before .before .before .before .before .before .before .before .before .before .before .before .before .before .read-command .result) (c .before .before .before .before .before .before .before .before .before .before .before .before .before .before .before .before .before .before .before .read-command .ensures) (c .before .before .before .before .before .before .before .before .before .before .before .before .before .before .before .before .kind .given .1) .1 .fit .within)
 
 draw-body-loop-again-3 : (t : ℕ) → draw-body-lts.Need-loop-again-3 (body-claims t) (draw-body-at t) draw-body.Post draw-body-Inv-loop draw-body-μ-loop
-draw-body-loop-again-3 t c = was-shape (c .before .before .before .before .before .before .before .before .before .before .before .before .before .before .before .before .before .before .before .before .before .loop .inv) (c .before .before .before .before .before .before .before .before .before .before .before .before .before .before .before .before .before .before .before .before .before .before .before .before .before .before .pre .1 .1 .1 .1 .0 .0) (decoded (c .before .before .before .before .before .before .before .before .before .before .before .before .before .before .before .before .before .before .before .before .before .loop .inv) (c .before .before .before .before .before .before .before .before .before .before .before .before .before .before .before .before .before .before .before .read-command .result) (c .before .before .before .before .before .before .before .before .before .before .before .before .before .before .before .before .before .before .before .read-command .ensures) (c .before .before .before .before .before .before .before .before .before .before .before .before .before .before .before .before .kind .given .1) .1) (sym (c .before .before .before .before .before .before .before .before .before .before .before .is-drawable .ensures) ∙ c .before .before .before .before .before .before .before .before .before .before .if4 .taken) (c .before .before .before .before .before .before .draw-shape .ensures) (c .before .shown .given .1) (c .before .before .before .before .before .before .draw-shape .kept .1 .0)
+draw-body-loop-again-3 t c = was-shape (c .before .before .before .before .before .before .before .before .before .before .before .before .before .before .before .before .before .before .before .before .before .loop .inv) (c .before .before .before .before .before .before .before .before .before .before .before .before .before .before .before .before .before .before .before .before .before .before .before .before .before .before .pre .1 .1 .1 .1 .0 .0) (decoded (c .before .before .before .before .before .before .before .before .before .before .before .before .before .before .before .before .before .before .before .before .before .loop .inv) (c .before .before .before .before .before .before .before .before .before .before .before .before .before .before .before .before .before .before .before .read-command .result) (c .before .before .before .before .before .before .before .before .before .before .before .before .before .before .before .before .before .before .before .read-command .ensures) (c .before .before .before .before .before .before .before .before .before .before .before .before .before .before .before .before .kind .given .1) .1) (sym (c .before .before .before .before .before .before .before .before .before .before .before .is-shape .ensures) ∙ c .before .before .before .before .before .before .before .before .before .before .if4 .taken) (c .before .before .before .before .before .before .draw-shape .ensures) (c .before .shown .given .1) (c .before .before .before .before .before .before .draw-shape .kept .1 .0)
 
 draw-body-enum-known-refusal-2 : (t : ℕ) → draw-body-lts.Need-enum-known-refusal-2 (body-claims t) (draw-body-at t) draw-body.Post draw-body-Inv-loop draw-body-μ-loop
 draw-body-enum-known-refusal-2 t c = c .match3 .keys2
@@ -202,13 +202,13 @@ draw-body-same-length-16 : (t : ℕ) → draw-body-lts.Need-same-length-16 (body
 draw-body-same-length-16 t c = c .before .before .before .before .before .before .draw-shape .kept .1 .1 .0 ∙ room-here (c .before .before .before .before .before .before .before .before .before .before .before .before .before .before .before .before .before .before .before .before .before .loop .inv)
 
 draw-body-returns-4 : (t : ℕ) → draw-body-lts.Need-returns-4 (body-claims t) (draw-body-at t) draw-body.Post draw-body-Inv-loop draw-body-μ-loop
-draw-body-returns-4 t c = (shape-refused (c .before .before .before .before .before .before .before .before .before .before .before .before .before .before .before .before .before .before .before .before .before .loop .inv) (c .before .before .before .before .before .before .before .before .before .before .before .before .before .before .before .before .before .before .before .before .before .before .before .before .before .before .pre .1 .1 .1 .1 .0 .0) (decoded (c .before .before .before .before .before .before .before .before .before .before .before .before .before .before .before .before .before .before .before .before .before .loop .inv) (c .before .before .before .before .before .before .before .before .before .before .before .before .before .before .before .before .before .before .before .read-command .result) (c .before .before .before .before .before .before .before .before .before .before .before .before .before .before .before .before .before .before .before .read-command .ensures) (c .before .before .before .before .before .before .before .before .before .before .before .before .before .before .before .before .kind .given .1) .1) (sym (c .before .before .before .before .before .before .before .before .before .before .before .is-drawable .ensures) ∙ c .before .before .before .before .before .before .before .before .before .before .if4 .taken) (c .before .before .before .before .before .before .draw-shape .ensures) (c .before .refusal2 .given .1), c .before .before .before .before .before .before .before .before .before .before .before .before .before .before .before .before .before .before .before .before .before .loop .inv .open-kept)
+draw-body-returns-4 t c = (shape-refused (c .before .before .before .before .before .before .before .before .before .before .before .before .before .before .before .before .before .before .before .before .before .loop .inv) (c .before .before .before .before .before .before .before .before .before .before .before .before .before .before .before .before .before .before .before .before .before .before .before .before .before .before .pre .1 .1 .1 .1 .0 .0) (decoded (c .before .before .before .before .before .before .before .before .before .before .before .before .before .before .before .before .before .before .before .before .before .loop .inv) (c .before .before .before .before .before .before .before .before .before .before .before .before .before .before .before .before .before .before .before .read-command .result) (c .before .before .before .before .before .before .before .before .before .before .before .before .before .before .before .before .before .before .before .read-command .ensures) (c .before .before .before .before .before .before .before .before .before .before .before .before .before .before .before .before .kind .given .1) .1) (sym (c .before .before .before .before .before .before .before .before .before .before .before .is-shape .ensures) ∙ c .before .before .before .before .before .before .before .before .before .before .if4 .taken) (c .before .before .before .before .before .before .draw-shape .ensures) (c .before .refusal2 .given .1), c .before .before .before .before .before .before .before .before .before .before .before .before .before .before .before .before .before .before .before .before .before .loop .inv .open-kept)
 
 draw-body-loop-less-4 : (t : ℕ) → draw-body-lts.Need-loop-less-4 (body-claims t) (draw-body-at t) draw-body.Post draw-body-Inv-loop draw-body-μ-loop
 draw-body-loop-less-4 t c = omega (arith, decoded (c .before .before .before .before .before .before .before .before .before .before .before .loop .inv) (c .before .before .before .before .before .before .before .before .before .read-command .result) (c .before .before .before .before .before .before .before .before .before .read-command .ensures) (c .before .before .before .before .before .before .kind .given .1) .1 .ahead, decoded (c .before .before .before .before .before .before .before .before .before .before .before .loop .inv) (c .before .before .before .before .before .before .before .before .before .read-command .result) (c .before .before .before .before .before .before .before .before .before .read-command .ensures) (c .before .before .before .before .before .before .kind .given .1) .1 .fit .within)
 
 draw-body-loop-again-4 : (t : ℕ) → draw-body-lts.Need-loop-again-4 (body-claims t) (draw-body-at t) draw-body.Post draw-body-Inv-loop draw-body-μ-loop
-draw-body-loop-again-4 t c = was-idle (c .before .before .before .before .before .before .before .before .before .before .before .loop .inv) (c .before .before .before .before .before .before .before .before .before .before .before .before .before .before .before .before .pre .1 .1 .1 .1 .0 .0) (decoded (c .before .before .before .before .before .before .before .before .before .before .before .loop .inv) (c .before .before .before .before .before .before .before .before .before .read-command .result) (c .before .before .before .before .before .before .before .before .before .read-command .ensures) (c .before .before .before .before .before .before .kind .given .1) .1) (c .before .before .before .before .if1 .left) (c .before .before .before .if2 .left) (c .before .before .if3 .left) (sym (c .before .is-drawable .ensures) ∙ c .if4 .left)
+draw-body-loop-again-4 t c = was-idle (c .before .before .before .before .before .before .before .before .before .before .before .loop .inv) (c .before .before .before .before .before .before .before .before .before .before .before .before .before .before .before .before .pre .1 .1 .1 .1 .0 .0) (decoded (c .before .before .before .before .before .before .before .before .before .before .before .loop .inv) (c .before .before .before .before .before .before .before .before .before .read-command .result) (c .before .before .before .before .before .before .before .before .before .read-command .ensures) (c .before .before .before .before .before .before .kind .given .1) .1) (c .before .before .before .before .if1 .left) (c .before .before .before .if2 .left) (c .before .before .if3 .left) (sym (c .before .is-shape .ensures) ∙ c .if4 .left)
 
 draw-call-open-call-requires : (t : ℕ) → draw-call-lts.Need-open-call-requires (call-claims t) (draw-call-at t) draw-call.Post
 draw-call-open-call-requires t c κs = (c .before .before .before .before .pre .1 .1 .0 .0, c .before .before .before .before .pre .1 .1 .1 .0 .1, omega (arith, c .before .before .before .before .pre .1 .1 .1 .0 .2))
@@ -291,7 +291,7 @@ pub +draw-body+draw-call-spec : {M : Type 1} → statement M
     (draw-body-same-length-11 t)
     (draw-body-same-length-12 t)
     (draw-body-returns-3 t)
-    (draw-body-is-drawable-requires t)
+    (draw-body-is-shape-requires t)
     (draw-body-draw-shape-requires t)
     (draw-body-enum-known-shown t)
     (draw-body-loop-less-3 t)

@@ -11,7 +11,7 @@ use Rattle.bodies.proofs.draw_outer.Reads as reads
 use Rattle.bodies.proofs.draw_outer.Lts as lts
 use Rattle.bodies.proofs.draw_call.Reads as draw-call-reads
 use Rattle.shapes.proofs.draw_shape.Reads as draw-shape-reads
-use Rattle.bodies.proofs.is_drawable.Reads as is-drawable-reads
+use Rattle.rules.proofs.is_shape.Reads as is-shape-reads
 use Rattle.calls.proofs.read_call.Reads as read-call-reads
 use Rattle.turns.proofs.still.Reads as still-reads
 
@@ -39,11 +39,11 @@ same-length-4 c = search needs
 returns : tie.Need-returns
 returns c = λ h table s q. call-painted h (c .before .before .before .before .before .before .before .before .before .before .before .before .before .if1 .taken) (c .before .before .before .before .before .before .before .before .before .before .before .before .before .before .before .before .before .before .args .place) (c .before .before .before .before .before .before .before .before .before .before .before .before .before .before .still .ensures .0) (c .before .before .before .before .before .before .before .before .before .before .before .read-call .ensures (outer-called h (c .before .before .before .before .before .before .before .before .before .before .before .before .before .if1 .taken))) (c .before .before .before .before .before .before .draw-call .ensures .0) table s
 
-is-drawable-requires : tie.Need-is-drawable-requires
-is-drawable-requires c κs = search needs
+is-shape-requires : tie.Need-is-shape-requires
+is-shape-requires c κs = search needs
 
 draw-shape-requires : tie.Need-draw-shape-requires
-draw-shape-requires c κs = ((outer-shaped (c .before .before .before .before .before .before .before .before .before .before .pre .1 .1 .1 .1 .0) (sym (c .before .before .before .before .is-drawable .ensures) ∙ c .before .before .before .if2 .taken) (c .before .before .before .before .before .before .before .before .before .before .pre .1 .1 .1 .0 .0), outer-within (c .before .before .before .before .before .before .before .before .before .before .pre .1 .1 .1 .1 .0) (sym (c .before .before .before .before .is-drawable .ensures) ∙ c .before .before .before .if2 .taken) (c .before .before .before .before .before .before .before .before .before .before .pre .1 .1 .1 .0 .0) (c .before .before .before .before .before .before .before .before .before .before .pre .1 .1 .1 .0 .1)), (near-more (omega arith) (c .before .before .before .before .before .before .still .ensures .1), c .before .before .before .before .before .before .before .before .before .before .pre .1 .1 .1 .1 .1))
+draw-shape-requires c κs = ((outer-shaped (c .before .before .before .before .before .before .before .before .before .before .pre .1 .1 .1 .1 .0) (sym (c .before .before .before .before .is-shape .ensures) ∙ c .before .before .before .if2 .taken) (c .before .before .before .before .before .before .before .before .before .before .pre .1 .1 .1 .0 .0), outer-within (c .before .before .before .before .before .before .before .before .before .before .pre .1 .1 .1 .1 .0) (sym (c .before .before .before .before .is-shape .ensures) ∙ c .before .before .before .if2 .taken) (c .before .before .before .before .before .before .before .before .before .before .pre .1 .1 .1 .0 .0) (c .before .before .before .before .before .before .before .before .before .before .pre .1 .1 .1 .0 .1)), (near-more (omega arith) (c .before .before .before .before .before .before .still .ensures .1), c .before .before .before .before .before .before .before .before .before .before .pre .1 .1 .1 .1 .1))
 
 same-length-5 : tie.Need-same-length-5
 same-length-5 c = search needs
@@ -55,10 +55,10 @@ same-length-7 : tie.Need-same-length-7
 same-length-7 c = search needs
 
 returns-2 : tie.Need-returns-2
-returns-2 c = λ h table s q. shape-painted h (sym (c .before .before .before .before .before .before .before .before .is-drawable .ensures) ∙ c .before .before .before .before .before .before .before .if2 .taken) (c .before .before .before .before .before .before .before .before .before .before .before .before .before .before .pre .1 .1 .1 .0 .0) (c .before .before .before .before .before .before .before .before .before .before .before .before .before .before .args .layer) (c .before .before .before .before .before .before .before .before .before .before .before .before .before .before .args .place) (c .before .before .before .before .before .before .before .before .before .before .still .ensures .0) (c .before .before .before .draw-shape .ensures) q table
+returns-2 c = λ h table s q. shape-painted h (sym (c .before .before .before .before .before .before .before .before .is-shape .ensures) ∙ c .before .before .before .before .before .before .before .if2 .taken) (c .before .before .before .before .before .before .before .before .before .before .before .before .before .before .pre .1 .1 .1 .0 .0) (c .before .before .before .before .before .before .before .before .before .before .before .before .before .before .args .layer) (c .before .before .before .before .before .before .before .before .before .before .before .before .before .before .args .place) (c .before .before .before .before .before .before .before .before .before .before .still .ensures .0) (c .before .before .before .draw-shape .ensures) q table
 
 returns-3 : tie.Need-returns-3
-returns-3 c = λ h table s q. nothing-painted h (c .before .before .if1 .left) (sym (c .before .is-drawable .ensures) ∙ c .if2 .left) (c .before .before .before .before .before .before .before .pre .1 .1 .1 .1 .1) table (c .before .before .before .before .before .before .before .args .place) _
+returns-3 c = λ h table s q. nothing-painted h (c .before .before .if1 .left) (sym (c .before .is-shape .ensures) ∙ c .if2 .left) (c .before .before .before .before .before .before .before .pre .1 .1 .1 .1 .1) table (c .before .before .before .before .before .before .before .args .place) _
 
 pub draw-outer-spec : {M : Type 1} → statement M
 draw-outer-spec =
@@ -72,7 +72,7 @@ draw-outer-spec =
     same-length-3
     same-length-4
     returns
-    is-drawable-requires
+    is-shape-requires
     draw-shape-requires
     same-length-5
     same-length-6

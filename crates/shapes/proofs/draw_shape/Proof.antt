@@ -33,7 +33,7 @@ same-length-2 : tie.Need-same-length-2
 same-length-2 c = search needs
 
 returns-2 : tie.Need-returns-2
-returns-2 c = λ h chain ts carries. shape-many h chain ts (c .before .before .before .before .before .before .before .before .before .args .net) carries (c .before .before .before .before .before .before .before .before .before .args .place) (c .before .before .before .before .before .before .before .before .before .args .layer) (c .before .before .before .before .before .before .move-shape .ensures h) (c .before .before .before .before .before .before .before .before .before .args .ink) _ (c .before .before .before .before .if1 .left) (c .before .before .before .count-shape .ensures) _ (c .before .number .given .1)
+returns-2 c = λ h chain ts carries. shape-many h chain ts (c .before .before .before .before .before .before .before .before .before .before .args .net) carries (c .before .before .before .before .before .before .before .before .before .before .args .place) (c .before .before .before .before .before .before .before .before .before .before .args .layer) (c .before .before .before .before .before .before .before .move-shape .ensures h) (c .before .before .before .before .before .before .before .before .before .before .args .ink) _ (c .before .before .before .before .before .if1 .left) (c .before .before .before .count-shape .ensures) _ (c .before .number .given .1)
 
 enum-known-drawn : tie.Need-enum-known-drawn
 enum-known-drawn c = search needs
@@ -51,7 +51,7 @@ part-put-line-end : tie.Need-part-put-line-end
 part-put-line-end c = search needs
 
 put-line-requires : tie.Need-put-line-requires
-put-line-requires c κs = (omega (arith, c .before .before .before .before .before .put-layer-line .ensures .ends, layer-line-length (c .before .before .before .before .before .before .before .before .before .before .before .before .before .before .before .before .before .args .ink .pen .layer) (c .before .before .before .before .before .before .before .before .before .before .before .before .before .before .before .before .before .args .layer), c .before .before .before .before .before .before .before .before .before .before .before .before .before .before .before .before .before .pre .1 .1 .place-most, c .before .before .before .before .before .before .before .before .before .before .before .before .before .before .before .before .before .pre .1 .1 .shapes-most), omega (arith, part-few (c .before .before .before .before .before .before .before .before .before .before .before .before .before .before .before .before .before .pre .0 .0) (c .before .before .before .before .before .before .before .before .before .before .before .before .before .before .move-shape .last .1 .0)))
+put-line-requires c κs = (omega (arith, c .before .before .before .before .before .put-layer-line .ensures .ends, layer-line-length (c .before .before .before .before .before .before .before .before .before .before .before .before .before .before .before .before .before .before .args .ink .pen .layer) (c .before .before .before .before .before .before .before .before .before .before .before .before .before .before .before .before .before .before .args .layer), c .before .before .before .before .before .before .before .before .before .before .before .before .before .before .before .before .before .before .pre .1 .1 .place-most, c .before .before .before .before .before .before .before .before .before .before .before .before .before .before .before .before .before .before .pre .1 .1 .shapes-most), omega (arith, part-few (c .before .before .before .before .before .before .before .before .before .before .before .before .before .before .before .before .before .before .pre .0 .0) (c .before .before .before .before .before .before .before .before .before .before .before .before .before .before .before .move-shape .last .1 .0)))
 
 same-length-3 : tie.Need-same-length-3
 same-length-3 c = search needs
@@ -60,7 +60,7 @@ same-length-4 : tie.Need-same-length-4
 same-length-4 c = search needs
 
 returns-3 : tie.Need-returns-3
-returns-3 c = λ h chain ts carries. shape-near h chain ts (c .before .before .before .before .before .before .before .before .before .before .before .before .before .before .before .before .before .before .before .before .args .net) carries (c .before .before .before .before .before .before .before .before .before .before .before .before .before .before .before .before .before .before .before .before .args .place) (c .before .before .before .before .before .before .before .before .before .before .before .before .before .before .before .before .before .before .before .before .args .layer) (c .before .before .before .before .before .before .before .before .before .before .before .before .before .before .before .before .before .move-shape .ensures h) (c .before .before .before .before .before .before .before .before .before .before .before .before .before .before .before .before .before .before .before .before .args .ink) (c .before .before .before .before .before .before .before .before .before .before .before .before .before .before .before .if1 .left) (c .before .before .before .before .before .before .before .before .before .before .before .before .before .before .count-shape .ensures) _ (c .before .before .before .before .before .before .before .before .before .before .before .before .drawn .given .1) (c .before .before .before .before .before .before .before .before .before .before .before .before .before .before .before .before .before .before .before .before .pre .1 .1) (part-is h chain ts (c .before .before .before .before .before .before .before .before .before .before .before .before .before .before .before .before .before .before .before .before .args .net) carries (c .before .before .before .before .before .before .before .before .before .before .before .before .before .before .before .before .before .before .before .before .args .place) (c .before .before .before .before .before .before .before .before .before .before .before .before .before .before .before .before .before .before .before .before .args .layer) (c .before .before .before .before .before .before .before .before .before .before .before .before .before .before .before .before .before .move-shape .ensures h) (c .before .before .before .before .before .before .before .before .before .before .before .before .before .before .before .before .before .before .before .before .pre .0 .1)) (c .before .before .before .before .before .before .before .before .put-layer-line .ensures) (c .before .before .put-line .ensures .0) (c .before .before .put-line .ensures .1) (part-few h (c .before .before .before .before .before .before .before .before .before .before .before .before .before .before .before .before .before .move-shape .last .1 .0))
+returns-3 c = λ h chain ts carries. shape-near h chain ts (c .before .before .before .before .before .before .before .before .before .before .before .before .before .before .before .before .before .before .before .before .before .args .net) carries (c .before .before .before .before .before .before .before .before .before .before .before .before .before .before .before .before .before .before .before .before .before .args .place) (c .before .before .before .before .before .before .before .before .before .before .before .before .before .before .before .before .before .before .before .before .before .args .layer) (c .before .before .before .before .before .before .before .before .before .before .before .before .before .before .before .before .before .before .move-shape .ensures h) (c .before .before .before .before .before .before .before .before .before .before .before .before .before .before .before .before .before .before .before .before .before .args .ink) (c .before .before .before .before .before .before .before .before .before .before .before .before .before .before .before .before .if1 .left) (c .before .before .before .before .before .before .before .before .before .before .before .before .before .before .count-shape .ensures) _ (c .before .before .before .before .before .before .before .before .before .before .before .before .drawn .given .1) (c .before .before .before .before .before .before .before .before .before .before .before .before .before .before .before .before .before .before .before .before .before .pre .1 .1) (part-is h chain ts (c .before .before .before .before .before .before .before .before .before .before .before .before .before .before .before .before .before .before .before .before .before .args .net) carries (c .before .before .before .before .before .before .before .before .before .before .before .before .before .before .before .before .before .before .before .before .before .args .place) (c .before .before .before .before .before .before .before .before .before .before .before .before .before .before .before .before .before .before .before .before .before .args .layer) (c .before .before .before .before .before .before .before .before .before .before .before .before .before .before .before .before .before .before .move-shape .ensures h) (c .before .before .before .before .before .before .before .before .before .before .before .before .before .before .before .before .before .before .before .before .before .pre .0 .1)) (c .before .before .before .before .before .before .before .before .put-layer-line .ensures) (c .before .before .put-line .ensures .0) (c .before .before .put-line .ensures .1) (part-few h (c .before .before .before .before .before .before .before .before .before .before .before .before .before .before .before .before .before .before .move-shape .last .1 .0))
 
 pub draw-shape-spec : {M : Type 1} → statement M
 draw-shape-spec =
