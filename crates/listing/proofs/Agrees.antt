@@ -7,7 +7,9 @@ use native.Mathlib.Omega.{arith}
 use borrow.Author.Tests.{lt-ltb, le-ltb, eq-eqb, ne-eqb}
 use lib.IntN.{ℤ}
 use lib.ListN.{length, length-append}
-use Rattle.definition.specs.Words.{Point, bytesOf}
+use Rattle.definition.specs.Words.{Placed, Point, bytesOf}
+use Rattle.definition.specs.declared.Refusal.{Refusal}
+use Rattle.definition.specs.Commands.{Command}
 use Rattle.definition.specs.Drawing.{Drawn, Chain, Event}
 use Rattle.definition.specs.Counts.{Counts, counts, shapesOf}
 use Rattle.definition.specs.Flat.{flat}
@@ -45,30 +47,30 @@ window-printed ds h =
 
 -- ---- outcomes
 
-accepted-is : {t : List ℕ} {room : ℕ} (c : Counts) (es : List Event) → Answers t room (accepted c es)
-    → account (given-back (accepted c es)) (flatFile (accepted c es)) ≡ listing (accepted c es)
+accepted-is : {t : List ℕ} {room : ℕ} (cs : List (Placed Command)) (c : Counts) (es : List Event) → Answers t room (accepted cs c es)
+    → account (given-back (accepted cs c es)) (flatFile (accepted cs c es)) ≡ listing (accepted cs c es)
 unfolding account given-back flatFile listing totalLine bytesOf
-accepted-is c es k =
+accepted-is cs c es k =
     let ds = shapesOf es in
     let s = all-sound k in
     rw (le-ltb 16777216 (length (flat ds)) (within-limit (reading k .as-read)))
     (ap₂ (λ (x y : List ℕ). x ++ (totalLine (c .shapes) (c .calls) (c .redefinitions) ++ y)) (shapes-printed ds s) (window-printed ds s))
 
-rejected-is : {t : List ℕ} {room : ℕ} (n p : ℕ) (chain : Chain) → Answers t room (rejected n p chain)
-    → account (given-back (rejected n p chain)) (flatFile (rejected n p chain)) ≡ listing (rejected n p chain)
+rejected-is : {t : List ℕ} {room : ℕ} (r : Refusal) (chain : Chain) → Answers t room (rejected r chain)
+    → account (given-back (rejected r chain)) (flatFile (rejected r chain)) ≡ listing (rejected r chain)
 unfolding account given-back flatFile listing refusedLine
-rejected-is n p chain k = let h = located k .first-number in rw (ne-eqb n 0 (λ e. omega (arith, h, e)))
+rejected-is r chain k = let h = located k .first-number in rw (ne-eqb (r .number) 0 (λ e. omega (arith, h, e)))
 
 pub account-is : {t : List ℕ} {room : ℕ} (o : Outcome) → Answers t room o → account (given-back o) (flatFile o) ≡ listing o
-account-is (accepted c es) k = accepted-is c es k
-account-is (rejected n p chain) k = rejected-is n p chain k
+account-is (accepted cs c es) k = accepted-is cs c es k
+account-is (rejected r chain) k = rejected-is r chain k
 
 -- ---- how long it is
 
 shapes-short : {t : List ℕ} {room : ℕ} (o : Outcome) → Answers t room o → length (printed (fresh 1 0) (flatFile o)) ≤ 4 * length (flatFile o)
 unfolding flatFile flat printed
-shapes-short (rejected n p chain) k = omega arith
-shapes-short (accepted c es) k =
+shapes-short (rejected r chain) k = omega arith
+shapes-short (accepted cs c es) k =
     let ds = shapesOf es in
     let n = shapes-counted (counts 0 0 0) es c (omega arith) (reading k .as-read .ended) in
     let e = ap length (shapes-printed ds (all-sound k)) in
