@@ -1,7 +1,7 @@
 -- The three demands, carried to `flatten`: what it gives back of any text t and any room, and what it leaves in the room. Its contract `Promised t room r
 -- left` is all that is used, so the same holds of every reader that keeps it. docs/DEMANDS.md has the user's words beside each theorem.
 -- Assumes nothing.
-use mathlib.Core.Path.{_≡_, refl, sym, ap, _∙_, subst}
+use mathlib.Core.Path.{_≡_, refl, sym, ap, ap₂, _∙_, subst}
 use mathlib.Core.List.{List}
 use mathlib.Core.Logic.{_↔_, Iff·trans}
 use Prim.Native.Nat.{ℕ, _≤_, _<_}
@@ -10,19 +10,30 @@ use lib.ListN.{length, take, drop, length-append}
 use lib.Seq.{take-at}
 use Rattle.grammar.specs.Viable.{Grammatical, LongestViable}
 use Rattle.definition.specs.declared.Answer.{Answer}
+use Rattle.definition.specs.declared.Refusal.{Refusal}
+use Rattle.definition.specs.Limits.{mostBytes}
+use Rattle.definition.specs.Words.{Placed}
+use Rattle.definition.specs.Rules.{Rule, textTooLong, notInGrammar, flatFileTooLong, numberOf}
+use Rattle.definition.specs.Commands.{Command}
 use Rattle.definition.specs.Drawing.{Chain, Event}
 use Rattle.definition.specs.Counts.{Counts, shapesOf}
 use Rattle.definition.specs.Flat.{flat}
 use Rattle.definition.specs.Answer.{Outcome, accepted, rejected, Answers, Promised}
 use Rattle.definition.proofs.Right.{unique}
+use Rattle.laws.proofs.Rules.Order.{ByCommand, ByDrawing, number-from-1}
 use Rattle.laws.proofs.Rules.Outcomes.{Accepting}
 use Rattle.laws.proofs.Demands.Demand1.{Located, RefusalHolds, refusal-holds, SuccessHolds, success-holds}
-use Rattle.laws.proofs.Demands.Demand2.{Refused, RuleBroken, DrawingStopped, FlatFileTooLong, refused-1, refused-2, refused-3-to-9, refused-10-to-17, refused-18, accepted-exactly}
+use Rattle.laws.proofs.Demands.Demand2.{Refused, CommandsBreak, DrawingStopped, FileTooLong, refused-by-length, refused-by-grammar, refused-by-command, refused-by-drawing}
+use Rattle.laws.proofs.Demands.Demand2.{refused-by-flat-file, accepted-exactly}
 use Rattle.laws.proofs.Demands.Demand3.{Demand3, demand3, twice}
 
 -- the number and the place of an answer
 abbrev pub Says : Answer → (number place : ℕ) → Type 0
 Says r n p = (r .number ≡ n) × (r .place ≡ p)
+
+-- the refusal that an answer with a number tells
+abbrev pub told : Answer → Refusal
+told r = record { number = r .number; place = r .place }
 
 -- what a reading leaves in its room, r′ and left′ from room′, where the text is what an earlier one left: r and left
 pub record SameAgain (r : Answer) (left room′ : List ℕ) (r′ : Answer) (left′ : List ℕ) : Type 0 where
@@ -36,44 +47,46 @@ pub record SameAgain (r : Answer) (left room′ : List ℕ) (r′ : Answer) (lef
 
 -- of the flat file of an accepted text, which is the first bytes of the room that is left
 pub record Flattened (t : List ℕ) (room : ℕ) (r : Answer) (left : List ℕ) : Type 0 where
+  pub commands : List (Placed Command)
   pub counted : Counts
   pub events : List Event
   -- it is that of the shapes that the text draws
-  pub drawn : Accepting t room counted events
+  pub drawn : Accepting t room commands counted events
   pub is-flat : take (r .length) left ≡ flat (shapesOf events)
   -- it is in the grammar, holds only layer commands, shapes and the End, and draws the same shapes
   pub holds : Demand3 room counted (shapesOf events)
   -- and a reading of it, in any room that holds it, gives the same bytes
   pub again : (room′ left′ : List ℕ) (r′ : Answer) → r .length ≤ length room′ → Promised (take (r .length) left) room′ r′ left′ → SameAgain r left room′ r′ left′
 
-same-refusal : {n n′ p p′ : ℕ} (chain : Chain) → n ≡ n′ → p ≡ p′ → rejected n p chain ≡ rejected n′ p′ chain
-same-refusal chain e f = rw (e, f)
+same-refusal : {r r′ : Refusal} (chain : Chain) → r .number ≡ r′ .number → r .place ≡ r′ .place → rejected r chain ≡ rejected r′ chain
+same-refusal chain e f = ap₂ (λ (n p : ℕ). rejected (record { number = n; place = p }) chain) e f
 
 module _ {t room left : List ℕ} {r : Answer} (h : Promised t room r left) where
   -- ---- the number tells how the reading came out
 
   record Drew : Type 0 where
+    commands : List (Placed Command)
     counted : Counts
     events : List Event
-    is : h .outcome ≡ accepted counted events
+    is : h .outcome ≡ accepted commands counted events
 
   drew : r .number ≡ 0 → Drew
   drew e = go (h .outcome) refl
     where
       go : (o : Outcome) → h .outcome ≡ o → Drew
-      go (accepted c es) is = record { counted = c; events = es; is = is }
-      go (rejected n p chain) is = let k = refusal-holds h is in absurd (omega (arith, e, k .0 .number, k .1 .first-number))
+      go (accepted cs c es) is = record { commands = cs; counted = c; events = es; is = is }
+      go (rejected by chain) is = let k = refusal-holds h is in absurd (omega (arith, e, k .0 .number, k .1 .first-number))
 
   record Stopped : Type 0 where
     open-calls : Chain
-    is : h .outcome ≡ rejected (r .number) (r .place) open-calls
+    is : h .outcome ≡ rejected (told r) open-calls
 
   stopped : (r .number ≡ 0 → ⊥) → Stopped
   stopped e = go (h .outcome) refl
     where
       go : (o : Outcome) → h .outcome ≡ o → Stopped
-      go (accepted c es) is = absurd (e (success-holds h is .no-number))
-      go (rejected n p chain) is = let k = refusal-holds h is .0 in record { open-calls = chain; is = is ∙ same-refusal chain (sym (k .number)) (sym (k .place)) }
+      go (accepted cs c es) is = absurd (e (success-holds h is .no-number))
+      go (rejected by chain) is = let k = refusal-holds h is .0 in record { open-calls = chain; is = is ∙ same-refusal chain (sym (k .number)) (sym (k .place)) }
 
   outcome-is : {o : Outcome} → Answers t (length room) o → h .outcome ≡ o
   outcome-is a = unique (h .answers) a
@@ -83,7 +96,7 @@ module _ {t room left : List ℕ} {r : Answer} (h : Promised t room r left) wher
   -- an answer with a number holds this number and place and nothing else, leaves the room unchanged, and its place lies within the text; so do the
   -- places of the calls open there. That an answer comes at all is what the proof of a Rattle function shows, and that only one is promised, the
   -- room's bytes included, is Right.one-answer
-  pub refusals-hold : (r .number ≡ 0 → ⊥) → RefusalHolds room r left (r .number) (r .place) × ((chain : Chain) × Located t (r .number) (r .place) chain)
+  pub refusals-hold : (r .number ≡ 0 → ⊥) → RefusalHolds room r left (told r) × ((chain : Chain) × Located t (told r) chain)
   refusals-hold e = let s = stopped e in let k = refusal-holds h (s .is) in (k .0, (s .open-calls, k .1))
 
   -- the length told lies within the room that is left
@@ -91,57 +104,58 @@ module _ {t room left : List ℕ} {r : Answer} (h : Promised t room r left) wher
   length-within = go (h .outcome) refl
     where
       go : (o : Outcome) → h .outcome ≡ o → r .length ≤ length left
-      go (rejected n p chain) is = omega (arith, refusal-holds h is .0 .no-length)
-      go (accepted c es) is =
+      go (rejected by chain) is = omega (arith, refusal-holds h is .0 .no-length)
+      go (accepted cs c es) is =
           let k = success-holds h is in
           omega (arith, k .length-is, ap length (k .room-holds), length-append (flat (shapesOf es)) (drop (length (flat (shapesOf es))) room))
 
   -- ---- demand 2
 
   -- accepted exactly when 01's rules let the text pass, its drawing finishes and its flat file fits
-  pub accepted-when : (r .number ≡ 0) ↔ ((c : Counts) × (es : List Event) × Accepting t (length room) c es)
+  pub accepted-when : (r .number ≡ 0) ↔ ((cs : List (Placed Command)) × (c : Counts) × (es : List Event) × Accepting t (length room) cs c es)
   accepted-when = (
-    λ e. let d = drew e in (d .counted, d .events, accepted-exactly .0 (subst (Answers t (length room)) (d .is) (h .answers))),
-    λ a. success-holds h (outcome-is (accepted-exactly .1 (a .2))) .no-number,
+    λ e. let d = drew e in (d .commands, d .counted, d .events, accepted-exactly .0 (subst (Answers t (length room)) (d .is) (h .answers))),
+    λ a. success-holds h (outcome-is (accepted-exactly .1 (a .3))) .no-number,
   )
 
   -- and then the counts are the drawing's, the first bytes of the room are the flat file of its shapes, and the rest is unchanged
-  pub accepted-gives : {c : Counts} {es : List Event} → Accepting t (length room) c es → SuccessHolds room r left c (flat (shapesOf es))
+  pub accepted-gives : {cs : List (Placed Command)} {c : Counts} {es : List Event} → Accepting t (length room) cs c es → SuccessHolds room r left c (flat (shapesOf es))
   accepted-gives a = success-holds h (outcome-is (accepted-exactly .1 a))
 
-  refused-when : {n p : ℕ} → (n ≡ 0 → ⊥) → Says r n p ↔ Refused t (length room) n p
-  refused-when {n} {p} e = (
+  refused-when : (by : Rule) {p : ℕ} → Says r (numberOf by) p ↔ Refused t (length room) by p
+  refused-when by {p} = (
     λ s.
-        let k = stopped (λ z. e (sym (s .0) ∙ z)) in
+        let k = stopped (λ z. omega (arith, s .0, z, number-from-1 by)) in
         (k .open-calls, subst (Answers t (length room)) (k .is ∙ same-refusal (k .open-calls) (s .0) (s .1)) (h .answers)),
     λ s. let k = refusal-holds h (outcome-is (s .1)) .0 in (k .number, k .place),
   )
 
   -- 1, text over 16,777,216 bytes; at 0
-  pub refused-1-when : {p : ℕ} → Says r 1 p ↔ ((p ≡ 0) × (16777216 < length t))
-  refused-1-when = Iff·trans (refused-when (omega arith)) refused-1
+  pub refused-by-length-when : {p : ℕ} → Says r (numberOf textTooLong) p ↔ ((p ≡ 0) × (mostBytes < length t))
+  refused-by-length-when = Iff·trans (refused-when textTooLong) refused-by-length
 
   -- 2, not in the grammar; at the length of the longest prefix that some continuation completes to a grammatical text
-  pub refused-2-when : {p : ℕ} → Says r 2 p ↔ ((length t ≤ 16777216) × (Grammatical t → ⊥) × LongestViable t p)
-  refused-2-when = Iff·trans (refused-when (omega arith)) refused-2
+  pub refused-by-grammar-when : {p : ℕ} → Says r (numberOf notInGrammar) p ↔ ((length t ≤ mostBytes) × (Grammatical t → ⊥) × LongestViable t p)
+  refused-by-grammar-when = Iff·trans (refused-when notInGrammar) refused-by-grammar
 
-  -- 3 to 9, the first command that breaks a rule, its lowest number, the nearest place
-  pub refused-3-to-9-when : {n p : ℕ} → 3 ≤ n → n ≤ 9 → Says r n p ↔ RuleBroken t n p
-  refused-3-to-9-when a b = Iff·trans (refused-when (omega arith)) (refused-3-to-9 a b)
+  -- 3 to 9, the first command that breaks a rule, the foremost of its rules, the nearest place
+  pub refused-by-command-when : {by : Rule} {p : ℕ} → ByCommand by → Says r (numberOf by) p ↔ CommandsBreak t by p
+  refused-by-command-when {by} i = Iff·trans (refused-when by) (refused-by-command i)
 
-  -- 10 to 17, the first moment of the drawing that breaks a rule, its lowest number; under the calls open there
-  pub refused-10-to-17-when : {n p : ℕ} → 10 ≤ n → n ≤ 17 → Says r n p ↔ ((chain : Chain) × DrawingStopped t n p chain)
-  refused-10-to-17-when a b =
-      Iff·trans (refused-when (omega arith)) (λ s. (s .0, refused-10-to-17 a b .0 (s .1)), λ s. (s .0, refused-10-to-17 a b .1 (s .1)))
+  -- 10 to 17, the first moment of the drawing that breaks a rule, the foremost of its rules; under the calls open there
+  pub refused-by-drawing-when : {by : Rule} {p : ℕ} → ByDrawing by → Says r (numberOf by) p ↔ ((chain : Chain) × DrawingStopped t by p chain)
+  refused-by-drawing-when {by} i =
+      Iff·trans (refused-when by) (λ s. (s .0, refused-by-drawing i .0 (s .1)), λ s. (s .0, refused-by-drawing i .1 (s .1)))
 
   -- 18, flat file longer than the room or than 16,777,216; at 0
-  pub refused-18-when : {p : ℕ} → Says r 18 p ↔ ((p ≡ 0) × FlatFileTooLong t (length room))
-  refused-18-when = Iff·trans (refused-when (omega arith)) refused-18
+  pub refused-by-flat-file-when : {p : ℕ} → Says r (numberOf flatFileTooLong) p ↔ ((p ≡ 0) × FileTooLong t (length room))
+  refused-by-flat-file-when = Iff·trans (refused-when flatFileTooLong) refused-by-flat-file
 
   -- ---- demand 3
 
   pub flattened : r .number ≡ 0 → Flattened t (length room) r left
   flattened e = record {
+    commands = d .commands;
     counted = d .counted;
     events = d .events;
     drawn = accepted-exactly .0 answers;
@@ -167,7 +181,7 @@ module _ {t room left : List ℕ} {r : Answer} (h : Promised t room r left) wher
       k : SuccessHolds room r left (d .counted) (flat (shapesOf (d .events)))
       k = success-holds h (d .is)
 
-      answers : Answers t (length room) (accepted (d .counted) (d .events))
+      answers : Answers t (length room) (accepted (d .commands) (d .counted) (d .events))
       answers = subst (Answers t (length room)) (d .is) (h .answers)
 
       holds : Demand3 (length room) (d .counted) (shapesOf (d .events))

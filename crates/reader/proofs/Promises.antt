@@ -11,14 +11,17 @@ use Rattle.grammar.specs.Viable.{Judged}
 use Rattle.grammar.specs.declared.Verdict.{Verdict}
 use Rattle.grammar.specs.declared.Verdict.the-variants.{InGrammar, StuckAt}
 use Rattle.definition.specs.declared.Answer.{Answer}
-use Rattle.definition.specs.declared.Refusal.{Refusal as Reason}
+use Rattle.definition.specs.declared.Refusal.{Refusal}
+use Rattle.definition.specs.Rules.{flatFileTooLong}
 use Rattle.definition.specs.Commands.{commands}
-use Rattle.definition.specs.Faults.{Refusal, firstFault}
-use Rattle.definition.specs.Drawing.{Chain, Event}
-use Rattle.definition.specs.Counts.{counts, shapesOf}
+use Rattle.definition.specs.Standing.{outside}
+use Rattle.definition.specs.Faults.{firstFault}
+use Rattle.definition.specs.Drawing.{Chain, Event, deeds}
+use Rattle.definition.specs.Counts.{counts, stopped, ending, shapesOf}
 use Rattle.definition.specs.Flat.{lines, flat}
 use Rattle.definition.specs.Answer.{Outcome, accepted, rejected, flatFile, answer, given-back, drawn, outcomeOf, Answers, too-long, not-cif, read, Promised}
 use Rattle.laws.proofs.Rules.FaultRules.{no-first-fault}
+use Rattle.laws.proofs.Rules.DrawingRules.{drawing-rule}
 use Rattle.laws.proofs.Rules.Outcomes
 use Rattle.laws.proofs.Rules.Outcomes.{flatLength, TooLong, by-drawing, by-flat-file, Accepting, refusal, acceptance}
 use Rattle.reading.specs.Refusal.{faultSaid, byVerdict}
@@ -38,35 +41,36 @@ use Rattle.shapes.proofs.Painting.{until-all}
 use Rattle.reader.specs.Screened.{Screened, over, within}
 
 -- a refusal leaves the room as it was
-refusing : {t room : List ℕ} {r : Answer} {n p : ℕ} (chain : Chain) → Answers t (length room) (rejected n p chain) → r ≡ answer n p 0 (counts 0 0 0)
-    → Promised t room r room
+refusing : {t room : List ℕ} {r : Answer} {why : Refusal} (chain : Chain) → Answers t (length room) (rejected why chain)
+    → r ≡ answer (why .number) (why .place) 0 (counts 0 0 0) → Promised t room r room
 unfolding given-back flatFile
-refusing {n = n} {p} chain a e = record { outcome = rejected n p chain; answers = a; given = e; kept = refl }
+refusing {why = why} chain a e = record { outcome = rejected why chain; answers = a; given = e; kept = refl }
 
 -- ---- 1 to 9
 
-never-clear : {n p : ℕ} → Clear ≡ Refused n p → ⊥
+never-clear : {why : Refusal} → Clear ≡ Refused why → ⊥
 never-clear e = let z : _≡_ {A = ℕ} 0 1 = cc in omega arith
 
 -- how a text with this fault comes out; one without is not asked
 abbrev outcomeBy : Fault → Outcome
-outcomeBy Clear = rejected 0 0 []
-outcomeBy (Refused n p) = rejected n p []
+outcomeBy Clear = rejected (record { number = 0; place = 0 }) []
+outcomeBy (Refused why) = rejected why []
 
-judged-answers : {t : List ℕ} {room n p : ℕ} → length t ≤ 16777216 → (v : Verdict) → Judged t v → byVerdict t v (Refused n p) → Answers t room (rejected n p [])
-judged-answers {t} {room} {n} {p} h InGrammar g e = go (firstFault (commands 0 (g .0))) refl (e (g .0) (g .1))
+judged-answers : {t : List ℕ} {room : ℕ} {why : Refusal} → length t ≤ 16777216 → (v : Verdict) → Judged t v → byVerdict t v (Refused why) → Answers t room (rejected why [])
+judged-answers {t} {room} {why} h InGrammar g e = go (firstFault (commands 0 (g .0))) refl (e (g .0) (g .1))
   where
-    go : (f : Option Refusal) → firstFault (commands 0 (g .0)) ≡ f → Refused n p ≡ faultSaid f → Answers t room (rejected n p [])
+    go : (f : Option Refusal) → firstFault (commands 0 (g .0)) ≡ f → Refused why ≡ faultSaid f → Answers t room (rejected why [])
     go none q x = absurd (never-clear (sym x))
     go (some r) q x = unfold outcomeOf drawn in
         subst (Answers t room) (ap (λ (f : Option Refusal). drawn f (commands 0 (g .0)) room) q ∙ ap outcomeBy (sym x)) (read {m = g .0} h (g .1))
 judged-answers {t} {room} h (StuckAt i) g e = subst (Answers t room) (ap outcomeBy (sym e)) (not-cif h (g .0) (g .1))
 
-fault-answers : {t : List ℕ} {room n p : ℕ} {d : Fault} → Screened t d → d ≡ Refused n p → Answers t room (rejected n p [])
+fault-answers : {t : List ℕ} {room : ℕ} {d : Fault} {why : Refusal} → Screened t d → d ≡ Refused why → Answers t room (rejected why [])
 fault-answers {t} {room} (over h) is = subst (Answers t room) (ap outcomeBy is) (too-long h)
 fault-answers {t} (within h f) is = judged-answers h (f .verdict) (f .judged) (subst (byVerdict t (f .verdict)) is (f .is))
 
-pub fault-told : {t room : List ℕ} {r : Answer} {d : Fault} {n p : ℕ} → Screened t d → d ≡ Refused n p → r ≡ answer n p 0 (counts 0 0 0) → Promised t room r room
+pub fault-told : {t room : List ℕ} {r : Answer} {d : Fault} {why : Refusal} → Screened t d → d ≡ Refused why → r ≡ answer (why .number) (why .place) 0 (counts 0 0 0)
+    → Promised t room r room
 fault-told s is e = refusing [] (fault-answers s is) e
 
 clear-passes : {t : List ℕ} → length t ≤ 16777216 → (v : Verdict) → Judged t v → byVerdict t v Clear → Passed t
@@ -87,10 +91,17 @@ module _ {t : List ℕ} (p : Passed t) where
   let-pass : Outcomes.Passed t (p .letters)
   let-pass = record { within = p .short; marked = p .marked; unbroken = no-first-fault (p .marked) .0 (p .clear) }
 
-  pub stopped-told : {scrap scrap′ room : List ℕ} {r : Answer} {d : Drawn} {why : Reason} → Painted dry (toDraw p) scrap d scrap′ → d ≡ drawing.Refused why
+  -- a drawing is stopped by a rule
+  stopped-answers : {room : ℕ} {why : Refusal} {chain : Chain} → ending (counts 0 0 0) (toDraw p) ≡ stopped why chain → Answers t room (rejected why chain)
+  stopped-answers {room} {why} {chain} e =
+      let (rule, by) = drawing-rule [] (deeds (outside []) (commands 0 (p .letters))) why chain e in
+      subst (λ (x : Refusal). Answers t room (rejected x chain)) (sym by)
+      (refusal rule (why .place) chain .1 (by-drawing let-pass (e ∙ ap (λ (x : Refusal). stopped x chain) by)))
+
+  pub stopped-told : {scrap scrap′ room : List ℕ} {r : Answer} {d : Drawn} {why : Refusal} → Painted dry (toDraw p) scrap d scrap′ → d ≡ drawing.Refused why
       → r ≡ answer (why .number) (why .place) 0 (counts 0 0 0) → Promised t room r room
   unfolding Answered
-  stopped-told x is e = let y = subst (Answered dry (toDraw p)) is (x .answer) in refusing (y .0) (refusal .1 (by-drawing let-pass (y .1))) e
+  stopped-told x is e = let y = subst (Answered dry (toDraw p)) is (x .answer) in refusing (y .0) (stopped-answers (y .1)) e
 
   -- the drawing finished on some room, with these counts and the pen there
   module _ {scrap scrap′ : List ℕ} {d : Drawn} (x : Painted dry (toDraw p) scrap d scrap′) {ink : Ink} (is : d ≡ drawing.Done ink) where
@@ -111,12 +122,13 @@ module _ {t : List ℕ} (p : Passed t) where
 
     pub over-told : {room : List ℕ} {r : Answer} → TooLong (ink .pen .at + 2) (length room) → r ≡ answer 18 0 0 (counts 0 0 0) → Promised t room r room
     over-told {room} h e =
-        refusing [] (refusal .1 (by-flat-file let-pass (goes .ends) (subst (λ (n : ℕ). TooLong n (length room)) (sym file-length) h))) e
+        refusing [] (refusal flatFileTooLong 0 [] .1 (by-flat-file let-pass (goes .ends) (subst (λ (n : ℕ). TooLong n (length room)) (sym file-length) h))) e
 
-    accepting : {room : ℕ} → ink .pen .at + 2 ≤ room → ink .pen .at + 2 ≤ 16777216 → Accepting t room (tally (ink .counts)) (toDraw p)
+    accepting : {room : ℕ} → ink .pen .at + 2 ≤ room → ink .pen .at + 2 ≤ 16777216 → Accepting t room (commands 0 (p .letters)) (tally (ink .counts)) (toDraw p)
     accepting h k = record {
       roles = p .letters;
       passed = let-pass;
+      are-commands = refl;
       is-drawing = refl;
       finishes = goes .ends;
       room-fits = omega (arith, h, file-length);
@@ -138,7 +150,7 @@ module _ {t : List ℕ} (p : Passed t) where
         → left ≡ sets (sets room 0 (bytesOf dry (toDraw p))) (ink .pen .at) (69 ∷ 10 ∷ []) → r ≡ answer 0 0 (ink .pen .at + 2) (tally (ink .counts)) → Promised t room r left
     unfolding given-back flatFile
     written-told h k e g = record {
-      outcome = accepted (tally (ink .counts)) (toDraw p);
+      outcome = accepted (commands 0 (p .letters)) (tally (ink .counts)) (toDraw p);
       answers = acceptance .1 (accepting h k);
       given = g ∙ ap (λ (n : ℕ). answer 0 0 n (tally (ink .counts))) (sym file-length);
       kept = begins (file-in e) (omega (arith, h, file-length));

@@ -8,8 +8,8 @@ use Rattle.reader.proofs.flatten.Tie as tie
 first-fault-requires : tie.Need-first-fault-requires
 first-fault-requires c κs = search needs
 
-enum-known-number : tie.Need-enum-known-number
-enum-known-number c = search needs
+enum-known-refusal : tie.Need-enum-known-refusal
+enum-known-refusal c = search needs
 
 refused-requires : tie.Need-refused-requires
 refused-requires c κs = search needs
@@ -24,7 +24,7 @@ flatten-passed-requires : tie.Need-flatten-passed-requires
 flatten-passed-requires c κs = passes (c .before .before .before .before .first-fault .ensures) (c .before .before .enum-told .given .1)
 
 returns : tie.Need-returns
-returns c = fault-told (c .before .before .before .before .first-fault .ensures) (c .before .before .number .given .1) (c .refused .ensures)
+returns c = fault-told (c .before .before .before .before .first-fault .ensures) (c .before .before .refusal .given .1) (c .refused .ensures)
 
 same-length : tie.Need-same-length
 same-length c = search needs
@@ -37,7 +37,7 @@ flatten-spec =
     tie.close
     (tie.spec
     first-fault-requires
-    enum-known-number
+    enum-known-refusal
     refused-requires
     enum-told
     slice-aggregate-flatten-passed
