@@ -6,6 +6,7 @@ use Rattle.grammar.specs.Viable.{Judged}
 use Rattle.grammar.specs.declared.Verdict.{Verdict}
 use Rattle.grammar.specs.declared.Verdict.the-variants.{InGrammar, StuckAt}
 use Rattle.definition.specs.declared.Answer.{Answer}
+use Rattle.definition.specs.Rules.{notInGrammar, numberOf}
 use Rattle.definition.specs.Counts.{counts}
 use Rattle.definition.specs.Answer.{answer, Promised}
 use Rattle.checking.specs.declared.Fault.{Fault}
@@ -20,11 +21,11 @@ undrawn n p = answer n p 0 (counts 0 0 0)
 
 abbrev pub faultAnswer : Fault → Answer
 faultAnswer Clear = undrawn 0 0
-faultAnswer (Refused n p) = undrawn n p
+faultAnswer (Refused r) = undrawn (r .number) (r .place)
 
 abbrev pub verdictAnswer : Verdict → Answer  -- 01, refusal 2: "not in the grammar"
 verdictAnswer InGrammar = undrawn 0 0
-verdictAnswer (StuckAt n) = undrawn 2 n
+verdictAnswer (StuckAt n) = undrawn (numberOf notInGrammar) n
 
 pub record FlattenTold (t room words left : List ℕ) : Type 0 where  -- `cif_flatten`: the promised answer, and the room that goes with it
   pub given : Answer

@@ -13,10 +13,7 @@ fn fault_answer(fault: Fault) -> Answer
 {
     match fault {
         Fault::Clear => answer::accepted(0, counts::no_counts()),
-        Fault::Refused(number, place) => answer::refused(
-            Refusal { number, place },
-            counts::no_counts(),
-        ),
+        Fault::Refused(refusal) => answer::refused(refusal, counts::no_counts()),
     }
 }
 
@@ -25,7 +22,7 @@ fn verdict_answer(verdict: Verdict) -> Answer
 {
     match verdict {
         Verdict::InGrammar => fault_answer(Fault::Clear),
-        Verdict::StuckAt(place) => fault_answer(Fault::Refused(2, place)),
+        Verdict::StuckAt(place) => fault_answer(Fault::Refused(Refusal { number: 2, place })),
     }
 }
 
