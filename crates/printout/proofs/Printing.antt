@@ -9,6 +9,7 @@ use lib.ListN.{length, take, drop, length-append, length-drop}
 use lib.Seq.{take-at}
 use Rattle.definition.specs.Counts.{counts, shapesOf}
 use Rattle.definition.specs.Words.{bytesOf}
+use Rattle.definition.specs.Rules.{textTooLong, refuse}
 use Rattle.definition.specs.Flat.{digits, decimal, flat}
 use Rattle.definition.specs.declared.Answer.{Answer}
 use Rattle.definition.specs.Answer.{Outcome, accepted, rejected, flatFile, answer, given-back, Answers, Promised}
@@ -25,8 +26,8 @@ use Rattle.printout.specs.Prints.{Lays, Prints, roomLength, listingLengt
 
 given-length : (o : Outcome) → given-back o .length ≡ length (flatFile o)
 unfolding given-back flatFile
-given-length (accepted c es) = refl
-given-length (rejected n p chain) = refl
+given-length (accepted cs c es) = refl
+given-length (rejected r chain) = refl
 
 pub record Flat (left f : List ℕ) (n : ℕ) : Type 0 where
   pub size : length f ≡ n
@@ -45,14 +46,14 @@ left-length : {t room left : List ℕ} {r : Answer} → Promised t room r left �
 left-length {t} {room} {left} p = go (p .outcome) refl
   where
     go : (o : Outcome) → p .outcome ≡ o → length left ≡ length room
-    go (accepted c es) e =
+    go (accepted cs c es) e =
         let h = success-holds p e in
         let f = flat (shapesOf es) in
         let q : length left ≡ length f + length (drop (length f) room) = ap length (h .room-holds) ∙ length-append f (drop (length f) room) in
         let n = length-drop (length f) room in
         let k = h .fits in
         omega (arith, q, n, k)
-    go (rejected n q chain) e = ap length (refusal-holds p e .0 .room-kept)
+    go (rejected why chain) e = ap length (refusal-holds p e .0 .room-kept)
 
 -- ---- the listing at the start of its room
 
@@ -79,24 +80,24 @@ printed {t} {room} {left} {a = a} {r} h n m p l =
 
 -- ---- a text that is longer than the program takes
 
-refusal-is : account (answer 1 0 0 (counts 0 0 0)) [] ≡ listing (rejected 1 0 [])
+refusal-is : account (answer 1 0 0 (counts 0 0 0)) [] ≡ listing (rejected (refuse textTooLong 0) [])
 unfolding account listing refusedLine
 refusal-is = refl
 
-refusal-length : length (listing (rejected 1 0 [])) ≡ 12
+refusal-length : length (listing (rejected (refuse textTooLong 0) [])) ≡ 12
 unfolding listing fields bytesOf decimal digits
 refusal-length = refl
 
-pub refusal-laid : {old new : List ℕ} {r : ℕ} → length old ≡ listingLength → Listed (answer 1 0 0 (counts 0 0 0)) [] old new r
-    → Lays old new r (listing (rejected 1 0 []))
-refusal-laid {old} {new} {r} m l =
-    let w : Writes old new 0 r (listing (rejected 1 0 [])) = subst (Writes old new 0 r) refusal-is (l .along) in
+pub refusal-laid : {old new : List ℕ} {r : ℕ} {a : Answer} → length old ≡ listingLength → a ≡ answer 1 0 0 (counts 0 0 0) → Listed a [] old new r
+    → Lays old new r (listing (rejected (refuse textTooLong 0) []))
+refusal-laid {old} {new} {r} m is l =
+    let w : Writes old new 0 r (listing (rejected (refuse textTooLong 0) [])) = subst (Writes old new 0 r) (ap (λ (a : Answer). account a []) is ∙ refusal-is) (l .along) in
     let e = w .ends in
     let k = refusal-length in
     lays w (omega (arith, e, k, m))
 
-pub over-printed : {t old new : List ℕ} {r : ℕ} → 32768 < length t → Lays old new r (listing (rejected 1 0 [])) → Prints t old new r
-over-printed h l = record { bytes = listing (rejected 1 0 []); lists = over h; lays = l }
+pub over-printed : {t old new : List ℕ} {r : ℕ} → 32768 < length t → Lays old new r (listing (rejected (refuse textTooLong 0) [])) → Prints t old new r
+over-printed h l = record { bytes = listing (rejected (refuse textTooLong 0) []); lists = over h; lays = l }
 
 -- ---- two outcomes that the contract allows are one
 

@@ -1,9 +1,10 @@
 // What 01's list program prints of a text: the reader flattens it, and its flat file is listed. The programs only read and write.
-use definition::Answer;
+use definition::Refusal;
 ghost use mathlib.Core.Path.{_≡_};
 ghost use mathlib.Core.List.{[]};
 ghost use Prim.Native.Nat.{_≤_};
 ghost use lib.ListN.{length};
+ghost use Rattle.definition.specs.Rules.{textTooLong, refuse};
 ghost use Rattle.definition.specs.Answer.{rejected};
 ghost use Rattle.definition.specs.Listing.{listing};
 ghost use Rattle.printout.specs.Prints.{Lays, Prints, roomLength, listingLength};
@@ -23,21 +24,14 @@ fn flat_room() -> [u8; MOST]
 // A text that is longer than the list program takes.
 fn print_refusal(out: &mut [u8]) -> usize
     requires { ⌜ length (now out) ≡ listingLength ⌝ }
-    ensures { λ r. ⌜ Lays (now (out .entry)) (now (out .exit)) r (listing (rejected 1 0 [])) ⌝ }
+    ensures { λ r. ⌜ Lays (now (out .entry)) (now (out .exit)) r (listing (rejected (refuse textTooLong 0) [])) ⌝ }
 {
+    let over = Refusal {
+        number: 1,
+        place: 0,
+    };
     let nothing: [u8; 0] = [];
-    listing::list(
-        &nothing,
-        Answer {
-            number: 1,
-            place: 0,
-            length: 0,
-            shapes: 0,
-            calls: 0,
-            redefinitions: 0,
-        },
-        out,
-    )
+    listing::list(&nothing, answer::refused(over, counts::no_counts()), out)
 }
 
 fn print_flat(text: &[u8], room: &mut [u8], out: &mut [u8]) -> usize
