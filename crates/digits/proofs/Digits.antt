@@ -1,18 +1,21 @@
 -- Decimals as the code writes them: counted by tenths, stored from the last digit on, behind a minus sign; and how many bytes numbers of 64 bits have.
 -- Assumes nothing.
-use mathlib.Core.Path.{_≡_, refl, sym, ap, _∙_}
-use mathlib.Core.List.{List, [], _∷_, _++_}
-use Prim.Native.Nat.{ℕ, zero, suc, _+_, _-_, _/_, _%_, _≤_, _<_}
+use mathlib.Core.Path.{_≡_, refl, sym, ap, _∙_, subst}
+use mathlib.Core.List.{List, [], _∷_, _++_, append-assoc, append-nil}
+use Prim.Native.Nat.{ℕ, zero, suc, _+_, _*_, _-_, _/_, _%_, _≤_, _<_}
+use native.Mathlib.Nat.{mul-comm, mul-assoc, mul-left-comm, mul-right-comm, mul-add, mul-le-mul-left, mul-le-mul-right, lt-of-mul-lt-mul-right, mod-lt}
 use native.Mathlib.Omega.{arith}
 use borrow.Author.Tests.{lt-ltb, le-ltb}
 use lib.IntN.{ℤ, pos, negsuc, natAbs}
-use lib.ListN.{length, length-append}
+use lib.ListN.{length, set, length-append}
 use lib.Seq.{sets}
 use Rattle.definition.specs.Flat.{digits, shortest, decimal}
 use Rattle.laws.proofs.FlatFile.Decimals.{by-shortest}
 use Rattle.laws.proofs.FlatFile.Lengths.{shortest-length}
 use Rattle.digits.specs.Writes.{Writes}
-use Rattle.digits.proofs.Writing.{last-first}
+use Rattle.digits.specs.Tens.{tens, lasts, whole, Raises, Wide}
+use Rattle.digits.proofs.Writing.{Going, begun, goes-on, reaches, written, only-counted, nothing, both, same-bytes}
+use Rattle.digits.proofs.Tens.{tens-positive, tenth-quotient, rest-tenth, rest-last, first-digit, digit-is, rest-low, rest-high}
 
 -- ---- one digit, and more
 
@@ -43,19 +46,23 @@ counts-one n h = ap length (one-digit n h)
 pub counts-more : (n : ℕ) → 10 ≤ n → length (shortest n) ≡ length (shortest (n / 10)) + 1
 counts-more n h = ap length (more-digits n h) ∙ length-append (shortest (n / 10)) ((48 + n % 10) ∷ [])
 
--- ---- from the last on
+-- ---- from the highest on
 
--- the last digits of a number, as many as said
-pub lasts : ℕ → ℕ → List ℕ
-lasts zero n = []
-lasts (suc k) n = lasts k (n / 10) ++ ((48 + n % 10) ∷ [])
+-- a number with k digits and one more has as many
+pub counts-between : (k n : ℕ) → tens k ≤ n → n < tens (suc k) → length (shortest n) ≡ suc k
+unfolding tens
+counts-between zero n h l = counts-one n (omega (arith, l))
+counts-between (suc k) n h l =
+    let z = tens-positive k in
+    let i = counts-between k (n / 10) (omega (arith, h)) (omega (arith, l)) in
+    omega (arith, counts-more n (omega (arith, h, z)), i)
 
-lasts-length : (k n : ℕ) → length (lasts k n) ≡ k
+pub lasts-length : (k n : ℕ) → length (lasts k n) ≡ k
 unfolding lasts
 lasts-length zero n = refl
 lasts-length (suc k) n = omega (arith, length-append (lasts k (n / 10)) ((48 + n % 10) ∷ []), lasts-length k (n / 10))
 
-all-lasts : (n : ℕ) → lasts (length (shortest n)) n ≡ shortest n
+pub all-lasts : (n : ℕ) → lasts (length (shortest n)) n ≡ shortest n
 unfolding lasts
 all-lasts = by-shortest (λ (n : ℕ) (cs : List ℕ). lasts (length cs) n ≡ cs) low high
   where
@@ -67,35 +74,145 @@ all-lasts = by-shortest (λ (n : ℕ) (cs : List ℕ). lasts (length cs) n ≡ c
         let l : length (cs ++ ((48 + n % 10) ∷ [])) ≡ suc (length cs) = omega (arith, length-append cs ((48 + n % 10) ∷ [])) in
         ap (λ (k : ℕ). lasts k n) l ∙ ap (λ (x : List ℕ). x ++ ((48 + n % 10) ∷ [])) e
 
--- what is left to store, the last digits of `rest` from `at` up to `i`, makes the room that has them all
-pub record Backward (old new : List ℕ) (at i n rest : ℕ) : Type 0 where
-  pub kept : length new ≡ length old
-  pub reach : at ≤ i
-  pub left : sets new at (lasts (i - at) rest) ≡ sets old at (shortest n)
+-- a number lies below the power of ten of its digits
+pub below : (n : ℕ) → n < tens (length (shortest n))
+unfolding tens
+below = by-shortest (λ (n : ℕ) (cs : List ℕ). n < tens (length cs)) (λ n h. omega (arith, h)) high
+  where
+    high : (n : ℕ) (cs : List ℕ) → 10 ≤ n → n / 10 < tens (length cs) → n < tens (length (cs ++ ((48 + n % 10) ∷ [])))
+    high n cs h i =
+        let l : suc (length cs) ≡ length (cs ++ ((48 + n % 10) ∷ [])) = omega (arith, length-append cs ((48 + n % 10) ∷ [])) in
+        subst (λ (k : ℕ). n < tens k) l (omega (arith, i))
 
-pub none-stored : (room : List ℕ) (at i n : ℕ) → i ≡ at + length (shortest n) → Backward room room at i n n
-none-stored room at i n e = record {
-  kept = refl;
-  reach = omega (arith, e);
-  left = let k : i - at ≡ length (shortest n) = omega (arith, e) in ap (λ (k : ℕ). sets room at (lasts k n)) k ∙ ap (sets room at) (all-lasts n);
-}
+-- a number written in two parts: what comes before its last k digits, and these
+pub in-parts : (k n : ℕ) → tens k ≤ n → shortest n ≡ shortest (n / tens k) ++ lasts k (n % tens k)
+unfolding tens lasts
+in-parts zero n h = let e : n ≡ n / 1 = omega arith in ap shortest e ∙ sym (append-nil (shortest (n / 1)))
+in-parts (suc k) n h =
+    let u = tens k in
+    let z = tens-positive k in
+    let last : List ℕ = (48 + n % 10) ∷ [] in
+    more-digits n (omega (arith, h, z))
+    ∙ ap (λ (x : List ℕ). x ++ last) (in-parts k (n / 10) (omega (arith, h)))
+    ∙ append-assoc (shortest (n / 10 / u)) (lasts k (n / 10 % u)) last
+    ∙ ap (λ (q : ℕ). shortest q ++ (lasts k (n / 10 % u) ++ last)) (sym (tenth-quotient u n z))
+    ∙ ap (λ (r : ℕ). shortest (n / (10 * u)) ++ (lasts k r ++ last)) (sym (rest-tenth u n z))
+    ∙ ap (λ (d : ℕ). shortest (n / (10 * u)) ++ (lasts k (n % (10 * u) / 10) ++ ((48 + d) ∷ []))) (sym (rest-last u n z))
 
-pub one-stored : {r₀ r₁ r₂ : List ℕ} {at i j k next n rest : ℕ} → Backward r₀ r₁ at i n rest → Writes r₁ r₂ k next ((48 + rest % 10) ∷ []) → at ≤ j
-    → i ≡ j + 1 → k ≡ j → Backward r₀ r₂ at j n (rest / 10)
-unfolding lasts
-one-stored {r₀} {r₁} {r₂} {at} {i} {j} {k} {n = n} {rest} b w h e p =
-    let l = lasts (j - at) (rest / 10) in
-    let here : k ≡ at + length l = omega (arith, lasts-length (j - at) (rest / 10), h, p) in
-    let more : suc (j - at) ≡ i - at = omega (arith, h, e) in
+-- so many digits, by two comparisons, and a unit, by two tests that compute
+pub wide : (k n unit : ℕ) → tens k ≤ n → n < tens (suc k) → suc k ≤ 9 → 10 * whole ≤ unit * tens (suc k)
+    → (unit * tens (suc k) - 10 * whole) * tens (suc k) < 10 * whole → Wide n (suc k) unit
+wide k n unit h l few over close = record { all = sym (counts-between k n h l); raises = record { few = few; over = over; close = close } }
+
+pub wide-one : (n : ℕ) → n < 10 → Wide n 1 whole
+unfolding tens
+wide-one n h = record { all = sym (counts-one n h); raises = record { few = omega arith; over = omega arith; close = omega arith } }
+
+pub below-wide : {n count unit : ℕ} → Wide n count unit → n < tens count
+below-wide {n} w = subst (λ (k : ℕ). n < tens k) (sym (w .all)) (below n)
+
+pub all-wide : {n count unit : ℕ} → Wide n count unit → lasts count n ≡ shortest n
+all-wide {n} w = ap (λ (k : ℕ). lasts k n) (w .all) ∙ all-lasts n
+
+-- a part of nine digits, with its unit; and a number that ends with one
+pub nine : Raises 9 1441151881
+unfolding tens
+nine = record { few = omega arith; over = omega arith; close = omega arith }
+
+pub below-nine : (n : ℕ) → n % 1000000000 < tens 9
+unfolding tens
+below-nine n = omega arith
+
+pub ends-with-nine : (n : ℕ) → 1000000000 ≤ n → shortest (n / 1000000000) ++ lasts 9 (n % 1000000000) ≡ shortest n
+unfolding tens
+ends-with-nine n h = sym (in-parts 9 n h)
+
+pub counts-parts : (n : ℕ) → 1000000000 ≤ n → length (shortest n) ≡ length (shortest (n / 1000000000)) + 9
+counts-parts n h =
+    let l = lasts-length 9 (n % 1000000000) in
+    let a = length-append (shortest (n / 1000000000)) (lasts 9 (n % 1000000000)) in
+    let e = ap length (ends-with-nine n h) in
+    omega (arith, l, a, e)
+
+-- ---- the loop: `rest` has the digits that are left, as many as `k`, and the product is `rest` in units of 2^57 / 10^(k - 1)
+
+pub record Falling (old new : List ℕ) (at i : ℕ) (all : List ℕ) (left : ℕ) : Type 0 where
+  pub rest : ℕ
+  pub k : ℕ
+  pub going : Going old new at i all (lasts k rest)
+  pub below : rest < tens k
+  pub low : rest * (10 * whole) ≤ left * tens k
+  pub high : left * tens k < (rest + 1) * (10 * whole)
+  pub small : left < 10 * whole
+
+-- the rounding, times a number of that many digits, is less than one of its last digit
+rounded-little : (count unit n : ℕ) → Raises count unit → n < tens count
+    → (n * (10 * whole) ≤ n * unit * tens count) × (n * unit * tens count < (n + 1) * (10 * whole))
+rounded-little count unit n r h =
+    let u = tens count in
+    let e = unit * u - 10 * whole in
+    let a = mul-assoc n unit u in
+    let b : unit * u ≡ 10 * whole + e = omega (arith, r .over) in
+    let c : n * (unit * u) ≡ n * (10 * whole) + n * e = ap (λ (x : ℕ). n * x) b ∙ mul-add n (10 * whole) e in
+    let d : n * e ≤ u * e = mul-le-mul-right e (omega (arith, h)) in
+    let f = mul-comm u e in
+    (omega (arith, a, c), omega (arith, a, c, d, f, r .close))
+
+pub begins-to-fall : {room : List ℕ} {at n count unit : ℕ} → Raises count unit → n < tens count → Falling room room at at (lasts count n) (n * unit)
+begins-to-fall {room} {at} {n} {count} {unit} r h =
+    let little = rounded-little count unit n r h in
+    let more : (n + 1) * (10 * whole) ≤ 10 * whole * tens count = let m = mul-le-mul-left {m = n + 1} {n = tens count} (10 * whole) (omega (arith, h)) in omega (arith, m) in
     record {
-      kept = w .kept ∙ b .kept;
-      reach = h;
-      left = ap (λ (r : List ℕ). sets r at l) (w .laid) ∙ last-first r₁ at l k (48 + rest % 10) here ∙ ap (λ (m : ℕ). sets r₁ at (lasts m rest)) more ∙ b .left;
+      rest = n;
+      k = count;
+      going = begun room at (lasts count n);
+      below = h;
+      low = little .0;
+      high = little .1;
+      small = lt-of-mul-lt-mul-right (tens count) {m = n * unit} {n = 10 * whole} (omega (arith, little .1, more));
     }
 
-pub all-stored : {old new : List ℕ} {at i n rest : ℕ} → Backward old new at i n rest → i ≤ at → new ≡ sets old at (shortest n)
+pub falls : {old new : List ℕ} {at i : ℕ} {all : List ℕ} {left : ℕ} → Falling old new at i all left → i < at + length all
+    → Falling old (set new i (48 + left / whole)) at (i + 1) all (left % whole * 10)
+unfolding tens
+falls {old} {new} {at} {i} {all} {left} f h = by (f .k) (f .rest) (f .going) (f .below) (f .low) (f .high)
+  where
+    by : (k rest : ℕ) → Going old new at i all (lasts k rest) → rest < tens k → rest * (10 * whole) ≤ left * tens k → left * tens k < (rest + 1) * (10 * whole)
+        → Falling old (set new i (48 + left / whole)) at (i + 1) all (left % whole * 10)
+    by zero rest g b l m = absurd (let r = reaches g in let n = lasts-length 0 rest in omega (arith, r, n, h))
+    by (suc j) rest g b l m =
+        let u = tens j in
+        let z = tens-positive j in
+        let t = mul-left-comm left 10 u in
+        let l′ : rest * whole ≤ left * u = omega (arith, l, t) in
+        let m′ : left * u < (rest + 1) * whole = omega (arith, m, t) in
+        let d = digit-is whole left rest u z (omega arith) l′ m′ in
+        let lo = rest-low whole left rest u z (omega arith) l′ m′ in
+        let hi = rest-high whole left rest u z (omega arith) l′ m′ in
+        let s = mul-right-comm (left % whole) 10 u in
+        let e : lasts (suc j) rest ≡ (48 + left / whole) ∷ lasts j (rest % u) = first-digit j rest b ∙ ap (λ (q : ℕ). (48 + q) ∷ lasts j (rest % u)) (sym d) in
+        record {
+          rest = rest % u;
+          k = j;
+          going = goes-on ((48 + left / whole) ∷ []) g e (written refl refl);
+          below = mod-lt rest {m = u} z;
+          low = omega (arith, lo, s);
+          high = omega (arith, hi, s);
+          small = omega arith;
+        }
+
+-- where the loop ends, at the last digit or at the room's end, what is left lies past the room
+pub fallen : {old new : List ℕ} {at i next : ℕ} {all : List ℕ} {left : ℕ} → Falling old new at i all left → next ≡ at + length all
+    → (i < next → length new ≤ i) → Writes old new at next all
 unfolding lasts
-all-stored {old} {new} {at} {i} {n} {rest} b h = let none : zero ≡ i - at = omega (arith, h) in ap (λ (k : ℕ). sets new at (lasts k rest)) none ∙ b .left
+fallen {old} {new} {at} {i} {next} {all} f e past =
+    let g = f .going in
+    let r = reaches g in
+    same-bytes (g .parts) (both (g .writes) (tail (f .k) (f .rest) r))
+  where
+    tail : (k rest : ℕ) → i + length (lasts k rest) ≡ at + length all → Writes new new i next (lasts k rest)
+    tail zero rest r = let z : next ≡ i = omega (arith, e, r) in subst (λ (n : ℕ). Writes new new i n []) (sym z) (nothing new i)
+    tail (suc k) rest r = only-counted (past (let l = lasts-length (suc k) rest in omega (arith, e, r, l))) (omega (arith, e, r))
 
 -- ---- lengths of numbers of 64 bits
 

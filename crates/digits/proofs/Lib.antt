@@ -1,3 +1,4 @@
 pub mod Writing
+pub mod Tens
 pub mod Digits
 pub mod Signs

@@ -2,12 +2,13 @@
 // so one drawing measures, on an empty room, and writes.
 ghost use mathlib.Core.Path.{_≡_};
 ghost use mathlib.Core.List.{_∷_, []};
-ghost use Prim.Native.Nat.{_+_, _^_, _≤_};
+ghost use Prim.Native.Nat.{_+_, _^_, _<_, _≤_};
 ghost use lib.IntN.{natAbs};
 ghost use lib.ListN.{length};
 ghost use lib.Seq.{sets};
 ghost use Rattle.definition.specs.Flat.{shortest, decimal};
 ghost use Rattle.digits.specs.Writes.{Writes, sign};
+ghost use Rattle.digits.specs.Tens.{tens, lasts, Raises, Wide};
 
 pub fn put(room: &mut [u8], at: usize, byte: u8) -> usize
     requires { ⌜ at ≤ 2 ^ 63 ⌝ }
@@ -20,45 +21,156 @@ pub fn put(room: &mut [u8], at: usize, byte: u8) -> usize
     at + 1
 }
 
-// How many digits a number has.
-fn digit_count(n: u64) -> usize
-    ensures { λ r. ⌜ r ≡ length (shortest n) ⌝ }
-{
-    let mut count: usize = 1;
-    let mut high = n;
-    while 10 <= high {
-        high /= 10;
-        count += 1;
-    }
-    count
+// Numbers below it have digits that fall out of one product of 64 bits: what no text has, but a reader may be asked to write, is written in parts.
+const BILLION: u64 = 1_000_000_000;
+
+// 2^57: in that product the next digit stands above it, and all that is left below.
+const WHOLE: u64 = 144_115_188_075_855_872;
+
+// How many digits a number has, and by what it is multiplied, so that the first of them stands above 2^57.
+struct Width {
+    count: usize,
+    unit: u64,
 }
 
-// The digits, from the last on, each in its place.
-fn put_backward(room: &mut [u8], at: usize, end: usize, n: u64)
-    requires { ⌜ (end ≡ at + length (shortest n)) × (end ≤ 2 ^ 63) ⌝ }
-    ensures { λ _. ⌜ now (room .exit) ≡ sets (now (room .entry)) at (shortest n) ⌝ }
+// The unit of nine digits.
+const NINE_UNIT: u64 = 1_441_151_881;
+
+// By comparisons alone: a division for each digit is dear.
+fn width_of(n: u64) -> Width
+    requires { ⌜ n < 1000000000 ⌝ }
+    ensures { λ r. ⌜ Wide n (r .count) (r .unit) ⌝ }
 {
-    let mut rest = n;
-    let mut i = end;
-    while at < i {
-        i -= 1;
-        put(room, i, (48 + rest % 10) as u8);
-        rest /= 10;
+    if n < 10 {
+        return Width {
+            count: 1,
+            unit: 144_115_188_075_855_872,
+        };
+    }
+    if n < 100 {
+        return Width {
+            count: 2,
+            unit: 14_411_518_807_585_588,
+        };
+    }
+    if n < 1_000 {
+        return Width {
+            count: 3,
+            unit: 1_441_151_880_758_559,
+        };
+    }
+    if n < 10_000 {
+        return Width {
+            count: 4,
+            unit: 144_115_188_075_856,
+        };
+    }
+    if n < 100_000 {
+        return Width {
+            count: 5,
+            unit: 14_411_518_807_586,
+        };
+    }
+    if n < 1_000_000 {
+        return Width {
+            count: 6,
+            unit: 1_441_151_880_759,
+        };
+    }
+    if n < 10_000_000 {
+        return Width {
+            count: 7,
+            unit: 144_115_188_076,
+        };
+    }
+    if n < 100_000_000 {
+        return Width {
+            count: 8,
+            unit: 14_411_518_808,
+        };
+    }
+    Width {
+        count: 9,
+        unit: NINE_UNIT,
     }
 }
 
-// Digits are counted first and then stored from the last on: two loops, where a call for each digit is dear. Where the room ends before them, as it
-// does in a drawing that measures, they are only counted.
+fn lower_of(a: usize, b: usize) -> usize
+    ensures { λ r. ⌜ (r ≤ a) × (r ≤ b) × ((r < a → r ≡ b)) ⌝ }
+{
+    if a < b {
+        return a;
+    }
+    b
+}
+
+// So many digits, from the highest on, as far as the room reaches. The product is a little too large, by less than one of the last digit.
+fn put_short(room: &mut [u8], at: usize, n: u64, count: usize, unit: u64) -> usize
+    requires { ⌜ Raises count unit × (n < tens count) × (at ≤ 2 ^ 63) ⌝ }
+    ensures { λ r. ⌜ Writes (now (room .entry)) (now (room .exit)) at r (lasts count n) ⌝ }
+{
+    let end = at + count;
+    let stop = lower_of(end, room.len());
+    let mut left = n * unit;
+    let mut i = at;
+    while i < stop {
+        room[i] = (48 + left / WHOLE) as u8;
+        left = left % WHOLE * 10;
+        i += 1;
+    }
+    end
+}
+
+// A number of at most nine digits.
+fn put_first(room: &mut [u8], at: usize, n: u64) -> usize
+    requires { ⌜ (n < 1000000000) × (at ≤ 2 ^ 63) ⌝ }
+    ensures { λ r. ⌜ Writes (now (room .entry)) (now (room .exit)) at r (shortest n) ⌝ }
+{
+    let width = width_of(n);
+    put_short(room, at, n, width.count, width.unit)
+}
+
+// A number of ten digits or more: nine digits at a time, after the first of them.
+fn put_long(room: &mut [u8], at: usize, n: u64) -> usize
+    requires { ⌜ (1000000000 ≤ n) × (at ≤ 2 ^ 62) ⌝ }
+    ensures { λ r. ⌜ Writes (now (room .entry)) (now (room .exit)) at r (shortest n) ⌝ }
+{
+    let high = n / BILLION;
+    if high < BILLION {
+        let next = put_first(room, at, high);
+        return put_short(room, next, n % BILLION, 9, NINE_UNIT);
+    }
+    let next = put_first(room, at, high / BILLION);
+    let last = put_short(room, next, high % BILLION, 9, NINE_UNIT);
+    put_short(room, last, n % BILLION, 9, NINE_UNIT)
+}
+
+// From the highest digit on, straight into the room.
 pub fn put_digits(room: &mut [u8], at: usize, n: u64) -> usize
     requires { ⌜ at ≤ 2 ^ 62 ⌝ }
     ensures { λ r. ⌜ Writes (now (room .entry)) (now (room .exit)) at r (shortest n) ⌝ }
 {
-    let end = at + digit_count(n);
-    if room.len() <= at {
-        return end;
+    if n < BILLION {
+        return put_first(room, at, n);
     }
-    put_backward(room, at, end, n);
-    end
+    put_long(room, at, n)
+}
+
+// How many digits a number has, where they are only counted.
+pub fn digit_count(n: u64) -> usize
+    ensures { λ r. ⌜ r ≡ length (shortest n) ⌝ }
+{
+    if n < BILLION {
+        let width = width_of(n);
+        return width.count;
+    }
+    let high = n / BILLION;
+    if high < BILLION {
+        let width = width_of(high);
+        return width.count + 9;
+    }
+    let width = width_of(high / BILLION);
+    width.count + 18
 }
 
 // How far a number is from zero. The lowest number of 64 bits has no positive of its own, so one is added before the sign is turned, and again behind.

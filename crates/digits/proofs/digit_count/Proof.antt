@@ -1,35 +1,45 @@
--- `pen::digit_count` meets its contract: what is counted and what is left have one digit more than the number. The measure is what is left.
+-- `digits::digit_count` meets its contract: nine digits more for each part that comes off.
 -- Assumes nothing.
-use mathlib.Core.Path.{_≡_}
-use Prim.Native.Nat.{_+_}
+use Prim.Native.Nat.{_/_}
 use native.Mathlib.Omega.{arith}
-use lib.ListN.{length}
-use Rattle.definition.specs.Flat.{shortest}
-use Rattle.digits.proofs.Digits.{counts-one, counts-more, digits-64}
+use borrow.Author.Needs.{needs}
+use Rattle.digits.proofs.Digits.{counts-parts, digits-64}
 use Rattle.digits.proofs.digit_count.Statement.{statement}
 use Rattle.digits.proofs.digit_count.Tie as tie
 
-abbrev Inv-loop : tie.InvT-loop
-Inv-loop n count₀ high₀ count high = count + length (shortest high) ≡ length (shortest n) + 1
+width-of-requires : tie.Need-width-of-requires
+width-of-requires c κs = search needs
 
-abbrev μ-loop : tie.MeasureT-loop
-μ-loop n count₀ high₀ count high = high
+returns : tie.Need-returns
+returns c = search needs
 
-loop-holds : tie.Need-loop-holds Inv-loop μ-loop
-loop-holds c = omega arith
+width-of-requires-2 : tie.Need-width-of-requires-2
+width-of-requires-2 c κs = search needs
 
-add-count : tie.Need-add-count Inv-loop μ-loop
-add-count c = omega (arith, digits-64 (c .before .before .args .n) (omega arith))
+add-result : tie.Need-add-result
+add-result c = search needs
 
-loop-less : tie.Need-loop-less Inv-loop μ-loop
-loop-less c = omega arith
+returns-2 : tie.Need-returns-2
+returns-2 c = let e = counts-parts (c .before .before .before .before .args .n) (omega arith) in omega (arith, e, c .before .width-of2 .ensures .all)
 
-loop-again : tie.Need-loop-again Inv-loop μ-loop
-loop-again c = omega (arith, counts-more (c .before .loop .high) (omega arith))
+width-of-requires-3 : tie.Need-width-of-requires-3
+width-of-requires-3 c κs = search needs
 
-returns : tie.Need-returns Inv-loop μ-loop
-returns c = omega (arith, counts-one (c .before .loop .high) (omega arith))
+add-result-2 : tie.Need-add-result-2
+add-result-2 c = search needs
+
+returns-3 : tie.Need-returns-3
+returns-3 c = let e = counts-parts (c .before .before .before .before .args .n) (omega arith) in let f = counts-parts (c .before .before .before .before .args .n / 1000000000) (omega arith) in omega (arith, e, f, c .before .width-of3 .ensures .all)
 
 pub digit-count-spec : {M : Type 1} → statement M
 digit-count-spec =
-    tie.close (tie.spec Inv-loop μ-loop loop-holds add-count loop-less loop-again returns)
+    tie.close
+    (tie.spec
+    width-of-requires
+    returns
+    width-of-requires-2
+    add-result
+    returns-2
+    width-of-requires-3
+    add-result-2
+    returns-3)
