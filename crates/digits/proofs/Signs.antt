@@ -2,19 +2,20 @@
 -- Assumes nothing.
 use mathlib.Core.Path.{_≡_, refl, sym, ap, _∙_, subst}
 use mathlib.Core.Bool.{Bool, true, false, cond}
-use mathlib.Core.List.{[], _∷_, _++_}
+use mathlib.Core.List.{List, [], _∷_, _++_}
 use Prim.Native.Nat.{ℕ, zero, suc, _+_, _≤_, _<_}
 use native.Mathlib.Numerals.{add-one}
 use native.Mathlib.Omega.{arith}
 use borrow.Author.Tests.{ltb-true, leb-false, le-ltb}
 use lib.IntN.{ℤ, pos, negsuc, natAbs, _+ℤ_, _-ℤ_, +ℤ-idl, +ℤ-one}
-use lib.ListN.{length}
+use lib.ListN.{length, length-append}
 use lib.Signed.{ltZ, leZ, mag, natAbs-le}
 use mir.Facts.{toZ-ofZ}
 use mir.Syntax.{w64}
 use mir.Val.{SFits, toZ, ofZ}
 use Rattle.definition.specs.Flat.{shortest, decimal}
-use Rattle.digits.specs.Writes.{sign}
+use Rattle.digits.specs.Writes.{Writes, sign}
+use Rattle.digits.proofs.Writing.{both, same-bytes}
 
 abbrev pub wrap : ℤ → ℤ
 wrap z = toZ w64 (ofZ w64 z)
@@ -95,6 +96,23 @@ pub sign-size : (z : ℤ) → sign z ++ shortest (natAbs z) ≡ decimal z
 unfolding decimal
 sign-size (pos n) = refl
 sign-size (negsuc n) = refl
+
+-- the sign and the size, written one after the other
+pub signed : {r₀ r₁ r₂ : List ℕ} {at next last : ℕ} (z : ℤ) → Writes r₀ r₁ at next (sign z) → Writes r₁ r₂ next last (shortest (natAbs z)) → Writes r₀ r₂ at last (decimal z)
+signed z v w = same-bytes (sign-size z) (both v w)
+
+-- how many bytes they have
+pub negative-length : (z : ℤ) → Negative z → length (decimal z) ≡ length (shortest (natAbs z)) + 1
+negative-length z h =
+    let e = ap length (sign-size z) in
+    let m = ap length (minus z h) in
+    omega (arith, e, m, length-append (sign z) (shortest (natAbs z)))
+
+pub positive-length : (z : ℤ) → Positive z → length (decimal z) ≡ length (shortest (natAbs z))
+positive-length z h =
+    let e = ap length (sign-size z) in
+    let m = ap length (no-minus z h) in
+    omega (arith, e, m, length-append (sign z) (shortest (natAbs z)))
 
 -- an element of a lent run
 pub lent : (z : ℤ) → mag z < 9223372036854775808 → (wrap z ≡ z) × (natAbs z ≤ 9223372036854775808)

@@ -21,6 +21,15 @@ pub fn put(room: &mut [u8], at: usize, byte: u8) -> usize
     at + 1
 }
 
+// A byte that surely lies within the room: no test.
+pub fn lay(room: &mut [u8], at: usize, byte: u8) -> usize
+    requires { ⌜ at < length (now room) ⌝ }
+    ensures { λ r. ⌜ Writes (now (room .entry)) (now (room .exit)) at r (byte ∷ []) ⌝ }
+{
+    room[at] = byte;
+    at + 1
+}
+
 // Numbers below it have digits that fall out of one product of 64 bits: what no text has, but a reader may be asked to write, is written in parts.
 const BILLION: u64 = 1_000_000_000;
 
@@ -199,5 +208,36 @@ pub fn put_decimal(room: &mut [u8], at: usize, z: i64) -> usize
     ensures { λ r. ⌜ Writes (now (room .entry)) (now (room .exit)) at r (decimal z) ⌝ }
 {
     let next = put_sign(room, at, z);
+    put_digits(room, next, size_of(z))
+}
+
+// How many bytes a number has, where it is only measured.
+pub fn decimal_length(z: i64) -> usize
+    ensures { λ r. ⌜ r ≡ length (decimal z) ⌝ }
+{
+    let count = digit_count(size_of(z));
+    if z < 0 {
+        return count + 1;
+    }
+    count
+}
+
+// The sign of a number that surely lies within the room: no test.
+fn lay_sign(room: &mut [u8], at: usize, z: i64) -> usize
+    requires { ⌜ at < length (now room) ⌝ }
+    ensures { λ r. ⌜ Writes (now (room .entry)) (now (room .exit)) at r (sign z) ⌝ }
+{
+    if z < 0 {
+        return lay(room, at, b'-');
+    }
+    at
+}
+
+// A number that surely lies within the room: its sign is stored without a test. Its digits are stored up to the room's end in any case, which is looked at once.
+pub fn lay_decimal(room: &mut [u8], at: usize, z: i64) -> usize
+    requires { ⌜ (at < length (now room)) × (at ≤ 2 ^ 61) ⌝ }
+    ensures { λ r. ⌜ Writes (now (room .entry)) (now (room .exit)) at r (decimal z) ⌝ }
+{
+    let next = lay_sign(room, at, z);
     put_digits(room, next, size_of(z))
 }

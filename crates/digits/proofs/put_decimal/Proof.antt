@@ -2,8 +2,7 @@
 -- Assumes nothing.
 use native.Mathlib.Omega.{arith}
 use mir.Facts.{toZ-ofZ}
-use Rattle.digits.proofs.Writing.{both, same-bytes}
-use Rattle.digits.proofs.Signs.{sign-size, sign-short}
+use Rattle.digits.proofs.Signs.{signed, sign-short}
 use borrow.Author.Needs.{needs}
 use Rattle.digits.proofs.put_decimal.Statement.{statement}
 use Rattle.digits.proofs.put_decimal.Tie as tie
@@ -21,7 +20,7 @@ same-length : tie.Need-same-length
 same-length c = search needs
 
 returns : tie.Need-returns
-returns c = same-bytes (sign-size (c .before .before .before .before .before .before .before .before .before .before .args .z)) (both (rw (toZ-ofZ (c .before .before .before .before .before .before .before .before .before .before .fits .z)) at (c .before .before .before .before .before .before .before .put-sign .ensures)) (rw (c .before .before .before .size-of .ensures, toZ-ofZ (c .before .before .before .before .before .before .before .before .before .before .fits .z)) at (c .before .before .put-digits .ensures)))
+returns c = signed (c .before .before .before .before .before .before .before .before .before .before .args .z) (rw (toZ-ofZ (c .before .before .before .before .before .before .before .before .before .before .fits .z)) at (c .before .before .before .before .before .before .before .put-sign .ensures)) (rw (c .before .before .before .size-of .ensures, toZ-ofZ (c .before .before .before .before .before .before .before .before .before .before .fits .z)) at (c .before .before .put-digits .ensures))
 
 pub put-decimal-spec : {M : Type 1} → statement M
 put-decimal-spec =

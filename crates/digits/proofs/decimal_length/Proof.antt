@@ -1,0 +1,28 @@
+-- `digits::decimal_length` meets its contract: the digits of the size, and one byte more before a negative number.
+-- Assumes nothing.
+use native.Mathlib.Omega.{arith}
+use mir.Facts.{toZ-ofZ}
+use borrow.Author.Needs.{needs}
+use Rattle.digits.proofs.Signs.{negative, positive, negative-length, positive-length, size-kept}
+use Rattle.digits.proofs.Digits.{digits-64}
+use Rattle.digits.proofs.decimal_length.Statement.{statement}
+use Rattle.digits.proofs.decimal_length.Tie as tie
+
+size-of-requires : tie.Need-size-of-requires
+size-of-requires c κs = search needs
+
+digit-count-requires : tie.Need-digit-count-requires
+digit-count-requires c κs = search needs
+
+add-result : tie.Need-add-result
+add-result c = let e = c .before .digit-count .ensures in let l = digits-64 (c .before .before .size-of .result) (omega arith) in omega (arith, e, l)
+
+returns : tie.Need-returns
+returns c = let e = rw (c .before .before .size-of .ensures, toZ-ofZ (c .before .before .before .fits .z)) at (c .before .digit-count .ensures) in let l = negative-length (c .before .before .before .args .z) (negative (c .before .before .before .args .z) (c .before .before .before .fits .z) (c .if1 .taken)) in omega (arith, e, l)
+
+returns-2 : tie.Need-returns-2
+returns-2 c = let e = rw (c .before .before .size-of .ensures, toZ-ofZ (c .before .before .before .fits .z)) at (c .before .digit-count .ensures) in let l = positive-length (c .before .before .before .args .z) (positive (c .before .before .before .args .z) (c .before .before .before .fits .z) (c .if1 .left)) in omega (arith, e, l)
+
+pub decimal-length-spec : {M : Type 1} → statement M
+decimal-length-spec =
+    tie.close (tie.spec size-of-requires digit-count-requires add-result returns returns-2)
