@@ -3,9 +3,9 @@
 ghost use mathlib.Core.Path.{_≡_};
 ghost use mathlib.Core.List.{_∷_, []};
 ghost use Prim.Native.Nat.{_+_, _^_, _<_, _≤_};
-ghost use lib.IntN.{natAbs};
+ghost use lib.IntN.{pos, natAbs};
 ghost use lib.ListN.{length};
-ghost use lib.Seq.{sets};
+ghost use lib.Signed.{ltZ};
 ghost use Rattle.definition.specs.Flat.{shortest, decimal};
 ghost use Rattle.digits.specs.Writes.{Writes, sign};
 ghost use Rattle.digits.specs.Tens.{tens, lasts, Raises, Wide};
@@ -192,11 +192,17 @@ fn size_of(z: i64) -> u64
     (-(z + 1)) as u64 + 1
 }
 
+fn is_negative(z: i64) -> bool
+    ensures { λ r. ⌜ r ≡ ltZ z (pos 0) ⌝ }
+{
+    z < 0
+}
+
 fn put_sign(room: &mut [u8], at: usize, z: i64) -> usize
     requires { ⌜ at ≤ 2 ^ 61 ⌝ }
     ensures { λ r. ⌜ Writes (now (room .entry)) (now (room .exit)) at r (sign z) ⌝ }
 {
-    if z < 0 {
+    if is_negative(z) {
         return put(room, at, b'-');
     }
     at
@@ -216,7 +222,7 @@ pub fn decimal_length(z: i64) -> usize
     ensures { λ r. ⌜ r ≡ length (decimal z) ⌝ }
 {
     let count = digit_count(size_of(z));
-    if z < 0 {
+    if is_negative(z) {
         return count + 1;
     }
     count
@@ -227,7 +233,7 @@ fn lay_sign(room: &mut [u8], at: usize, z: i64) -> usize
     requires { ⌜ at < length (now room) ⌝ }
     ensures { λ r. ⌜ Writes (now (room .entry)) (now (room .exit)) at r (sign z) ⌝ }
 {
-    if z < 0 {
+    if is_negative(z) {
         return lay(room, at, b'-');
     }
     at
@@ -238,6 +244,6 @@ pub fn lay_decimal(room: &mut [u8], at: usize, z: i64) -> usize
     requires { ⌜ (at < length (now room)) × (at ≤ 2 ^ 61) ⌝ }
     ensures { λ r. ⌜ Writes (now (room .entry)) (now (room .exit)) at r (decimal z) ⌝ }
 {
-    let next = lay_sign(room, at, z);
-    put_digits(room, next, size_of(z))
+    let first = lay_sign(room, at, z);
+    put_digits(room, first, size_of(z))
 }

@@ -1,5 +1,6 @@
 -- `digits::decimal_length` meets its contract: the digits of the size, and one byte more before a negative number.
 -- Assumes nothing.
+use mathlib.Core.Path.{sym, _∙_}
 use native.Mathlib.Omega.{arith}
 use mir.Facts.{toZ-ofZ}
 use borrow.Author.Needs.{needs}
@@ -14,15 +15,18 @@ size-of-requires c κs = search needs
 digit-count-requires : tie.Need-digit-count-requires
 digit-count-requires c κs = search needs
 
+is-negative-requires : tie.Need-is-negative-requires
+is-negative-requires c κs = search needs
+
 add-result : tie.Need-add-result
-add-result c = let e = c .before .digit-count .ensures in let l = digits-64 (c .before .before .size-of .result) (omega arith) in omega (arith, e, l)
+add-result c = let e = c .before .before .digit-count .ensures in let l = digits-64 (c .before .before .before .size-of .result) (omega arith) in omega (arith, e, l)
 
 returns : tie.Need-returns
-returns c = let e = rw (c .before .before .size-of .ensures, toZ-ofZ (c .before .before .before .fits .z)) at (c .before .digit-count .ensures) in let l = negative-length (c .before .before .before .args .z) (negative (c .before .before .before .args .z) (c .before .before .before .fits .z) (c .if1 .taken)) in omega (arith, e, l)
+returns c = let e = rw (c .before .before .before .size-of .ensures, toZ-ofZ (c .before .before .before .before .fits .z)) at (c .before .before .digit-count .ensures) in let l = negative-length (c .before .before .before .before .args .z) (negative (c .before .before .before .before .args .z) (c .before .before .before .before .fits .z) (sym (c .before .is-negative .ensures) ∙ c .if1 .taken)) in omega (arith, e, l)
 
 returns-2 : tie.Need-returns-2
-returns-2 c = let e = rw (c .before .before .size-of .ensures, toZ-ofZ (c .before .before .before .fits .z)) at (c .before .digit-count .ensures) in let l = positive-length (c .before .before .before .args .z) (positive (c .before .before .before .args .z) (c .before .before .before .fits .z) (c .if1 .left)) in omega (arith, e, l)
+returns-2 c = let e = rw (c .before .before .before .size-of .ensures, toZ-ofZ (c .before .before .before .before .fits .z)) at (c .before .before .digit-count .ensures) in let l = positive-length (c .before .before .before .before .args .z) (positive (c .before .before .before .before .args .z) (c .before .before .before .before .fits .z) (sym (c .before .is-negative .ensures) ∙ c .if1 .left)) in omega (arith, e, l)
 
 pub decimal-length-spec : {M : Type 1} → statement M
 decimal-length-spec =
-    tie.close (tie.spec size-of-requires digit-count-requires add-result returns returns-2)
+    tie.close (tie.spec size-of-requires digit-count-requires is-negative-requires add-result returns returns-2)
