@@ -17,7 +17,7 @@ import reader  # noqa: E402
 import records  # noqa: E402
 
 STDIN, STDOUT = "crates/batch/stdin", "crates/batch/stdout"
-ROWS = ["tests/base.tsv", "tests/document.tsv", "tests/drawing.tsv"]
+ROWS = ["tests/base.tsv", "tests/digits.tsv", "tests/document.tsv", "tests/drawing.tsv"]
 ROOM = 4096  # of a text that has none of its own
 
 
