@@ -1,4 +1,5 @@
--- Decimals as the code writes them: counted by tenths, stored from the last digit on, behind a minus sign; and how many bytes numbers of 64 bits have.
+-- Decimals as the code writes them, from the highest digit on: how many digits there are, numbers in two parts, digits that fall out of a product; and how many bytes
+-- numbers of 64 bits have.
 -- Assumes nothing.
 use mathlib.Core.Path.{_≡_, refl, sym, ap, _∙_, subst}
 use mathlib.Core.List.{List, [], _∷_, _++_, append-assoc, append-nil}

@@ -1,4 +1,4 @@
--- `pen::put` meets its contract: past the room's end nothing is stored, which is what a store there does to a list.
+-- `digits::put` meets its contract: past the room's end nothing is stored, which is what a store there does to a list.
 -- Assumes nothing.
 use mathlib.Core.Path.{refl}
 use Rattle.digits.proofs.Writing.{only-counted}

@@ -1,4 +1,4 @@
--- `pen::put_decimal` meets its contract, for every number of 64 bits.
+-- `digits::put_decimal` meets its contract, for every number of 64 bits.
 -- Assumes nothing.
 use native.Mathlib.Omega.{arith}
 use mir.Facts.{toZ-ofZ}
