@@ -150,7 +150,7 @@ static void damage(struct output *flat) {
 static void show(struct bytes flat) {
   static struct output out;
   out = (struct output){.file = DROPPED};
-  if (!put_plot(&out, &(struct reading){.name = "f", .flat = flat})) exit(2);
+  if (!put_plot(&out, &(struct reading){.name = "f", .flat = flat}, &(struct view){.size = USUAL_SIZE})) exit(2);
 }
 
 static void try_flat(void) {

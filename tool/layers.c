@@ -77,3 +77,18 @@ void release_layers(struct layers *layers) {
   free(layers->runs);
   free(layers->all);
 }
+
+struct layer_walk walk_over_layer(struct bytes flat, const struct layers *layers, const struct layer *layer) {
+  return (struct layer_walk){.run = &layers->runs[layer->first_run], .runs = layer->runs, .walk = {.flat = flat, .layer = layer->name}};
+}
+
+bool next_on_layer(struct layer_walk *layer, struct shape *shape) {
+  while (layer->walk.at >= layer->end) {
+    if (layer->runs == 0) return false;
+    layer->walk.at = layer->run->start;
+    layer->end = layer->run->end;
+    layer->run++;
+    layer->runs--;
+  }
+  return next_shape(&layer->walk, shape);
+}

@@ -23,6 +23,9 @@ static const char help[] =
     "  --json       with check: an object of JSON for each FILE, on a line of its own\n"
     "  --any-order  with compare: whatever the order of the shapes\n"
     "  --strict     an accepted text that gets a hint ends with status 1 too\n"
+    "  --window x y x y   with plot: what lies between two corners, in microns\n"
+    "  --layers NM,NP     with plot: these layers only\n"
+    "  --size 1600        with plot: pixels of the frame's longer side, usually 800\n"
     "\n"
     "FILE or OUT may be -, for standard input or output; without -o it is standard output.\n"
     "OUT appears whole or not at all. A refusal goes to standard error and writes no OUT.\n"
@@ -35,35 +38,70 @@ static const char version[] = "cif " VERSION ": the CIF 2.0 reader Wadhuulexi\n"
 /* ---- the tasks and the words of the command line */
 
 /* What goes with a task. */
-enum takes { OUT = 1, QUIET = 2, JSON = 4, STRICT = 8, MANY = 16, REFUSALS = 32, TWO = 64, ANY_ORDER = 128 };
+enum takes { OUT = 1, QUIET = 2, JSON = 4, STRICT = 8, MANY = 16, REFUSALS = 32, TWO = 64, ANY_ORDER = 128, WINDOW = 256, LAYERS = 512, SIZE = 1024 };
 
-struct task {
-  const char *name;
-  /* What it writes for a text, NULL for check and compare, which have their own ways. False where there is not enough memory. */
-  bool (*show)(struct output *out, const struct reading *reading);
-  unsigned takes;
-};
-
-static bool flat(struct output *out, const struct reading *reading) {
-  put(out, reading->flat.at, reading->flat.count);
-  return true;
-}
-
-static const struct task tasks[] = {
-    {"check", NULL, QUIET | JSON | STRICT | MANY},
-    {"flat", flat, OUT | STRICT},
-    {"list", put_list, OUT | STRICT | REFUSALS},
-    {"plot", put_plot, OUT | STRICT},
-    {"summary", put_summary, OUT | STRICT},
-    {"compare", NULL, TWO | ANY_ORDER},
-};
+struct task;
 
 struct request {
   const struct task *task;
   char **files; /* the words that are no options */
   int count;
-  const char *out; /* NULL: not said */
-  unsigned given;  /* of QUIET, JSON, STRICT, ANY_ORDER */
+  const char *out;  /* NULL: not said */
+  unsigned given;   /* of the options below */
+  struct view view; /* for plot */
+};
+
+struct task {
+  const char *name;
+  /* What it writes for a text, NULL for check and compare, which have their own ways. False where there is not enough memory. */
+  bool (*show)(struct output *out, const struct request *request, const struct reading *reading);
+  unsigned takes;
+};
+
+static bool flat(struct output *out, const struct request *request, const struct reading *reading) {
+  (void)request;
+  put(out, reading->flat.at, reading->flat.count);
+  return true;
+}
+
+static bool list(struct output *out, const struct request *request, const struct reading *reading) {
+  (void)request;
+  return put_list(out, reading);
+}
+
+static bool plot(struct output *out, const struct request *request, const struct reading *reading) { return put_plot(out, reading, &request->view); }
+
+static bool summary(struct output *out, const struct request *request, const struct reading *reading) {
+  (void)request;
+  return put_summary(out, reading);
+}
+
+static const struct task tasks[] = {
+    {"check", NULL, QUIET | JSON | STRICT | MANY},
+    {"flat", flat, OUT | STRICT},
+    {"list", list, OUT | STRICT | REFUSALS},
+    {"plot", plot, OUT | STRICT | WINDOW | LAYERS | SIZE},
+    {"summary", summary, OUT | STRICT},
+    {"compare", NULL, TWO | ANY_ORDER},
+};
+
+/* An option, and for those that take words after them how many, what takes them apart, and what is said where that cannot be done. */
+struct option {
+  const char *word;
+  unsigned takes;
+  int words;
+  bool (*take)(struct view *view, char *const words[]);
+  const char *needs;
+};
+
+static const struct option options[] = {
+    {"-q", QUIET, 0, NULL, NULL},
+    {"--json", JSON, 0, NULL, NULL},
+    {"--strict", STRICT, 0, NULL, NULL},
+    {"--any-order", ANY_ORDER, 0, NULL, NULL},
+    {"--window", WINDOW, 4, take_window, "four numbers of microns, the x and y of two opposite corners, must follow"},
+    {"--layers", LAYERS, 1, take_layers, "names of layers, as in NM,NP, must follow"},
+    {"--size", SIZE, 1, take_size, "a number of pixels from 100 to 20000 must follow"},
 };
 
 static bool same(const char *one, const char *other) { return strcmp(one, other) == 0; }
@@ -91,15 +129,32 @@ static bool take_out(struct request *request, char **words, int *at) {
   return request->out != NULL || misread("no file name after", words[*at]);
 }
 
+/* --size=1600 is --size 1600. */
+static bool is_option(const struct option *option, const char *word) {
+  size_t length = strlen(option->word);
+  return strncmp(option->word, word, length) == 0 && (word[length] == 0 || (word[length] == '=' && option->words == 1));
+}
+
+static bool take_values(struct request *request, const struct option *option, char **words, int *at) {
+  char *joined = words[*at] + strlen(option->word) + 1, **values = &joined;
+  if (words[*at][strlen(option->word)] == 0) {
+    values = words + *at + 1;
+    for (int i = 0; i < option->words; i++) {
+      if (values[i] == NULL) return misread(option->needs, option->word);
+    }
+    *at += option->words;
+  }
+  return option->take(&request->view, values) || misread(option->needs, option->word);
+}
+
 static bool take_option(struct request *request, char **words, int *at) {
-  static const struct {
-    const char *word;
-    unsigned takes;
-  } options[] = {{"-q", QUIET}, {"--json", JSON}, {"--strict", STRICT}, {"--any-order", ANY_ORDER}};
   for (size_t i = 0; i < sizeof options / sizeof *options; i++) {
-    if (!same(options[i].word, words[*at])) continue;
-    request->given |= options[i].takes;
-    return (request->task->takes & options[i].takes) != 0 || misread("this option does not go with it:", words[*at]);
+    const struct option *option = &options[i];
+    if (!is_option(option, words[*at])) continue;
+    if ((request->task->takes & option->takes) == 0) return misread("this option does not go with it:", words[*at]);
+    if (option->words > 0 && (request->given & option->takes) != 0) return misread("a second", option->word);
+    request->given |= option->takes;
+    return option->words == 0 || take_values(request, option, words, at);
   }
   return words[*at][1] == 'o' ? take_out(request, words, at) : misread("no such option:", words[*at]);
 }
@@ -255,7 +310,7 @@ static bool show(const struct request *request, const struct reading *reading) {
   static struct output out;
   if (!is_shown(request, reading)) return true;
   if (!open_output(&out, request->out)) return false;
-  if (request->task->show(&out, reading)) return close_output(&out);
+  if (request->task->show(&out, request, reading)) return close_output(&out);
   abandon_output(&out);
   complain("not enough memory to show", reading->name, 0);
   return false;
@@ -324,7 +379,7 @@ int main(int count, char **words) {
     if (same(words[i], "--help") || same(words[i], "-h")) return (int)say(help);
     if (same(words[i], "--version") || same(words[i], "-V")) return (int)say(version);
   }
-  struct request request = {0};
+  struct request request = {.view = {.size = USUAL_SIZE}};
   if (!take_words(&request, words + 1)) return COULD_NOT_RUN;
   if (request.task->show != NULL) return (int)show_file(&request);
   return (int)((request.task->takes & TWO) != 0 ? compare_files(&request) : check_files(&request));

@@ -18,14 +18,15 @@ struct reach {
 };
 
 struct frame {
-  struct reach drawn;
-  fine left, top, width, height; /* of what is shown: a margin more */
+  struct reach drawn; /* or the window that was asked for */
+  bool windowed;
+  fine left, top, width, height; /* of what is shown: a margin more than what is drawn, and just the window */
   int64_t pixels_wide, pixels_high;
   fine pixel;   /* how much of the plane a pixel covers */
   int decimals; /* where the decimal point stands in numbers of the frame */
 };
 
-enum { SIDE = 800, EDGE = 24, ROW = 20, LEGEND = 150, LEGEND_ROWS = 38, LEAST_WIDTH = 420, HEAD = 44, FOOT = 56 };
+enum { EDGE = 24, ROW = 20, LEGEND = 150, LEGEND_ROWS = 38, LEAST_WIDTH = 420, HEAD = 44, FOOT = 74 };
 
 /* ---- attributes */
 
@@ -122,22 +123,84 @@ static fine rounded_off(fine value) {
   return value / power * power;
 }
 
-static struct frame frame_of(struct bytes flat) {
+static struct reach reach_of(struct bytes flat, const struct layers *layers) {
   static struct shape shape;
-  struct frame frame = {.drawn = nothing};
-  struct walk walk = walk_over(flat);
-  while (next_shape(&walk, &shape)) extend_by_shape(&frame.drawn, &shape);
-  fine margin = larger(rounded_off(longer_side(&frame.drawn) / 25), FINE);
+  struct reach reach = nothing;
+  for (size_t i = 0; i < layers->count; i++) {
+    struct layer_walk walk = walk_over_layer(flat, layers, &layers->all[i]);
+    while (next_on_layer(&walk, &shape)) extend_by_shape(&reach, &shape);
+  }
+  return reach;
+}
+
+static struct frame frame_of(struct bytes flat, const struct layers *layers, const struct view *view) {
+  const int64_t *window = view->window;
+  struct frame frame = {.drawn = {{window[0], window[1]}, {window[2], window[3]}}, .windowed = view->windowed};
+  if (!view->windowed) frame.drawn = reach_of(flat, layers);
+  fine margin = view->windowed ? 0 : larger(rounded_off(longer_side(&frame.drawn) / 25), FINE);
   frame.left = frame.drawn.low.x - margin;
   frame.top = frame.drawn.high.y + margin;
   frame.width = frame.drawn.high.x - frame.left + margin;
   frame.height = frame.top - frame.drawn.low.y + margin;
   fine side = larger(frame.width, frame.height);
-  frame.pixels_wide = (SIDE * frame.width + side - 1) / side;
-  frame.pixels_high = (SIDE * frame.height + side - 1) / side;
-  frame.pixel = side / SIDE;
+  frame.pixels_wide = (view->size * frame.width + side - 1) / side;
+  frame.pixels_high = (view->size * frame.height + side - 1) / side;
+  frame.pixel = larger(side / view->size, 1);
   for (fine least = 10000; side >= least; least *= 10) frame.decimals++;
   return frame;
+}
+
+/* ---- what is shown */
+
+static bool meets_frame(const struct frame *frame, const struct reach *reach) {
+  bool across = reach->low.x < frame->left + frame->width && reach->high.x > frame->left;
+  return across && reach->low.y < frame->top && reach->high.y > frame->top - frame->height;
+}
+
+/* Whether the reach of the shape meets the window; of a wire, the reach of some stretch of it, since a long wire may go round the window. */
+static bool is_shown(const struct frame *frame, const struct shape *shape) {
+  struct reach reach = nothing;
+  if (!frame->windowed) return true;
+  if (shape->kind != 'W') {
+    extend_by_shape(&reach, shape);
+    return meets_frame(frame, &reach);
+  }
+  fine radius = (fine)shape->numbers[0] * (FINE / 2);
+  for (size_t i = 0; i < point_count(shape); i++) {
+    reach = nothing;
+    extend(&reach, point_of(shape, i), radius);
+    extend(&reach, point_of(shape, i > 0 ? i - 1 : 0), radius);
+    if (meets_frame(frame, &reach)) return true;
+  }
+  return false;
+}
+
+static size_t count_shown(struct bytes flat, const struct layers *layers, const struct layer *layer, const struct frame *frame) {
+  static struct shape shape;
+  size_t count = 0;
+  struct layer_walk walk = walk_over_layer(flat, layers, layer);
+  while (next_on_layer(&walk, &shape)) count += is_shown(frame, &shape);
+  return count;
+}
+
+/* Keeps the layers that the view names. */
+static void choose_named(struct layers *layers, const struct view *view) {
+  size_t kept = 0;
+  for (size_t i = 0; i < layers->count; i++) {
+    if (shows_layer(view, layers->all[i].name)) layers->all[kept++] = layers->all[i];
+  }
+  layers->count = kept;
+}
+
+/* Keeps the layers that have shapes in the window, and lets each count those. */
+static void choose_met(struct bytes flat, struct layers *layers, const struct frame *frame) {
+  size_t kept = 0;
+  for (size_t i = 0; i < layers->count && frame->windowed; i++) {
+    struct layer layer = layers->all[i];
+    layer.shapes = count_shown(flat, layers, &layer, frame);
+    if (layer.shapes > 0) layers->all[kept++] = layer;
+  }
+  if (frame->windowed) layers->count = kept;
 }
 
 /* Twice the area inside a polygon that does not cross itself; negative where it goes round clockwise. */
@@ -222,15 +285,17 @@ static void put_short(struct output *out, const struct frame *frame, fine value)
   put(out, whole.waiting + sign + zero, whole.used - sign - zero);
 }
 
-static void put_spot(struct output *out, const struct frame *frame, struct spot spot) {
-  put_short(out, frame, spot.x - frame->left);
-  put_text(out, ",");
-  put_short(out, frame, frame->top - spot.y);
-}
-
 static void put_step(struct output *out, const struct frame *frame, const char *letter, fine value) {
   put_text(out, letter);
   put_short(out, frame, value);
+}
+
+/* The second of two numbers: a minus sign separates as well as a comma. */
+static void put_second(struct output *out, const struct frame *frame, fine value) { put_step(out, frame, value < 0 ? "" : ",", value); }
+
+static void put_spot(struct output *out, const struct frame *frame, struct spot spot) {
+  put_short(out, frame, spot.x - frame->left);
+  put_second(out, frame, frame->top - spot.y);
 }
 
 /* Where a closed part begins: counted from where the one before it began, which is short, or from the frame, so that no viewer's rounding adds up. */
@@ -242,7 +307,7 @@ struct start {
 static void put_start(struct output *out, const struct frame *frame, struct start *start, struct spot spot) {
   if (start->near) {
     put_step(out, frame, "m", spot.x - start->spot.x);
-    put_step(out, frame, ",", start->spot.y - spot.y);
+    put_second(out, frame, start->spot.y - spot.y);
   } else {
     put_text(out, "M");
     put_spot(out, frame, spot);
@@ -361,7 +426,8 @@ static bool takes_width(struct pencil *pencil, int32_t width) {
 }
 
 static void draw(struct pencil *pencil, const struct shape *shape) {
-  enum { SHAPES_ON_A_LINE = 16 };
+  enum { SHAPES_ON_A_LINE = 32 };
+  if (!is_shown(pencil->frame, shape)) return;
   if (!is_in_part(pencil->frame, shape, pencil->part)) return;
   if (pencil->part == WIRES && !takes_width(pencil, shape->numbers[0])) return;
   if (pencil->part == CROSSED) lift(pencil);
@@ -375,12 +441,9 @@ static void draw(struct pencil *pencil, const struct shape *shape) {
 
 static void draw_part(struct pencil *pencil, struct bytes flat, const struct layers *layers) {
   static struct shape shape;
+  struct layer_walk walk = walk_over_layer(flat, layers, pencil->layer);
   pencil->wider = 0;
-  for (size_t i = 0; i < pencil->layer->runs; i++) {
-    const struct run *run = &layers->runs[pencil->layer->first_run + i];
-    struct walk walk = {.flat = flat, .at = run->start, .layer = run->layer};
-    while (walk.at < run->end && next_shape(&walk, &shape)) draw(pencil, &shape);
-  }
+  while (next_on_layer(&walk, &shape)) draw(pencil, &shape);
   lift(pencil);
 }
 
@@ -480,10 +543,15 @@ static void put_legend_row(struct output *out, const struct layer *layer, int64_
   put_text(out, "</text></g>\n");
 }
 
-static size_t legend_rows(const struct layers *layers) { return layers->count < LEGEND_ROWS ? layers->count : LEGEND_ROWS; }
+/* As many as stand beside the frame, and no fewer than beside one of the usual size. */
+static size_t legend_rows(const struct frame *frame, const struct layers *layers) {
+  size_t most = (size_t)larger(LEGEND_ROWS, frame->pixels_high / ROW - 2);
+  return layers->count < most ? layers->count : most;
+}
 
-static void put_legend(struct output *out, const struct layers *layers, int64_t x) {
-  size_t rows = legend_rows(layers);
+static void put_legend(struct output *out, const struct frame *frame, const struct layers *layers) {
+  size_t rows = legend_rows(frame, layers);
+  int64_t x = EDGE + frame->pixels_wide + EDGE;
   open_text(out, x + ROW, HEAD - 8);
   put_text(out, "layer</text>");
   open_text(out, x + 4 * ROW, HEAD - 8);
@@ -535,13 +603,29 @@ static size_t all_shapes(const struct layers *layers) {
   return count;
 }
 
-static void put_foot(struct output *out, const struct frame *frame, const struct layers *layers, int64_t y) {
+/* How much the whole drawing has, of which a view may show less. */
+struct amount {
+  size_t shapes, layers;
+};
+
+/* "67 shapes", or "12 of 67 shapes" where not all are shown. */
+static void put_part_of(struct output *out, size_t shown, size_t all, const char *what) {
+  if (shown < all) {
+    put_number(out, (int64_t)shown);
+    put_text(out, " of ");
+  }
+  put_count(out, all, what);
+}
+
+static void put_foot(struct output *out, const struct frame *frame, const struct layers *layers, struct amount all, int64_t y) {
   put_bar(out, frame, y + 10);
   open_text(out, EDGE, y + 38);
-  put_count(out, all_shapes(layers), " shape");
+  put_part_of(out, all_shapes(layers), all.shapes, " shape");
   put_text(out, ", ");
-  put_count(out, layers->count, " layer");
-  put_range(out, "; x ", frame->drawn.low.x, frame->drawn.high.x);
+  put_part_of(out, layers->count, all.layers, " layer");
+  put_text(out, "</text>\n");
+  open_text(out, EDGE, y + 56);
+  put_range(out, "x ", frame->drawn.low.x, frame->drawn.high.x);
   put_range(out, ", y ", frame->drawn.low.y, frame->drawn.high.y);
   put_text(out, " \xC2\xB5m</text>\n");
 }
@@ -603,33 +687,45 @@ static void put_border(struct output *out, const struct frame *frame) {
   put_text(out, "/>\n");
 }
 
-static void put_empty(struct output *out, const char *name) {
+static void put_empty(struct output *out, const char *name, struct amount all) {
   open_picture(out, name, LEAST_WIDTH, 3 * EDGE);
   open_text(out, EDGE, 2 * EDGE + 6);
-  put_text(out, "no shapes</text>\n</svg>\n");
+  put_text(out, all.shapes == 0 ? "no shapes" : "none of ");
+  if (all.shapes > 0) put_count(out, all.shapes, " shape");
+  put_text(out, all.shapes == 0 ? "</text>\n</svg>\n" : " is in view</text>\n</svg>\n");
 }
 
-static void put_picture(struct output *out, const struct reading *reading, const struct layers *layers) {
-  struct frame frame = frame_of(reading->flat);
-  int64_t legend_high = ((int64_t)legend_rows(layers) + 1) * ROW;
-  int64_t wide = larger(frame.pixels_wide + LEGEND, LEAST_WIDTH) + 2 * EDGE, high = larger(frame.pixels_high, legend_high) + HEAD + FOOT;
+static void put_picture(struct output *out, const struct reading *reading, const struct frame *frame, const struct layers *layers, struct amount all) {
+  int64_t legend_high = ((int64_t)legend_rows(frame, layers) + 1) * ROW;
+  int64_t wide = larger(frame->pixels_wide + LEGEND, LEAST_WIDTH) + 2 * EDGE, high = larger(frame->pixels_high, legend_high) + HEAD + FOOT;
   open_picture(out, reading->name, wide, high);
-  put_drawing(out, &frame, reading->flat, layers);
-  put_border(out, &frame);
-  put_legend(out, layers, EDGE + frame.pixels_wide + EDGE);
-  put_foot(out, &frame, layers, high - FOOT);
+  put_drawing(out, frame, reading->flat, layers);
+  put_border(out, frame);
+  put_legend(out, frame, layers);
+  put_foot(out, frame, layers, all, high - FOOT);
   put_script(out);
   put_text(out, "</svg>\n");
 }
 
-bool put_plot(struct output *out, const struct reading *reading) {
+/* Colours are given before anything is left out, so that a layer looks the same in every view. */
+static void put_view(struct output *out, const struct reading *reading, struct layers *layers, const struct view *view) {
+  struct amount all = {all_shapes(layers), layers->count};
+  struct frame frame = {0};
+  tell_undrawn_layers(view, layers, reading->name);
+  colour_layers(layers->all, layers->count);
+  choose_named(layers, view);
+  if (layers->count > 0) {
+    frame = frame_of(reading->flat, layers, view);
+    choose_met(reading->flat, layers, &frame);
+  }
+  if (layers->count > 0) put_picture(out, reading, &frame, layers, all);
+  else put_empty(out, reading->name, all);
+}
+
+bool put_plot(struct output *out, const struct reading *reading, const struct view *view) {
   struct layers layers;
   bool found = find_layers(reading->flat, &layers);
-  if (found && layers.count == 0) put_empty(out, reading->name);
-  if (found && layers.count > 0) {
-    colour_layers(layers.all, layers.count);
-    put_picture(out, reading, &layers);
-  }
+  if (found) put_view(out, reading, &layers, view);
   release_layers(&layers);
   return found;
 }

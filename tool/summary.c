@@ -15,11 +15,8 @@ static void put_column(struct output *out, int64_t number, int width) {
 
 static void count_kinds(struct bytes flat, const struct layers *layers, const struct layer *layer, int64_t counts[KINDS]) {
   static struct shape shape;
-  for (size_t i = 0; i < layer->runs; i++) {
-    const struct run *run = &layers->runs[layer->first_run + i];
-    struct walk walk = {.flat = flat, .at = run->start, .layer = run->layer};
-    while (walk.at < run->end && next_shape(&walk, &shape)) counts[strchr(kinds, shape.kind) - kinds]++;
-  }
+  struct layer_walk walk = walk_over_layer(flat, layers, layer);
+  while (next_on_layer(&walk, &shape)) counts[strchr(kinds, shape.kind) - kinds]++;
 }
 
 static void put_range(struct output *out, const char *axis, int64_t low, int64_t high) {

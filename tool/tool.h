@@ -239,6 +239,17 @@ struct layers {
 bool find_layers(struct bytes flat, struct layers *layers);
 void release_layers(struct layers *layers);
 
+/* The shapes of one layer, one after another. */
+struct layer_walk {
+  const struct run *run; /* the next one */
+  size_t runs;           /* how many are left, with that one */
+  size_t end;            /* of the run that is walked over */
+  struct walk walk;
+};
+
+struct layer_walk walk_over_layer(struct bytes flat, const struct layers *layers, const struct layer *layer);
+bool next_on_layer(struct layer_walk *layer, struct shape *shape);
+
 /* ---- listing.c: the list, by the archive. */
 
 /* The list of a text, accepted or refused. False where there is no memory. */
@@ -272,9 +283,28 @@ void put_unread(struct output *out, const char *name);
 /* Gives each layer its colour, and puts them into the order in which they are drawn: usual ones as they are stacked, then others as they first appear. */
 void colour_layers(struct layer *layers, size_t count);
 
+/* ---- view.c: what of a drawing a picture shows. */
+
+enum { USUAL_SIZE = 800 };
+
+struct view {
+  bool windowed;
+  int64_t window[4];  /* lowest x and y, highest x and y, in millionths of a micron */
+  const char *layers; /* names with commas between them, or NULL for all layers */
+  int64_t size;       /* of the frame's longer side, in pixels */
+};
+
+/* From the words of the command line; false where they make no sense. */
+bool take_window(struct view *view, char *const words[4]);
+bool take_layers(struct view *view, char *const words[1]);
+bool take_size(struct view *view, char *const words[1]);
+bool shows_layer(const struct view *view, uint32_t layer);
+/* A line on standard error for each layer that the view names and the drawing does not have. */
+void tell_undrawn_layers(const struct view *view, const struct layers *layers, const char *name);
+
 /* ---- plot.c: the picture of a flat file. */
 
 /* False where there is no memory; then nothing is put. */
-bool put_plot(struct output *out, const struct reading *reading);
+bool put_plot(struct output *out, const struct reading *reading, const struct view *view);
 
 #endif

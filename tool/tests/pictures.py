@@ -1,10 +1,13 @@
 """The pictures: where each shape is drawn, how, and what stands around it."""
+import os
 import re
 import xml.etree.ElementTree as tree
 
 from common import EXAMPLE, cif, expect, scratch
 
 SVG = "{http://www.w3.org/2000/svg}"
+NUMBER = r"(-?[\d.]+)"
+PAIR = NUMBER + ",?" + NUMBER  # a minus sign separates as well as a comma
 
 
 class Picture:
@@ -29,12 +32,13 @@ def subpaths(data):
     """The parts of a path that this tool may write: points, the radius of a circle or None, whether it is closed."""
     start = (0.0, 0.0)
     for letter, part in re.findall(r"([Mm])([^Mm]*)", data):
-        part, (first, second) = part.strip(), re.match(r"([-\d.]+),([-\d.]+)", part).groups()
+        part, pair = part.strip(), re.match(PAIR, part)
+        first, second = pair.groups()
         base = start if letter == "m" else (0.0, 0.0)
         start = (base[0] + float(first), base[1] + float(second))
         expect(letter == "M" or "h" in part or "a" in part, "only boxes and circles are counted from the one before", part)
-        part = f"{start[0]:.10f},{start[1]:.10f}" + part[len(first) + 1 + len(second):]
-        circle = re.fullmatch(r"([-\d.]+),([-\d.]+)a([-\d.]+),([-\d.]+) 0 1 0 ([-\d.]+),0a([-\d.]+),([-\d.]+) 0 1 0 ([-\d.]+),0z", part)
+        part = f"{start[0]:.10f},{start[1]:.10f}" + part[pair.end():]
+        circle = re.fullmatch(f"{PAIR}a{PAIR} 0 1 0 {NUMBER},0a{PAIR} 0 1 0 {NUMBER},0z", part)
         if circle:
             x, y, *radii = map(float, circle.groups())
             r = radii[0]
@@ -42,13 +46,13 @@ def subpaths(data):
             yield [(x + r, y)], r, True
             continue
         closed, part = part.endswith("z"), part.rstrip("z")
-        step = re.fullmatch(r"([-\d.]+),([-\d.]+)h([-\d.]+)v([-\d.]+)(?:h([-\d.]+))?", part)
+        step = re.fullmatch(f"{PAIR}h{NUMBER}v{NUMBER}(?:h{NUMBER})?", part)
         if step:
             x, y, h, v = map(float, step.groups()[:4])
             expect(float(step[5]) == -h and closed, "a box goes back to where it began", part)
             yield [(x, y), (x + h, y), (x + h, y + v), (x, y + v)], None, closed
         else:
-            yield [tuple(map(float, p.split(","))) for p in part.split(" ")], None, closed
+            yield [tuple(map(float, re.fullmatch(PAIR, p).groups())) for p in part.split(" ")], None, closed
 
 
 def near(some, others, within):
@@ -165,6 +169,81 @@ def test_legend_and_colours():
     expect(implants == {"CWN", "CSN"}, "wells and implants are outlines", implants)
 
 
+VIEWED = b"LNM;B400 400 0 0;B400 400 5000 0;LND;R200 0 0;LNP;W100 -3000 -3000 -3000 3000 3000 3000;LQQ;P0 0 100 0 100 100;E"
+
+
+def test_window():
+    """Just the window is shown, to scale, with the shapes whose reach meets it, and layers and counts of those."""
+    whole, part = Picture(VIEWED), Picture(VIEWED, "--window", "-2.5", "-2", "1", "3")
+    expect(list(part.layers) == ["ND", "NM", "QQ"] and [len(part.shapes(n)) for n in part.layers] == [1, 1, 1], "what lies in the window", list(part.layers))
+    _, _, width, height = map(float, part.frame.get("viewBox").split())
+    expect(abs(width / height - 3.5 / 5) < 1e-9 and part.frame.get("height") == "800", "the frame is the window", part.frame.attrib)
+    unit = height / 500
+    corners = [(50 * unit, 500 * unit), (450 * unit, 500 * unit), (450 * unit, 100 * unit), (50 * unit, 100 * unit)]
+    expect(near(part.shapes("NM")[0][1], corners, unit / 1000), "where a shape stands in the window", part.shapes("NM")[0][1], corners)
+    expect(part.words[-2:] == ["3 of 5 shapes, 3 of 4 layers", "x -2.5 to 1, y -2 to 3 \u00b5m"], "what the foot says of a window", part.words)
+    expect(whole.words[-2:] == ["5 shapes, 4 layers", "x -30.5 to 52, y -30.5 to 30.5 \u00b5m"], "what it says of all", whole.words)
+    expect(all(part.layers[n].get("fill") == whole.layers[n].get("fill") for n in part.layers), "the same colours as in the whole")
+    rows = [w for w in part.words if w in part.layers]
+    expect(rows == list(part.layers), "the legend has what is shown", part.words)
+    for words in (["1", "3", "-2.5", "-2"], ["-2.5", "3", "1.000000", "-2."], ["-2.50", "-02", "1.0", "3"]):
+        expect(Picture(VIEWED, "--window", *words).svg == part.svg, "corners in any order, numbers in any form", words)
+    for window, layers in ((("2", "-1", "48", "1"), []), (("2", "-1", "48.01", "1"), ["NM"]), (("-30", "-1", "-29.5", "1"), ["NP"]), (("-29.5", "-29", "29", "29.5"), ["ND", "NM", "QQ"]),
+                           (("-1000000", "-1000000", "1000000", "1000000"), ["ND", "NP", "NM", "QQ"]), (("0.5", "0.5", "0.51", "0.51"), ["ND", "NM", "QQ"])):
+        seen = Picture(VIEWED, "--window", *window)
+        expect(list(seen.layers) == layers, "layers in a window", window, list(seen.layers))
+    empty = Picture(VIEWED, "--window", "900", "900", "901", "901")
+    expect(empty.words == ["standard input", "none of 5 shapes is in view"], "a window without shapes", empty.words)
+
+
+def test_layers():
+    """Only the layers that are named, in the colours of the whole; one that is not drawn is told of."""
+    whole, part = Picture(VIEWED), Picture(VIEWED, "--layers", "QQ,NM")
+    expect(list(part.layers) == ["NM", "QQ"] and all(part.layers[n].get("fill") == whole.layers[n].get("fill") for n in part.layers), "layers by name", list(part.layers))
+    expect(part.words[-2:] == ["3 of 5 shapes, 2 of 4 layers", "x -2 to 52, y -2 to 2 \u00b5m"], "the frame holds what is shown", part.words)
+    expect(Picture(VIEWED, "--layers=QQ,NM").svg == part.svg == Picture(VIEWED, "--layers", "NM,QQ,NM").svg, "names in any order, after = too")
+    for words, told, layers in ((["NM,XX"], b"cif: no shape is on layer XX in standard input\n", ["NM"]), (["Y,XX"], b"cif: no shape is on layer %s in standard input\n", [])):
+        done = cif("plot", "-", "--layers", *words, text=VIEWED)
+        told = told if layers else told % b"Y" + told % b"XX"
+        expect(done.returncode == 0 and done.stderr == told, "a layer that is not drawn is told of", words, done.stderr)
+        expect([g.get("id")[6:] for g in tree.fromstring(done.stdout).iter(SVG + "g") if g.get("id")] == layers, "and the others are shown", words)
+    both = Picture(VIEWED, "--layers", "NP,NM", "--window", "-31", "-1", "1", "1", "--size", "400")
+    expect(list(both.layers) == ["NP", "NM"] and both.words[-2].startswith("2 of 5 shapes") and both.frame.get("width") == "400", "all three at once", both.words)
+
+
+def test_size():
+    """The longer side of the frame in pixels; what is thinner than one of them gets a line."""
+    for size in (100, 800, 1234, 20000):
+        picture = Picture(b"LA;B1000 100 0 0;B1 100 700 0;E", "--size", str(size))
+        expect(picture.frame.get("width") == str(size) and float(picture.root.get("width")) >= size, "the frame's size", size, picture.frame.attrib)
+        lines = [s for s in picture.shapes("A") if s[0].get("class") == "line"]
+        expect(len(lines) == (size < 1300), "thin is what is thinner than a pixel", size, lines)
+    expect(Picture(VIEWED).svg == Picture(VIEWED, "--size=800").svg, "800 is the usual size")
+    many = b"".join(b"L%c%c;R9 0 0;" % (65 + i // 10, 48 + i % 10) for i in range(100)) + b"E"
+    rows = [len([g for g in Picture(many, "--size", size).root.iter(SVG + "g") if g.get("class") == "row"]) for size in ("100", "800", "1200", "3000")]
+    expect(rows == [38, 38, 58, 100], "a large picture has a long legend", rows)
+
+
+def test_view_words():
+    """Words that make no sense are told so, with what must stand there, and nothing is written."""
+    out = scratch("view.svg")
+    for words in (["--window"], ["--window", "0", "0", "1"], ["--window", "0", "0", "1", "x"], ["--window", "0", "0", "0", "1"], ["--window", "0", "0", "1", "0.009"],
+                  ["--window", "0", "0", "1", "1.0000001"], ["--window", "0", "0", "1", "1000001"], ["--window", "0", "0", "1", "9" * 99], ["--window", "0", "0", "1", "-"],
+                  ["--window", "0", "0", "1", ""], ["--window", "0", "0", "1", "1.2.3"], ["--window", "0", "0", "1", "1e3"], ["--window", "0", "0", "1", "+1"],
+                  ["--layers"], ["--layers", ""], ["--layers="], ["--layers", ","], ["--layers", "NM,"], ["--layers", ",NM"], ["--layers", "nm"], ["--layers", "NMNMN"], ["--layers", "N M"],
+                  ["--size"], ["--size", "0"], ["--size", "99"], ["--size", "20001"], ["--size", "9" * 99], ["--size", "8e2"], ["--size="], ["--size", "-800"]):
+        done = cif("plot", scratch("good.cif", EXAMPLE), "-o", out, *words)
+        needs = f" must follow {words[0].rstrip('=')}\ncif: try cif --help\n"
+        expect(done.returncode == 2 and not done.stdout and done.stderr.decode().endswith(needs) and not os.path.exists(out), "a view that makes no sense", words, done)
+    window = ["--window", "0", "0", "1", "1"]
+    for words in (window * 2, ["--size", "300", "--size=300"], ["--layers=A", "--layers=A"], ["--window=0", "0", "1", "1"], ["--sizes", "300"]):
+        expect(cif("plot", scratch("good.cif", EXAMPLE), *words).returncode == 2, "an option twice, or none at all", words)
+    for task in ("flat", "check", "list", "summary"):
+        for words in (window, ["--layers", "CM"], ["--size", "300"]):
+            done = cif(task, scratch("good.cif", EXAMPLE), *words)
+            expect(done.returncode == 2 and b"does not go with it: " + words[0].encode() in done.stderr, "views are for plot", task, words, done)
+
+
 def test_around():
     """The file's name, the origin, and the legend that hides layers by a script."""
     name = scratch("a<b>&\".cif", EXAMPLE)
@@ -190,4 +269,4 @@ def test_many():
     expect(done.returncode == 0 and done.stdout.count(b"z") >= 1048576 and done.stdout.endswith(b"</svg>\n"), "1,048,576 shapes drawn", done.stderr)
     boxes = b"DS1;LA;" + b"".join(b"B9 9 %d %d;" % (x * 15, y * 15) for x in range(32) for y in range(32)) + b"DF;"
     done = cif("plot", "-", text=boxes + b"".join(b"C1T%d %d;" % (x * 480, y * 480) for x in range(32) for y in range(20)) + b"E")
-    expect(done.returncode == 0 and done.stdout.count(b"<path") < 10 and len(done.stdout) < 13500000, "655,360 boxes in few paths and few bytes", len(done.stdout))
+    expect(done.returncode == 0 and done.stdout.count(b"<path") < 10 and len(done.stdout) <= 12000000, "655,360 boxes in few paths and 12 MB", len(done.stdout))
