@@ -1,0 +1,41 @@
+#!/usr/bin/env python3
+"""A small host of the proved reader over its shared library: writes the flat file of the CIF text on standard input to standard output.
+
+examples/host.py [LIBRARY], where LIBRARY is target/tool/libcif.so unless it is said. The library is x86-64, and so must the Python be that runs this.
+"""
+import ctypes
+import os
+import sys
+
+MOST_BYTES, WORDS, NUMBER, PLACE, LENGTH = 16777216, 64, 0, 1, 2  # as in include/cif.h
+
+
+def load(path):
+    library = ctypes.CDLL(path)
+    library.cif_flatten.argtypes = [ctypes.c_char_p, ctypes.c_size_t, ctypes.c_char_p, ctypes.c_size_t, ctypes.POINTER(ctypes.c_uint64)]
+    library.cif_flatten.restype = None
+    return library
+
+
+def flatten(library, text):
+    """The answer's words, and the flat file; that is empty for a text that is refused."""
+    room, answer = ctypes.create_string_buffer(MOST_BYTES), (ctypes.c_uint64 * WORDS)()
+    library.cif_flatten(text, len(text), room, len(room), answer)
+    return list(answer), ctypes.string_at(room, answer[LENGTH])
+
+
+def main(path):
+    try:
+        library = load(path)
+    except OSError as trouble:
+        sys.exit(f"host.py: the shared library cannot be loaded: {trouble}")
+    # One byte more than the reader takes, so that a text which is too long gets refusal 1 and is not cut.
+    answer, flat = flatten(library, sys.stdin.buffer.read(MOST_BYTES + 1))
+    if answer[NUMBER] != 0:
+        sys.exit(f"host.py: refused {answer[NUMBER]} at byte {answer[PLACE]}")
+    sys.stdout.buffer.write(flat)
+
+
+if __name__ == "__main__":
+    top = os.path.dirname(os.path.dirname(os.path.abspath(__file__)))
+    main(sys.argv[1] if len(sys.argv) > 1 else os.path.join(top, "target", "tool", "libcif.so"))
