@@ -1,22 +1,26 @@
-/* Throws random bytes at the parts of the tool that read bytes: the telling of refusals and hints, the walk over a flat file and the picture. Built
-   by tool/fuzz with the compiler's sanitizers and without the proved archive. fuzz COUNT SEED; ends at the first thing that is not as it should be. */
+/* Throws random bytes at the parts of the tool that read bytes, the telling of refusals and hints, the walk over a flat file and the picture, and random words and
+   files at the whole of it (fuzz_whole.c). Built by tool/fuzz with the compiler's sanitizers and without the proved archive. fuzz COUNT SEED, or fuzz MINUTESm
+   SEED; ends at the first thing that is not as it should be. */
 #include <stdio.h>
 #include <stdlib.h>
 #include <string.h>
+#include <time.h>
+#include <unistd.h>
 
-#include "tool.h"
+#include "fuzz.h"
 
-static uint64_t state;
+uint64_t fuzz_state;
 
-static unsigned below(unsigned bound) {
-  state ^= state << 13;
-  state ^= state >> 7;
-  state ^= state << 17;
-  return (unsigned)(state >> 20) % bound;
+unsigned below(unsigned bound) {
+  fuzz_state ^= fuzz_state << 13;
+  fuzz_state ^= fuzz_state >> 7;
+  fuzz_state ^= fuzz_state << 17;
+  return (unsigned)(fuzz_state >> 20) % bound;
 }
 
-static void demand(bool right, const char *what, const struct output *out) {
+void demand(bool right, const char *what, const struct output *out) {
   if (right) return;
+  end_whole();
   fprintf(stderr, "fuzz: not so: %s\n%.*s\n", what, (int)out->used, (const char *)out->waiting);
   exit(1);
 }
@@ -30,7 +34,7 @@ static unsigned char *copy_of(const unsigned char *from, size_t count) {
 
 /* ---- texts */
 
-static size_t random_text(unsigned char *text, size_t most) {
+size_t random_text(unsigned char *text, size_t most) {
   static const char *const pieces[] = {"DS1 2 3;", "Lmetal1;", "Lpoly1;", "0 a.b;", "94 x", "W4 0 0 1 1", "P 1.5", "DF;", "DD1;",    "D", "LNM;", "L",  "B4 4 0 0", "W", "P0 0", "C1 MX T5 5;", "(",
                                        ")",        "(a(b)c)", ";", "E", "\n",    "\t", "-",        "9 x;", " ", "\r\n"};
   size_t count = 0, parts = below(40);
@@ -124,7 +128,7 @@ static void put_random_shape(struct output *flat) {
   put_text(flat, ";\n");
 }
 
-static void put_random_flat(struct output *flat) {
+void put_random_flat(struct output *flat) {
   static const char *const names[] = {"LNM;\n", "LND;\n", "LA;\n", "LZZZZ;\n", "L0;\n", "LB1;\n"};
   size_t shapes = below(30);
   for (size_t i = 0; i < shapes; i++) {
@@ -134,7 +138,7 @@ static void put_random_flat(struct output *flat) {
   put_text(flat, "E\n");
 }
 
-static void damage(struct output *flat) {
+void damage(struct output *flat) {
   for (unsigned i = below(4); i > 0 && flat->used > 1; i--) {
     size_t at = below((unsigned)flat->used);
     switch (below(4)) {
@@ -146,11 +150,23 @@ static void damage(struct output *flat) {
   }
 }
 
+/* Near the shapes, or far away, from the smallest window to the largest. */
+static struct view random_view(void) {
+  static const int64_t spans[] = {10000, 100000, 5000000, 400000000000};
+  struct view view = {.windowed = below(2) == 0, .size = below(2) == 0 ? USUAL_SIZE : 100 + (int64_t)below(19901), .layers = below(3) == 0 ? "NM,ZZZZ,B1" : NULL};
+  for (int axis = 0; axis < 2; axis++) {
+    view.window[axis] = ((int64_t)below(500) - 250) * (below(8) == 0 ? 1000000000 : 10000);
+    view.window[axis + 2] = view.window[axis] + spans[below(4)];
+  }
+  return view;
+}
+
 /* Also a broken flat file must be walked over without harm, though the tool looks first. */
 static void show(struct bytes flat) {
   static struct output out;
-  out = (struct output){.file = DROPPED};
-  if (!put_plot(&out, &(struct reading){.name = "f", .flat = flat}, &(struct view){.size = USUAL_SIZE})) exit(2);
+  struct view view = random_view();
+  out = standard_error = (struct output){.file = DROPPED};
+  while (!put_plot(&out, &(struct reading){.name = "f", .flat = flat}, &view)) continue; /* memory is short now and then */
 }
 
 static void try_flat(void) {
@@ -168,13 +184,23 @@ static void try_flat(void) {
   }
 }
 
+/* Counts rounds, or minutes where an m follows. */
+static bool goes_on(const char *how_long, unsigned long rounds, time_t start) {
+  unsigned long most = strtoul(how_long, NULL, 10);
+  return strchr(how_long, 'm') == NULL ? rounds < most : time(NULL) - start < (time_t)(60 * most);
+}
+
 int main(int count, char **words) {
-  unsigned long rounds = count > 1 ? strtoul(words[1], NULL, 10) : 10000;
-  state = (count > 2 ? strtoull(words[2], NULL, 10) : 1) * 2654435769u + 88172645463325252u;
-  for (unsigned long i = 0; i < rounds; i++) {
+  enum { RUNS = 4 };
+  unsigned long rounds = 0;
+  fuzz_state = (count > 2 ? strtoull(words[2], NULL, 10) : 1) * 2654435769u + 88172645463325252u;
+  start_whole();
+  for (time_t start = time(NULL); goes_on(count > 1 ? words[1] : "10000", rounds, start); rounds++) {
     try_text();
     try_flat();
+    for (int i = 0; i < RUNS; i++) try_whole();
   }
-  printf("fuzz: %lu rounds, nothing found\n", rounds);
+  end_whole();
+  printf("fuzz: %lu rounds, with %lu runs of the whole tool, nothing found\n", rounds, rounds * RUNS);
   return 0;
 }

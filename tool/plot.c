@@ -712,7 +712,7 @@ static void put_view(struct output *out, const struct reading *reading, struct l
   struct amount all = {all_shapes(layers), layers->count};
   struct frame frame = {0};
   tell_undrawn_layers(view, layers, reading->name);
-  colour_layers(layers->all, layers->count);
+  if (layers->count > 0) colour_layers(layers->all, layers->count);
   choose_named(layers, view);
   if (layers->count > 0) {
     frame = frame_of(reading->flat, layers, view);

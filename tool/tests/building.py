@@ -188,6 +188,15 @@ def test_install():
     expect(ran(install, "--remove", env=env).returncode == 0 and installed(prefix) == {}, "and taken away", installed(prefix))
 
 
+def test_fuzz():
+    """A short run of the fuzz, so that it fits the tool as it is."""
+    done = ran(os.path.join(TOP, "tool", "fuzz"), "40")
+    if done.returncode == 2:
+        print("not tried, since the fuzz cannot be built by this machine's own compiler:", done.stdout.decode(errors="replace").split("\n")[0])
+        return
+    expect(done.returncode == 0 and done.stdout == b"fuzz: 40 rounds, with 160 runs of the whole tool, nothing found\n", "the fuzz", done.stdout[-400:])
+
+
 def test_completion():
     """In bash: the tasks, and with each the options that the tool takes with it."""
     if not shutil.which("bash"):

@@ -1,0 +1,267 @@
+/* The whole tool, from its words to its files: main.c and input.c and all that they lead to, over a stand-in for the archive whose answers are random and fit
+   the tool's part of the bargain only. Reads and writes come in pieces, are interrupted and fail, and memory is short now and then: tool/fuzz compiles the tool
+   with `main`, `read`, `write`, `malloc`, `fsync` and `rename` under the names that stand here. */
+#include <dirent.h>
+#include <errno.h>
+#include <fcntl.h>
+#include <stdio.h>
+#include <stdlib.h>
+#include <string.h>
+#include <sys/stat.h>
+#include <unistd.h>
+
+#include "fuzz.h"
+
+int cif_main(int count, char **words);
+ssize_t fuzzed_read(int file, void *bytes, size_t count);
+ssize_t fuzzed_write(int file, const void *bytes, size_t count);
+void *fuzzed_malloc(size_t count);
+int fuzzed_fsync(int file);
+int fuzzed_rename(const char *from, const char *to);
+
+static char folder[] = "/tmp/cif-fuzz-XXXXXX";
+static int standard[3]; /* the files that the run itself was started with */
+static int next_file;   /* the number that the next open file gets: another one later on means that some file was not closed */
+static bool harsh;      /* in this run reads, writes and memory may fail */
+static bool failed;     /* and something did */
+static bool muted;      /* writing failed, so that nothing may have been told */
+
+/* ---- what the tool calls instead of the system */
+
+static bool fails(int error) {
+  if (!harsh || below(60) != 0) return false;
+  errno = error;
+  failed = true;
+  return true;
+}
+
+ssize_t fuzzed_read(int file, void *bytes, size_t count) {
+  if (fails(EIO)) return -1;
+  if (harsh && below(8) == 0) {
+    errno = EINTR;
+    return -1;
+  }
+  return read(file, bytes, harsh && count > 0 ? 1 + below(count < 900 ? (unsigned)count : 900) : count);
+}
+
+ssize_t fuzzed_write(int file, const void *bytes, size_t count) {
+  if (fails(ENOSPC)) {
+    muted = true;
+    return -1;
+  }
+  if (harsh && below(8) == 0) {
+    errno = EINTR;
+    return -1;
+  }
+  return write(file, bytes, harsh && count > 1 ? 1 + below((unsigned)count) : count);
+}
+
+void *fuzzed_malloc(size_t count) { return fails(ENOMEM) ? NULL : malloc(count); }
+
+/* The disk is not waited for: nothing that is looked at here depends on it. */
+int fuzzed_fsync(int file) { return file < 0 || fails(EIO) ? -1 : 0; }
+
+int fuzzed_rename(const char *from, const char *to) { return fails(EACCES) ? -1 : rename(from, to); }
+
+/* ---- the stand-in for the archive: to the same bytes it always answers the same */
+
+static uint64_t seed_of(const unsigned char *bytes, size_t count) {
+  uint64_t seed = 88172645463325252u;
+  for (size_t i = 0; i < count; i++) seed = (seed ^ bytes[i]) * 1099511628211u;
+  return seed | 1;
+}
+
+static uint64_t count_shapes(struct bytes flat) {
+  static struct shape shape;
+  uint64_t count = 0;
+  struct walk walk = walk_over(flat);
+  while (next_shape(&walk, &shape)) count++;
+  return count;
+}
+
+void cif_flatten(const unsigned char *text, size_t text_length, unsigned char *room, size_t room_length, uint64_t answer[CIF_WORDS]) {
+  static struct output flat;
+  uint64_t kept = fuzz_state;
+  fuzz_state = seed_of(text, text_length);
+  memset(answer, 0, CIF_WORDS * sizeof *answer);
+  flat = (struct output){.file = DROPPED};
+  if (below(3) == 0) {
+    answer[CIF_NUMBER] = 1 + below(18);
+    if (answer[CIF_NUMBER] != 1 && answer[CIF_NUMBER] != 18) answer[CIF_PLACE] = below((unsigned)text_length + 1);
+  } else {
+    put_random_flat(&flat);
+    if (below(30) == 0) damage(&flat);
+    demand(room_length == CIF_MOST_BYTES, "the room", &flat);
+    memcpy(room, flat.waiting, flat.used);
+    answer[CIF_LENGTH] = flat.used;
+    answer[CIF_SHAPES] = count_shapes((struct bytes){room, flat.used});
+    answer[CIF_CALLS] = below(4);
+    answer[CIF_REDEFINITIONS] = below(3);
+  }
+  fuzz_state = kept;
+}
+
+size_t cif_list(const unsigned char *flat, size_t flat_length, const uint64_t answer[CIF_WORDS], unsigned char *out, size_t out_length) {
+  char lines[400];
+  uint64_t kept = fuzz_state;
+  fuzz_state = seed_of(flat, flat_length);
+  int length = 0, far = (int)below(16777216), near = (int)below(300);
+  if (answer[CIF_NUMBER] != 0) length = snprintf(lines, sizeof lines, "refused\t%u\t%u\n", (unsigned)answer[CIF_NUMBER], (unsigned)answer[CIF_PLACE]);
+  else if (below(4) == 0) length = snprintf(lines, sizeof lines, "total\t0\t0\t0\nwindow\tnone\n");
+  else length = snprintf(lines, sizeof lines, "shape\t1\tA\tR\t1 0 0\ntotal\t1\t0\t0\nwindow\t%d\t%d\t%d\t%d\n", -far, -near, near, far);
+  fuzz_state = kept;
+  memcpy(out, lines, out_length < (size_t)length ? out_length : (size_t)length);
+  return (size_t)length;
+}
+
+/* ---- files */
+
+static void write_whole(const char *name, const unsigned char *bytes, size_t count) {
+  int file = open(name, O_WRONLY | O_CREAT | O_TRUNC, 0644);
+  if (file < 0 || write(file, bytes, count) != (ssize_t)count || close(file) != 0) exit(2);
+}
+
+/* What stands in the file, up to the room of an output; nothing where there is none. */
+static void read_whole(const char *name, struct output *into) {
+  *into = (struct output){.file = DROPPED};
+  int file = open(name, O_RDONLY);
+  if (file < 0) return;
+  ssize_t count = read(file, into->waiting, sizeof into->waiting);
+  into->used = count < 0 ? 0 : (size_t)count;
+  (void)close(file);
+}
+
+static void lay_files(void) {
+  static unsigned char text[16384];
+  for (const char *const *name = (const char *const[]){"a.cif", "b.cif", NULL}; *name != NULL; name++) {
+    if (below(2) == 0) write_whole(*name, text, random_text(text, sizeof text));
+  }
+  write_whole("out", (const unsigned char *)"as it was", 9);
+}
+
+/* Temporary files are gone, whatever happened. */
+static void look_for_leftovers(const struct output *told) {
+  DIR *entries = opendir(".");
+  if (entries == NULL) exit(2);
+  for (struct dirent *entry; (entry = readdir(entries)) != NULL;) demand(strstr(entry->d_name, ".tmp") == NULL, "a file is left behind", told);
+  (void)closedir(entries);
+}
+
+static void redirect(int file, const char *name, int flags) {
+  int opened = open(name, flags, 0644);
+  if (opened < 0 || dup2(opened, file) != file) exit(2);
+  if (opened != file) (void)close(opened);
+}
+
+static int lowest_free(void) {
+  int file = dup(standard[0]);
+  (void)close(file);
+  return file;
+}
+
+/* ---- words */
+
+enum { MOST_WORDS = 12, WORD = 40 };
+
+static const char *random_word(char room[WORD]) {
+  static const char *const known[] = {"check",   "flat",    "list",     "plot",       "summary", "compare", "-q",     "--json", "--strict", "--any-order", "--window", "--layers", "--size",
+                                      "--size=9", "-o",      "-oout",    "--layers=A", "--help",  "--",      "-V",     "a.cif",  "b.cif",    "a.cif",       "b.cif",    "-",        "none.cif",
+                                      ".",       "out",     "none/out", "/dev/full",  "/dev/null", "/dev/fd/77", "NM,ND", "800",    "0",        "-1.5",        "20",       "1e3",      ""};
+  if (below(10) != 0) return known[below(sizeof known / sizeof *known)];
+  size_t length = below(WORD);
+  for (size_t i = 0; i < length; i++) room[i] = (char)(1 + below(126));
+  for (size_t i = 0; i < length; i++) room[i] = room[i] == '/' ? '-' : room[i];
+  room[length] = 0;
+  return room;
+}
+
+/* Words that make sense, with one changed now and then; or any words at all. */
+static int choose_words(const char *words[MOST_WORDS + 1], char rooms[MOST_WORDS][WORD]) {
+  static const char *const sensible[][9] = {
+      {"check", "a.cif"}, {"check", "--json", "a.cif", "b.cif"}, {"check", "-q", "-", "none.cif", "b.cif"}, {"flat", "a.cif", "-o", "out"}, {"list", "-", "--strict"},
+      {"plot", "a.cif", "-oout"}, {"plot", "b.cif", "--window", "-1.5", "0", "20", "3", "--layers=NM"}, {"summary", "a.cif", "-o", "out"}, {"compare", "a.cif", "b.cif"},
+      {"compare", "--any-order", "b.cif", "-"}, {"flat", "b.cif", "-o", "/dev/full"}, {"plot", "a.cif", "--size", "1600", "--layers", "NM,A,Q"},
+  };
+  int count = 1;
+  words[0] = "cif";
+  if (below(4) == 0) {
+    for (int most = (int)below(MOST_WORDS); count < most; count++) words[count] = random_word(rooms[count]);
+  } else {
+    const char *const *chosen = sensible[below(sizeof sensible / sizeof *sensible)];
+    for (; count < 10 && chosen[count - 1] != NULL; count++) words[count] = below(25) == 0 ? random_word(rooms[count]) : chosen[count - 1];
+  }
+  words[count] = NULL;
+  return count;
+}
+
+static bool has_word(const char *const *words, const char *word) {
+  while (*words != NULL && strcmp(*words, word) != 0) words++;
+  return *words != NULL;
+}
+
+/* ---- one run */
+
+static void look_at_told(int status, const struct output *told) {
+  demand(status >= 0 && status <= 2, "a status from 0 to 2", told);
+  demand(status != 2 || told->used > 0 || muted, "why it could not run is told", told);
+  demand(status == 2 || !failed || muted, "what fails ends with 2", told);
+  for (size_t i = 0; i < told->used; i++) demand(told->waiting[i] == '\n' || (told->waiting[i] >= ' ' && told->waiting[i] < 127), "a byte that cannot be shown", told);
+}
+
+/* OUT is whole or as it was. */
+static void look_at_flat(int status, const struct output *text, const struct output *told) {
+  static struct output out, want;
+  static unsigned char room[CIF_MOST_BYTES];
+  uint64_t answer[CIF_WORDS];
+  cif_flatten(text->waiting, text->used, room, sizeof room, answer);
+  want = (struct output){.file = DROPPED};
+  if (status == 0) put(&want, room, (size_t)answer[CIF_LENGTH]);
+  else put_text(&want, "as it was");
+  read_whole("out", &out);
+  demand(out.used == want.used && memcmp(out.waiting, want.waiting, out.used) == 0, "OUT is whole or as it was", told);
+}
+
+void try_whole(void) {
+  static struct output told, text;
+  static char rooms[MOST_WORDS][WORD];
+  const char *words[MOST_WORDS + 1];
+  int count = choose_words(words, rooms);
+  lay_files();
+  read_whole("a.cif", &text);
+  harsh = below(3) == 0;
+  failed = muted = false;
+  redirect(0, "a.cif", O_RDONLY);
+  redirect(1, below(20) == 0 ? "/dev/full" : "stdout", O_WRONLY | O_CREAT | O_TRUNC);
+  redirect(2, "stderr", O_WRONLY | O_CREAT | O_TRUNC);
+  standard_error = (struct output){.file = 2, .name = "standard error"};
+  int status = cif_main(count, (char **)(void *)words);
+  harsh = false;
+  for (int file = 0; file < 3; file++) (void)dup2(standard[file], file);
+  read_whole("stderr", &told);
+  look_at_told(status, &told);
+  look_for_leftovers(&told);
+  demand(lowest_free() == next_file, "every file is closed", &told);
+  if (count == 5 && strcmp(words[1], "flat") == 0 && strcmp(words[2], "a.cif") == 0 && has_word(words, "-o") && strcmp(words[4], "out") == 0) look_at_flat(status, &text, &told);
+}
+
+/* ---- all runs */
+
+void start_whole(void) {
+  static unsigned char text[16384];
+  for (int file = 0; file < 3; file++) standard[file] = dup(file);
+  if (mkdtemp(folder) == NULL || chdir(folder) != 0) exit(2);
+  write_whole("a.cif", text, random_text(text, sizeof text));
+  write_whole("b.cif", text, random_text(text, sizeof text));
+  next_file = lowest_free();
+}
+
+/* Removes the folder, which holds no others. */
+void end_whole(void) {
+  for (int file = 0; file < 3; file++) (void)dup2(standard[file], file);
+  DIR *entries = opendir(folder);
+  if (entries == NULL) return;
+  for (struct dirent *entry; (entry = readdir(entries)) != NULL;) (void)unlink(entry->d_name);
+  (void)closedir(entries);
+  (void)chdir("/");
+  (void)rmdir(folder);
+}
