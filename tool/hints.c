@@ -29,7 +29,7 @@ struct written_name {
 
 struct search {
   struct bytes text;
-  bool defining;
+  bool defining, named; /* inside a definition, and one that has its name */
   struct finding found[KINDS];
   struct extension extensions[MOST_KEYS];
   size_t extension_count;
@@ -50,6 +50,12 @@ static unsigned char byte_at(struct bytes text, size_t at) { return at < text.co
 
 static bool is_space(unsigned char byte) { return byte == ' ' || (byte >= '\t' && byte <= '\r'); }
 
+/* Whether the letter is no word's first one: a blank or a number follows it. */
+static bool stands_alone(struct bytes text, size_t letter) {
+  unsigned char next = byte_at(text, letter + 1);
+  return is_space(next) || is_digit(next) || next == '-';
+}
+
 /* ---- lower case: letters that are blanks, and look like the letter of a command */
 
 static bool seems_lower_command(struct search *search, const struct command *command) {
@@ -69,7 +75,7 @@ static size_t swallowed_line(struct bytes text, const struct command *command) {
     if (text.at[at] != '\n') continue;
     while (at + 1 < command->end && is_space(text.at[at + 1])) at++;
     unsigned char first = byte_at(text, at + 1), second = byte_at(text, at + 2);
-    bool alone = is_space(second) || is_digit(second) || second == '-' || (first == 'D' && (second == 'S' || second == 'F' || second == 'D'));
+    bool alone = stands_alone(text, at + 1) || (first == 'D' && (second == 'S' || second == 'F' || second == 'D'));
     if (at + 1 < command->end && (first == '(' || (is_command_letter(first) && alone))) return at + 1;
   }
   return 0;
@@ -87,6 +93,7 @@ static void count_extension(struct search *search, size_t start, size_t length) 
   if (search->extension_count < MOST_KEYS) search->extensions[search->extension_count++] = (struct extension){start, length, 1};
 }
 
+/* 9 and a name, once in a definition, is how all programs name symbols: no hint for that. */
 static void look_at_extension(struct search *search, const struct command *command) {
   struct bytes text = search->text;
   size_t at = command->start, line = swallowed_line(text, command);
@@ -96,8 +103,8 @@ static void look_at_extension(struct search *search, const struct command *comma
   bool worded = at < command->end && !is_digit(text.at[at]);
   if (line != 0) note(search, SWALLOWED, command->start, line);
   if (length == 1 && command->letter == '0' && worded) note(search, INCLUDE, command->start, 0);
-  /* 9 and a name, inside a definition, is how all programs name symbols: no hint for that. */
-  else if (!(length == 1 && command->letter == '9' && search->defining && line == 0)) count_extension(search, command->start, length);
+  else if (length == 1 && command->letter == '9' && at < command->end && search->defining && !search->named && line == 0) search->named = true;
+  else count_extension(search, command->start, length);
 }
 
 /* ---- numbers and paths */
@@ -109,22 +116,36 @@ static void look_for_points(struct search *search, const struct command *command
   }
 }
 
-/* How many numbers follow the letter on its line, up to another letter. */
-static size_t numbers_after(struct bytes text, size_t letter, size_t end) {
+/* How many numbers follow the letter, up to another letter, on its line or on the lines after it too. */
+static size_t numbers_after(struct bytes text, size_t letter, size_t end, bool further) {
   size_t numbers = 0;
-  for (size_t at = letter + 1; at < end && text.at[at] != '\n' && !is_upper(text.at[at]); at++) numbers += is_digit(text.at[at]) && !is_digit(text.at[at - 1]);
+  for (size_t at = letter + 1; at < end && (further || text.at[at] != '\n') && !is_upper(text.at[at]); at++) numbers += is_digit(text.at[at]) && !is_digit(text.at[at - 1]);
   return numbers;
 }
 
-/* A path takes any number of points, and letters may stand between them. So a line that begins with the path's own letter may be a command of its own, and so
-   may one that begins with B or P and has more than the two numbers of a point that bears that letter. */
-static void look_at_path(struct search *search, const struct command *command) {
+static bool is_one_of(unsigned char letter, const char *letters) { return letter != 0 && strchr(letters, letter) != NULL; }
+
+/* A path takes any number of points, and letters may stand between them. A line that begins with the letter of a shape may be a command of its own where it has
+   more than the two numbers of a point that bears that letter; and one that begins with C, where it has the one number of a call. A second path may itself
+   go on over lines. */
+static bool runs_on_as_path(struct bytes text, size_t at, const struct command *command, size_t numbers) {
+  unsigned char letter = text.at[at];
+  if (numbers < (command->letter == 'W' ? 3 : 2) || !is_one_of(letter, "PBRWC")) return false;
+  size_t after = numbers_after(text, at, command->end, letter == command->letter);
+  return letter == 'C' ? stands_alone(text, at) && after == 1 : after > 2;
+}
+
+/* Of a box only the direction can stand on a line after its centre, and nobody writes that after the letter of another command. */
+static bool runs_on_as_box(struct bytes text, size_t at, size_t numbers) {
+  return stands_alone(text, at) && ((text.at[at] == 'B' && numbers >= 2) || (is_one_of(text.at[at], "PRWLC") && numbers >= 4));
+}
+
+static void look_for_running_on(struct search *search, const struct command *command) {
   struct bytes text = search->text;
-  size_t numbers = 0, whole = command->letter == 'W' ? 3 : 2;
+  size_t numbers = 0;
   bool fresh = false; /* only blanks since the line began */
   for (size_t at = command->start + 1; at < command->end; at++) {
-    bool box = (text.at[at] == 'B' || text.at[at] == 'P') && numbers_after(text, at, command->end) > 2;
-    if (fresh && numbers >= whole && (text.at[at] == command->letter || box)) {
+    if (fresh && (command->letter == 'B' ? runs_on_as_box(text, at, numbers) : runs_on_as_path(text, at, command, numbers))) {
       note(search, LONG_PATH, command->start, at);
       return;
     }
@@ -170,13 +191,14 @@ static void look_at_command(struct search *search, const struct command *command
   if (second == 'S') {
     note(search, NO_CALL, command->start, 0);
     search->defining = true;
+    search->named = false;
   }
   if (second == 'F') search->defining = false;
   if (seems_lower_command(search, command)) return;
   if (is_digit(letter)) look_at_extension(search, command);
   if (letter == 'L') look_at_layer(search, command);
   if (is_command_letter(letter) && letter != 'L') look_for_points(search, command);
-  if (letter == 'P' || letter == 'W') look_at_path(search, command);
+  if (letter == 'P' || letter == 'W' || letter == 'B') look_for_running_on(search, command);
 }
 
 static void look_at_answer(struct search *search, const uint64_t answer[CIF_WORDS]) {
@@ -251,7 +273,7 @@ static void put_words(struct output *out, const struct search *search, enum kind
     case SWALLOWED: put_running_on(out, "this user extension", search->text, finding); break;
     case EXTENSIONS: put_extensions(out, search); break;
     case POINT: put_text(out, "a decimal point is a blank, so 1.5 is read as two numbers, 1 and 5: numbers are whole."); break;
-    case LONG_PATH: put_running_on(out, "this path", search->text, finding); break;
+    case LONG_PATH: put_running_on(out, search->text.at[finding->place] == 'B' ? "this box" : "this path", search->text, finding); break;
     default: put_one_layer(out, search->text, finding); break;
   }
 }
