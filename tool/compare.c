@@ -43,9 +43,25 @@ static int order_of(const struct drawing pair[2], size_t i, size_t j) {
   return order_shapes(pair[0].reading->flat.at, &pair[0].shapes[i], pair[1].reading->flat.at, &pair[1].shapes[j]);
 }
 
+/* What is shown: the first shapes that differ, in the order in which they are put, and how many there are in all. */
+struct difference {
+  size_t differing, count;
+  struct {
+    int side;
+    size_t shape; /* its place among the shapes of its side */
+  } shown[2 * SHOWN];
+  struct place places[2 * SHOWN];
+};
+
+static void take(struct difference *difference, const struct drawing pair[2], int side, size_t shape) {
+  difference->shown[difference->count].side = side;
+  difference->shown[difference->count].shape = shape;
+  difference->places[difference->count++] = (struct place){pair[side].shapes[shape].which, NO_PLACE};
+}
+
 /* ---- showing */
 
-static void put_drawn(struct output *out, const struct drawing *drawing, size_t i) {
+static void put_drawn(struct output *out, const struct drawing *drawing, size_t i, size_t place) {
   enum { LONGEST = 100 };
   const struct drawn *shape = &drawing->shapes[i];
   char name[5];
@@ -53,8 +69,13 @@ static void put_drawn(struct output *out, const struct drawing *drawing, size_t 
   put_text(out, "  shape ");
   put_number(out, shape->which);
   put_text(out, " of ");
-  put_name(out, drawing->reading->name);
-  put_text(out, ": L");
+  if (place != NO_PLACE) {
+    put_head(out, drawing->reading->name, drawing->reading->text, place);
+  } else {
+    put_name(out, drawing->reading->name);
+    put_text(out, ": ");
+  }
+  put_text(out, "L");
   put_text(out, name);
   put_text(out, "; ");
   size_t length = shape->length - 1; /* without its line end */
@@ -83,7 +104,7 @@ static void put_differ(struct output *out, const struct drawing pair[2], size_t 
   put_number(out, (int64_t)pair[1].count);
   put_text(out, "; ");
   put_number(out, (int64_t)alone);
-  put_text(out, any_order ? (alone == 1 ? " stands in one of them only" : " stand in one of them only") : (alone == 1 ? " place differs" : " places differ"));
+  put_text(out, any_order ? (alone == 1 ? " stands in one of them only" : " stand in one of them only") : (alone == 1 ? " differs" : " differ"));
   put_text(out, alone > SHOWN ? ", of which the first are\n" : "\n");
 }
 
@@ -93,18 +114,15 @@ static bool differ_at(const struct drawing pair[2], size_t i) {
   return i >= pair[0].count || i >= pair[1].count || order_of(pair, i, i) != 0;
 }
 
-static size_t compare_lists(struct output *out, const struct drawing pair[2]) {
-  size_t longest = pair[0].count > pair[1].count ? pair[0].count : pair[1].count, differing = 0, shown = 0;
-  for (size_t i = 0; i < longest; i++) differing += differ_at(pair, i);
-  if (differing > 0) put_differ(out, pair, differing, false);
-  for (size_t i = 0; i < longest && shown < SHOWN && differing > 0; i++) {
+static void compare_lists(const struct drawing pair[2], struct difference *difference) {
+  size_t longest = pair[0].count > pair[1].count ? pair[0].count : pair[1].count;
+  for (size_t i = 0; i < longest; i++) {
     if (!differ_at(pair, i)) continue;
-    for (int side = 0; side < 2; side++) {
-      if (i < pair[side].count) put_drawn(out, &pair[side], i);
+    for (int side = 0; side < 2 && difference->differing < SHOWN; side++) {
+      if (i < pair[side].count) take(difference, pair, side, i);
     }
-    shown++;
+    difference->differing++;
   }
-  return differing;
 }
 
 /* ---- in any order */
@@ -139,24 +157,49 @@ static void keep_alone(struct drawing pair[2], size_t alone[2]) {
   }
 }
 
-static size_t compare_in_any_order(struct output *out, struct drawing pair[2]) {
+static void compare_in_any_order(struct drawing pair[2], struct difference *difference) {
   size_t alone[2] = {0, 0};
   for (int side = 0; side < 2; side++) sort_shapes(&pair[side]);
   keep_alone(pair, alone);
-  if (alone[0] + alone[1] > 0) put_differ(out, pair, alone[0] + alone[1], true);
+  difference->differing = alone[0] + alone[1];
   for (int side = 0; side < 2; side++) {
     qsort(pair[side].shapes, alone[side], sizeof *pair[side].shapes, by_which);
-    for (size_t i = 0; i < alone[side] && i < SHOWN; i++) put_drawn(out, &pair[side], i);
+    for (size_t i = 0; i < alone[side] && i < SHOWN; i++) take(difference, pair, side, i);
   }
-  return alone[0] + alone[1];
+}
+
+/* ---- both */
+
+/* The places of what is shown of one side, asked for at once. */
+static bool place_side(const struct drawing *drawing, int side, struct difference *difference) {
+  struct place places[2 * SHOWN];
+  size_t count = 0, next = 0;
+  for (size_t i = 0; i < difference->count; i++) {
+    if (difference->shown[i].side == side) places[count++] = difference->places[i];
+  }
+  if (count > 0 && !find_places(drawing->reading, places, count)) return false;
+  for (size_t i = 0; i < difference->count; i++) {
+    if (difference->shown[i].side == side) difference->places[i] = places[next++];
+  }
+  return true;
+}
+
+static void put_difference(struct output *out, const struct drawing pair[2], const struct difference *difference, bool any_order) {
+  if (difference->differing == 0) put_same(out, pair, any_order);
+  else put_differ(out, pair, difference->differing, any_order);
+  for (size_t i = 0; i < difference->count; i++) put_drawn(out, &pair[difference->shown[i].side], difference->shown[i].shape, difference->places[i].place);
 }
 
 bool put_comparison(struct output *out, const struct reading readings[2], bool any_order, bool *same) {
   struct drawing pair[2] = {{0}, {0}};
+  struct difference difference = {0};
   bool found = find_drawn(&readings[0], &pair[0]) && find_drawn(&readings[1], &pair[1]);
+  if (found && any_order) compare_in_any_order(pair, &difference);
+  if (found && !any_order) compare_lists(pair, &difference);
+  found = found && place_side(&pair[0], 0, &difference) && place_side(&pair[1], 1, &difference);
   if (found) {
-    *same = (any_order ? compare_in_any_order(out, pair) : compare_lists(out, pair)) == 0;
-    if (*same) put_same(out, pair, any_order);
+    *same = difference.differing == 0;
+    put_difference(out, pair, &difference, any_order);
   }
   for (int side = 0; side < 2; side++) free(pair[side].shapes);
   return found;

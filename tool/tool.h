@@ -266,6 +266,18 @@ bool find_depth(const struct reading *reading, int *depth);
 /* False where there is no memory; then nothing is put. */
 bool put_summary(struct output *out, const struct reading *reading);
 
+/* ---- places.c: where the commands stand that draw shapes. */
+
+#define NO_PLACE ((size_t)-1)
+
+struct place {
+  uint64_t which; /* the shape's count in the list, from 1 */
+  size_t place;   /* of its command in the text, or NO_PLACE where that cannot be told */
+};
+
+/* False where there is no memory. */
+bool find_places(const struct reading *reading, struct place *places, size_t count);
+
 /* ---- compare.c */
 
 /* Tells whether two accepted texts draw the same, and the first differences. False where there is no memory; then nothing is put. */

@@ -1,7 +1,7 @@
 """The summary of a text, and the comparison of two."""
 import re
 
-from common import EXAMPLE, cif, expect, scratch
+from common import EXAMPLE, MOST, cif, expect, scratch
 
 
 def summary(text):
@@ -43,7 +43,8 @@ def test_depth():
 
 def test_compare():
     shapes = [b"LA;B4 4 0 0;", b"LA;B4 4 0 0 1 0;", b"LB;R4 0 0;", b"LA;W2 0 0 9 9;", b"LC;P0 0 9 0 9 9;", b"LA;B4 4 0 0;"]
-    one = scratch("one.cif", b"".join(shapes) + b"E")
+    text = b"".join(shapes) + b"E"
+    one = scratch("one.cif", text)
 
     def compared(text, *words):
         done = cif("compare", *words, one, "-", text=text)
@@ -55,11 +56,11 @@ def test_compare():
     turned = b"".join(shapes[::-1]) + b"E"
     expect(compared(turned, "--any-order") == (0, [same[0].replace("the same order", "any order")]), "the same shapes in another order")
     status, told = compared(turned)
-    expect(status == 1 and told[0].endswith(" differ: 6 shapes and 6; 4 places differ"), "another order", told)
-    expect(told[1:3] == [f"  shape 2 of {one}: LA; B4 4 0 0 1 0;", "  shape 2 of standard input: LC; P0 0 9 0 9 9;"] and len(told) == 9, "what differs", told)
+    expect(status == 1 and told[0].endswith(" differ: 6 shapes and 6; 4 differ"), "another order", told)
+    expect(told[1:3] == [f"  shape 2 of {one}:1:16: LA; B4 4 0 0 1 0;", "  shape 2 of standard input:1:16: LC; P0 0 9 0 9 9;"] and len(told) == 9, "what differs", told)
     for words in ([], ["--any-order"]):
         status, told = compared(b"".join(shapes[:5]) + b"E", *words)
-        expect(status == 1 and told[-1] == f"  shape 6 of {one}: LA; B4 4 0 0 1 0;" and len(told) == 2, "a shape less, of which there are three", words, told)
+        expect(status == 1 and told[-1] == f"  shape 6 of {one}:1:{text.rindex(b'B') + 1}: LA; B4 4 0 0 1 0;" and len(told) == 2, "a shape less, of which there are three", words, told)
         expect(compared(b"".join(shapes).replace(b"LB", b"LD") + b"E", *words)[0] == 1, "another layer")
         status, told = compared(b"LA;" + b"R9 9 9;" * 1000 + b"E", *words)
         expect(status == 1 and len(told) <= 11 and "of which the first are" in told[0], "only the first differences are shown", words, told)
@@ -69,3 +70,32 @@ def test_compare():
     expect(cif("compare", one, scratch("none.cif")).returncode == 2, "a file that cannot be read")
     for words in (["compare", one], ["compare", one, one, one], ["compare", "--strict", one, one], ["flat", "--any-order", one]):
         expect(cif(*words).returncode == 2, "bad words for a comparison", words)
+
+
+def places(text, *words):
+    """Where the commands stand that draw the shapes of a text, as they are told when it is compared with one that draws nothing."""
+    done = cif("compare", *words, scratch("drawn.cif", text), scratch("nothing.cif", b"E"))
+    expect(done.returncode == 1, "a comparison with nothing", text[:80], done)
+    return [tuple(map(int, re.search(rb"drawn\.cif:(\d+):(\d+): L", line).groups())) if b"drawn.cif:" in line and re.search(rb"cif:\d", line) else None
+            for line in done.stdout.split(b"\n")[1:-1]]
+
+
+def test_places():
+    """The command that draws a shape: in a definition that is called, called by another, replaced later, deleted; after comments and extensions that look like shapes."""
+    for text, lines in (
+        (b"LA;\nR4 0 0;\nB4 4 0 0;E", [(2, 1), (3, 1)]),
+        (b"DS1;LA;\nR4 0 0;\nDF;\nC1;C1 T 5 5;E", [(2, 1), (2, 1)]),
+        (b"DS1;\nC2;\nLA;\nW2 0 0;DF;\nDS2;LB;\n Box 4 4 0 0;\nDF;\nC1;C2;E", [(6, 2), (4, 1), (6, 2)]),
+        (b"DS1;LA;\nR4 0 0;DF;C1;DS1;LB;\nR4 0 0;DF;C1;DD1;DS1;LA;\nR4 0 0;DF;C1;E", [(2, 1), (3, 1), (4, 1)]),
+        (b"DS1;LA;\nR4 0 0;DF;DS1;LA;\nR4 0 0;DF;C1;E", [(3, 1)]),
+        (b"(R4 0 0;(B);\n);LA;9 R4 0 0;\nb R4 0 0;\n94 B4 4 0 0;P0 0 9 0 9 9;E", [(3, 3), (4, 13)]),
+        (b"DS1 2 1;LA;\nR4 0 0;LB;\nR4 0 0;DF;LC;R4 1 1;C1;\nR4 2 2;E", [(3, 14), (2, 1), (3, 1), (4, 1)]),
+        (b"LA;" + b"\nR4 0 0;" * 5 + b"E", [(2, 1), (3, 1), (4, 1), (5, 1), (6, 1)]),
+    ):
+        for words in ([], ["--any-order"]):
+            expect(places(text, *words) == lines, "where the commands stand that draw shapes", text, lines, places(text, *words))
+    last = b"".join(b"\nR4 %d 0;" % i for i in range(50000))
+    expect(places(b"LA;R9 9 9;" * 4 + b"DS1;LA;" + last + b"DF;C1;E")[4] == (2, 1), "a shape after many commands with names of their own")
+    full = b"LA;\nR4 0 0;("
+    expect(places(full.ljust(MOST - 5, b"x") + b");E") == [None], "a text in which no more commands fit: its shape is shown without a place")
+    expect(places(full.ljust(MOST - 6, b"x") + b");E") == [(2, 1)], "and one in which they just do")
