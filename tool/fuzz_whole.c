@@ -164,9 +164,12 @@ static int lowest_free(void) {
 enum { MOST_WORDS = 12, WORD = 40 };
 
 static const char *random_word(char room[WORD]) {
-  static const char *const known[] = {"check",   "flat",    "list",     "plot",       "summary", "compare", "-q",     "--json", "--strict", "--any-order", "--window", "--layers", "--size",
-                                      "--size=9", "-o",      "-oout",    "--layers=A", "--help",  "--",      "-V",     "a.cif",  "b.cif",    "a.cif",       "b.cif",    "-",        "none.cif",
-                                      ".",       "out",     "none/out", "/dev/full",  "/dev/null", "/dev/fd/77", "NM,ND", "800",    "0",        "-1.5",        "20",       "1e3",      ""};
+  static const char *const known[] = {
+      "check",    "flat",       "list",     "plot",     "summary",  "compare",   "-q",        "--json",     "--strict", "--any-order",
+      "--window", "--layers",   "--size",   "--size=9", "-o",       "-oout",     "--layers=A", "--help",    "--",       "-V",
+      "a.cif",    "b.cif",      "a.cif",    "b.cif",    "-",        "none.cif",  ".",         "out",        "none/out", "/dev/full",
+      "/dev/null", "/dev/fd/77", "NM,ND",    "800",      "0",        "-1.5",      "20",        "1e3",        "",
+  };
   if (below(10) != 0) return known[below(sizeof known / sizeof *known)];
   size_t length = below(WORD);
   for (size_t i = 0; i < length; i++) room[i] = (char)(1 + below(126));
@@ -194,9 +197,12 @@ static int choose_words(const char *words[MOST_WORDS + 1], char rooms[MOST_WORDS
   return count;
 }
 
-static bool has_word(const char *const *words, const char *word) {
-  while (*words != NULL && strcmp(*words, word) != 0) words++;
-  return *words != NULL;
+static bool writes_flat(const char *const *words, int count) {
+  static const char *const wanted[] = {"cif", "flat", "a.cif", "-o", "out"};
+  for (int i = 0; i < 5; i++) {
+    if (i >= count || strcmp(words[i], wanted[i]) != 0) return false;
+  }
+  return count == 5;
 }
 
 /* ---- one run */
@@ -241,7 +247,7 @@ void try_whole(void) {
   look_at_told(status, &told);
   look_for_leftovers(&told);
   demand(lowest_free() == next_file, "every file is closed", &told);
-  if (count == 5 && strcmp(words[1], "flat") == 0 && strcmp(words[2], "a.cif") == 0 && has_word(words, "-o") && strcmp(words[4], "out") == 0) look_at_flat(status, &text, &told);
+  if (writes_flat(words, count)) look_at_flat(status, &text, &told);
 }
 
 /* ---- all runs */
