@@ -1,6 +1,6 @@
-/* The proved CIF 2.0 reader, for programs in C and C++: all that the archive target/staticlib/libcif.a offers, which `rt staticlib cif` writes. The
-   archive is x86-64. What each function answers is settled, word for word and byte for byte, by its contract and proved; docs/BELIEVE.md leads through
-   the definitions.
+/* The proved CIF 2.0 reader, for programs in C and C++: all that the archive target/staticlib/libcif.a offers, which `rt staticlib cif` writes, and the
+   shared library libcif.so, which `tool/build` makes of it. Both are x86-64. What each function answers is settled, word for word and byte for byte, by its
+   contract and proved; docs/BELIEVE.md leads through the definitions.
 
    Any bytes at all may stand in a text, a flat file or a room, and any numbers in an answer that is given. The places in memory that a call is lent must
    not overlap, and the pointers must be good also where a length is 0. Nothing is allocated and nothing kept from one call to the next, so several threads
