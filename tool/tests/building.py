@@ -135,6 +135,21 @@ def test_build_elsewhere():
     expect_package(place)
 
 
+def test_build_by_the_kit():
+    """On other machines than x86-64 the kit builds, in such a folder too; what it makes can be moved."""
+    if platform.machine() == "x86_64" or not os.path.exists(Run.archive):
+        print("not tried: a build by the kit's compiler, which is for other machines than x86-64 and needs the archive")
+        return
+    place, other = scratch("kit's \"folder\""), scratch("the kit's other folder")
+    copied(place)
+    done = ran(os.path.join(place, "tool", "build"), Run.archive)
+    expect(done.returncode == 0 and done.stdout == BUILT, "a build by the kit in a folder with quotes in its name", done)
+    os.rename(place, other)
+    built = ran(os.path.join(other, "target", "tool", "cif"), "flat", "-", input=EXAMPLE)
+    expect(built.stdout == EXAMPLE_FLAT, "what was built there works in another place", built)
+    expect_host([os.path.join(other, "target", "tool", "host_shared")], b"host")
+
+
 def expect_package(place):
     """What is installed from there is enough to build a host, by what pkg-config says."""
     prefix = scratch("prefix of it's own")
