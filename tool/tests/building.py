@@ -97,8 +97,11 @@ def own_archive():
     if not shutil.which("cc") or not shutil.which("ar"):
         print("not tried, since there is no cc or no ar: a build by this machine's own compiler, what it installs, and examples/host.py")
         return None
+    if platform.machine() == "x86_64" and not os.path.exists(Run.archive):
+        print("not tried, since there is no archive: a build by this machine's own compiler, what it installs, and examples/host.py over that")
+        return None
     if platform.machine() == "x86_64":
-        return (Run.archive, {}) if os.path.exists(Run.archive) else None
+        return Run.archive, {}
     print(f"tried on {platform.machine()} over a stand-in for the archive, which is x86-64: a build by this machine's own compiler, what it installs, examples/host.py")
     folder = scratch("stand-in")
     os.mkdir(folder)
