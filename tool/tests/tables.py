@@ -1,4 +1,5 @@
 """The summary of a text, and the comparison of two."""
+import random
 import re
 
 from common import EXAMPLE, MOST, cif, expect, scratch
@@ -80,6 +81,28 @@ def places(text, *words):
             for line in done.stdout.split(b"\n")[1:-1]]
 
 
+def calling_text(seed):
+    """A text in which every flash has a diameter of its own, on a line of its own: in definitions that call others, are replaced and deleted, and outside of them."""
+    chance, live, size, text = random.Random(seed), set(), 0, "L A;"
+    for _ in range(12):
+        number, task = chance.randrange(1, 7), chance.randrange(5)
+        if task < 2:
+            text += f"DS {number};L {chance.choice('AB')};"
+        for _ in range(chance.randrange(1, 4) if task < 4 else 0):
+            if task < 2 or chance.randrange(4) == 0:
+                size += 1
+                text += f"\nR{size} {chance.randrange(50)} {chance.randrange(50)};"
+            called = [each for each in sorted(live) if task > 1 or each < number]
+            text += f"C{chance.choice(called)} MX T{chance.randrange(50)} 0;" if called else ""
+        if task < 2:
+            text += "DF;"
+            live.add(number)
+        elif task == 4:
+            text += f"DD {number};"
+            live = {each for each in live if each < number}
+    return (text + f"\nR{size + 1} 0 0;E").encode()
+
+
 def test_places():
     """The command that draws a shape: in a definition that is called, called by another, replaced later, deleted; after comments and extensions that look like shapes."""
     for text, lines in (
@@ -94,6 +117,11 @@ def test_places():
     ):
         for words in ([], ["--any-order"]):
             expect(places(text, *words) == lines, "where the commands stand that draw shapes", text, lines, places(text, *words))
+    for seed in range(40):
+        text = calling_text(seed)
+        drawn = [int(line.split(b"\t")[4].split()[0]) for line in cif("list", "-", text=text).stdout.split(b"\n") if line.startswith(b"shape")]
+        lines = [(text.count(b"\n", 0, text.index(b"\nR%d " % each)) + 2, 1) for each in drawn[:5]]
+        expect(places(text) == lines, "where the commands stand that draw shapes, each of its own size", text, lines, places(text))
     last = b"".join(b"\nR4 %d 0;" % i for i in range(50000))
     expect(places(b"LA;R9 9 9;" * 4 + b"DS1;LA;" + last + b"DF;C1;E")[4] == (2, 1), "a shape after many commands with names of their own")
     full = b"LA;\nR4 0 0;("
