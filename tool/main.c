@@ -9,7 +9,7 @@
 
 static const char help[] =
     "cif reads layouts in CIF 2.0 (Caltech Intermediate Form) and answers exactly as the\n"
-    "definition says, or says why not.\n"
+    "rules say, or says why not.\n"
     "\n"
     "  cif check FILE ..            tell whether each FILE is accepted, and what it draws\n"
     "  cif flat FILE [-o OUT]       write the flat file: layers and shapes, every call drawn\n"
@@ -19,8 +19,8 @@ static const char help[] =
     "  cif compare A B              tell whether two texts draw the same shapes\n"
     "  cif -h, --help; cif -V, --version\n"
     "\n"
-    "  -q           with check: say nothing of texts that are accepted without a hint\n"
-    "  --json       with check: an object of JSON for each FILE, on a line of its own\n"
+    "  -q           with check: say nothing about texts accepted without a hint\n"
+    "  --json       with check: a JSON object for each FILE, on a line of its own\n"
     "  --any-order  with compare: whatever the order of the shapes\n"
     "  --strict     an accepted text that gets a hint ends with status 1 too\n"
     "  --window x y x y   with plot: what lies between two corners, in microns\n"
@@ -31,7 +31,7 @@ static const char help[] =
     "OUT appears whole or not at all. A refusal goes to standard error and writes no OUT.\n"
     "Exit status: 0 accepted, 1 refused, 2 could not run; of several FILEs the worst.\n"
     "Texts and flat files have at most 16,777,216 bytes.\n"
-    "See also cif(1), docs/REFUSALS.md, docs/HINTS.md, docs/JSON.md.\n";
+    "See also cif(1), docs/RULES.md, docs/REFUSALS.md, docs/HINTS.md, docs/JSON.md.\n";
 
 static const char version[] = "cif " VERSION ": the CIF 2.0 reader Wadhuulexi\n";
 
