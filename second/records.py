@@ -34,7 +34,7 @@ NOTHING = line(0, 0, 0)
 
 
 def parted(said, fields):
-    """What was said, parted into answers: fields of a line that may have any of these numbers of fields, and the bytes after it; the rest that is none."""
+    """What was said, split into answers: fields of a line that may have any of these numbers of fields, and the bytes after it; the rest that is none."""
     at, out = 0, []
     while True:
         end = said.find(b"\n", at)

@@ -1,7 +1,7 @@
 #!/usr/bin/env python3
 """Makes rows of test vectors: tools/vectors.py [FILE], run at the top of the repository; FILE is tests/base.tsv if left out.
 
-FILE has one vector a line, fields parted by tabs: name, size of the room, the text in hex, number, place, length, shapes, calls,
+FILE has one vector a line, fields separated by tabs: name, size of the room, the text in hex, number, place, length, shapes, calls,
 redefinitions, the flat file in hex; a line that begins with # is passed over. This writes crates/vectors/proofs/Base.antt, where each is
 a row that is proved by computing: the definitions are held to answers that were worked out apart from them. `rt fmt` after it.
 """
