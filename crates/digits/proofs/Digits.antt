@@ -20,7 +20,7 @@ use Rattle.digits.proofs.Tens.{tens-positive, tenth-quotient, rest-tent
 
 -- ---- one digit, and more
 
-one-digit : (n : ℕ) → n < 10 → shortest n ≡ (48 + n) ∷ []
+pub one-digit : (n : ℕ) → n < 10 → shortest n ≡ (48 + n) ∷ []
 unfolding digits
 one-digit n h = rw (lt-ltb n 10 h) (ap (λ (k : ℕ). (48 + k) ∷ []) (omega (arith, h)))
 
@@ -173,13 +173,13 @@ begins-to-fall {room} {at} {n} {count} {unit} r h =
       small = lt-of-mul-lt-mul-right (tens count) {m = n * unit} {n = 10 * whole} (omega (arith, little .1, more));
     }
 
-pub falls : {old new : List ℕ} {at i : ℕ} {all : List ℕ} {left : ℕ} → Falling old new at i all left → i < at + length all
-    → Falling old (set new i (48 + left / whole)) at (i + 1) all (left % whole * 10)
+pub falls-by : {old new new′ : List ℕ} {at i i′ : ℕ} {all : List ℕ} {left : ℕ} → Falling old new at i all left → i < at + length all
+    → Writes new new′ i i′ ((48 + left / whole) ∷ []) → Falling old new′ at i′ all (left % whole * 10)
 unfolding tens
-falls {old} {new} {at} {i} {all} {left} f h = by (f .k) (f .rest) (f .going) (f .below) (f .low) (f .high)
+falls-by {old} {new} {new′} {at} {i} {i′} {all} {left} f h w = by (f .k) (f .rest) (f .going) (f .below) (f .low) (f .high)
   where
     by : (k rest : ℕ) → Going old new at i all (lasts k rest) → rest < tens k → rest * (10 * whole) ≤ left * tens k → left * tens k < (rest + 1) * (10 * whole)
-        → Falling old (set new i (48 + left / whole)) at (i + 1) all (left % whole * 10)
+        → Falling old new′ at i′ all (left % whole * 10)
     by zero rest g b l m = absurd (let r = reaches g in let n = lasts-length 0 rest in omega (arith, r, n, h))
     by (suc j) rest g b l m =
         let u = tens j in
@@ -195,12 +195,16 @@ falls {old} {new} {at} {i} {all} {left} f h = by (f .k) (f .rest) (f .going) (f 
         record {
           rest = rest % u;
           k = j;
-          going = goes-on ((48 + left / whole) ∷ []) g e (written refl refl);
+          going = goes-on ((48 + left / whole) ∷ []) g e w;
           below = mod-lt rest {m = u} z;
           low = omega (arith, lo, s);
           high = omega (arith, hi, s);
           small = omega arith;
         }
+
+pub falls : {old new : List ℕ} {at i : ℕ} {all : List ℕ} {left : ℕ} → Falling old new at i all left → i < at + length all
+    → Falling old (set new i (48 + left / whole)) at (i + 1) all (left % whole * 10)
+falls f h = falls-by f h (written refl refl)
 
 -- where the loop ends, at the last digit or at the room's end, what is left lies past the room
 pub fallen : {old new : List ℕ} {at i next : ℕ} {all : List ℕ} {left : ℕ} → Falling old new at i all left → next ≡ at + length all

@@ -165,21 +165,41 @@ pub fn put_digits(room: &mut [u8], at: usize, n: u64) -> usize
     put_long(room, at, n)
 }
 
-// How many digits a number has, where they are only counted.
+// How many digits a number has, where they are only counted. No text has a number of nine digits: such a one may take its time.
 pub fn digit_count(n: u64) -> usize
     ensures { λ r. ⌜ r ≡ length (shortest n) ⌝ }
 {
-    if n < BILLION {
-        let width = width_of(n);
-        return width.count;
+    if n <= 9 {
+        return 1;
     }
-    let high = n / BILLION;
-    if high < BILLION {
-        let width = width_of(high);
-        return width.count + 9;
+    if n <= 99 {
+        return 2;
     }
-    let width = width_of(high / BILLION);
-    width.count + 18
+    if n <= 999 {
+        return 3;
+    }
+    if n <= 9_999 {
+        return 4;
+    }
+    if n <= 99_999 {
+        return 5;
+    }
+    if n <= 999_999 {
+        return 6;
+    }
+    if n <= 9_999_999 {
+        return 7;
+    }
+    if n <= 99_999_999 {
+        return 8;
+    }
+    let mut count: usize = 1;
+    let mut high = n;
+    while 10 <= high {
+        high /= 10;
+        count += 1;
+    }
+    count
 }
 
 // How far a number is from zero. The lowest number of 64 bits has no positive of its own, so one is added before the sign is turned, and again behind.
@@ -221,29 +241,50 @@ pub fn put_decimal(room: &mut [u8], at: usize, z: i64) -> usize
 pub fn decimal_length(z: i64) -> usize
     ensures { λ r. ⌜ r ≡ length (decimal z) ⌝ }
 {
-    let count = digit_count(size_of(z));
     if is_negative(z) {
-        return count + 1;
+        return digit_count(size_of(z)) + 1;
     }
-    count
+    digit_count(size_of(z))
 }
 
-// The sign of a number that surely lies within the room: no test.
-fn lay_sign(room: &mut [u8], at: usize, z: i64) -> usize
-    requires { ⌜ at < length (now room) ⌝ }
-    ensures { λ r. ⌜ Writes (now (room .entry)) (now (room .exit)) at r (sign z) ⌝ }
+// So many digits that surely lie within the room: no test.
+fn lay_short(room: &mut [u8], at: usize, n: u64, count: usize, unit: u64) -> usize
+    requires { ⌜ Raises count unit × (n < tens count) × (at + count ≤ length (now room)) ⌝ }
+    ensures { λ r. ⌜ Writes (now (room .entry)) (now (room .exit)) at r (lasts count n) ⌝ }
 {
-    if is_negative(z) {
-        return lay(room, at, b'-');
+    let end = at + count;
+    let mut left = n * unit;
+    let mut i = at;
+    while i < end {
+        i = lay(room, i, (48 + left / WHOLE) as u8);
+        left = left % WHOLE * 10;
     }
-    at
+    end
 }
 
-// A number that surely lies within the room: its sign is stored without a test. Its digits are stored up to the room's end in any case, which is looked at once.
+// A number whose first nine digits surely lie within the room: up to nine are stored without a test, and one digit without a product.
+fn lay_digits(room: &mut [u8], at: usize, n: u64) -> usize
+    requires { ⌜ (at + 9 ≤ length (now room)) × (at ≤ 2 ^ 62) ⌝ }
+    ensures { λ r. ⌜ Writes (now (room .entry)) (now (room .exit)) at r (shortest n) ⌝ }
+{
+    if n <= 9 {
+        return lay(room, at, (48 + n) as u8);
+    }
+    if n < BILLION {
+        let width = width_of(n);
+        return lay_short(room, at, n, width.count, width.unit);
+    }
+    put_long(room, at, n)
+}
+
+// A number that surely lies within the room. A way for each sign is faster than one for both.
 pub fn lay_decimal(room: &mut [u8], at: usize, z: i64) -> usize
-    requires { ⌜ (at < length (now room)) × (at ≤ 2 ^ 61) ⌝ }
+    requires { ⌜ (at + 20 ≤ length (now room)) × (at ≤ 2 ^ 61) ⌝ }
     ensures { λ r. ⌜ Writes (now (room .entry)) (now (room .exit)) at r (decimal z) ⌝ }
 {
-    let first = lay_sign(room, at, z);
-    put_digits(room, first, size_of(z))
+    if is_negative(z) {
+        let first = lay(room, at, b'-');
+        return lay_digits(room, first, size_of(z));
+    }
+    lay_digits(room, at, size_of(z))
 }

@@ -102,7 +102,7 @@ fn lay_space(room: &mut [u8], at: usize, first: bool) -> usize
 }
 
 fn lay_number(room: &mut [u8], at: usize, first: bool, z: i64) -> usize
-    requires { ⌜ (at + 1 < length (now room)) × (at ≤ 2 ^ 60) ⌝ }
+    requires { ⌜ (at + 21 ≤ length (now room)) × (at ≤ 2 ^ 60) ⌝ }
     ensures { λ r. ⌜ Writes (now (room .entry)) (now (room .exit)) at r (number first z) ⌝ }
 {
     let next = lay_space(room, at, first);

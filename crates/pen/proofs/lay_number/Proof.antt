@@ -9,7 +9,7 @@ use Rattle.pen.proofs.lay_number.Statement.{statement}
 use Rattle.pen.proofs.lay_number.Tie as tie
 
 lay-space-requires : tie.Need-lay-space-requires
-lay-space-requires c κs = search needs
+lay-space-requires c κs = omega (arith, c .before .before .pre .0)
 
 lay-decimal-requires : tie.Need-lay-decimal-requires
 lay-decimal-requires c κs = (omega (arith, c .before .before .before .lay-space .ensures .kept, c .before .before .before .lay-space .ensures .ends, space-short (c .before .before .before .before .before .before .args .first), c .before .before .before .before .before .before .pre .0), omega (arith, c .before .before .before .lay-space .ensures .ends, space-short (c .before .before .before .before .before .before .args .first), c .before .before .before .before .before .before .pre .1))
