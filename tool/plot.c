@@ -232,7 +232,8 @@ static double thickness(const struct shape *shape) {
 
 enum part { SOLID, THIN, DOTS, CROSSED, WIRES, THIN_WIRES, PARTS };
 
-/* What is thinner than a pixel gets a line of that width around it, or along it, so that it can be seen, and a dot a wider one. */
+/* What is thinner than a pixel gets a line of that width around it, or along it, so that it can be seen. What has one point and is smaller than a dot is drawn as
+   it is, with a dot over it: so none looks larger than one that is larger. */
 enum { DOT = 3 };
 
 static bool has_one_point(const struct shape *shape) {
@@ -269,7 +270,7 @@ static bool is_simple(const struct shape *polygon) {
 
 static bool is_in_part(const struct frame *frame, const struct shape *shape, enum part part) {
   bool dot = shape->kind != 'B' && has_one_point(shape), thin = thickness(shape) < (double)frame->pixel;
-  if (dot && thickness(shape) < DOT * (double)frame->pixel) return part == DOTS;
+  if (dot && thickness(shape) < DOT * (double)frame->pixel) return part == DOTS || part == SOLID;
   if (shape->kind == 'W' && !dot) return part == WIRES || (part == THIN_WIRES && thin);
   if (shape->kind == 'P' && !is_simple(shape)) return part == CROSSED;
   return part == (thin ? THIN : SOLID);
@@ -373,6 +374,13 @@ static void put_subpath(struct output *out, const struct frame *frame, const str
   start->near = circle || (box && is_upright(shape));
 }
 
+/* A line of no length, whose round ends make it a dot. */
+static void put_dot(struct output *out, const struct frame *frame, const struct shape *shape, struct start *start) {
+  put_start(out, frame, start, point_of(shape, 0));
+  put_text(out, "h0");
+  start->near = true;
+}
+
 /* ---- the paths of a layer */
 
 struct pencil {
@@ -432,7 +440,8 @@ static void draw(struct pencil *pencil, const struct shape *shape) {
   if (pencil->part == WIRES && !takes_width(pencil, shape->numbers[0])) return;
   if (pencil->part == CROSSED) lift(pencil);
   if (!pencil->down) lower(pencil);
-  put_subpath(pencil->out, pencil->frame, shape, &pencil->start);
+  if (pencil->part == DOTS) put_dot(pencil->out, pencil->frame, shape, &pencil->start);
+  else put_subpath(pencil->out, pencil->frame, shape, &pencil->start);
   if (++pencil->on_line < SHAPES_ON_A_LINE) return;
   put_text(pencil->out, "\n");
   pencil->on_line = 0;

@@ -45,6 +45,10 @@ def subpaths(data):
             expect(radii[1] == r and abs(radii[2] - 2 * r) < 1e-9 and radii[3:5] == [r, r] and radii[5] == -radii[2], "a circle of two halves", part)
             yield [(x + r, y)], r, True
             continue
+        dot = re.fullmatch(f"{PAIR}h0", part)
+        if dot:
+            yield [tuple(map(float, dot.groups()))], 0.0, False
+            continue
         closed, part = part.endswith("z"), part.rstrip("z")
         step = re.fullmatch(f"{PAIR}h{NUMBER}v{NUMBER}(?:h{NUMBER})?", part)
         if step:
@@ -122,6 +126,9 @@ def test_small_shapes():
         shapes = Picture(far + b"LA;" + text + b"E").shapes("A")
         expect([s[0].get("class") for s in shapes][-1] == look, "a line where a shape is thin, a dot where it is small", text, shapes)
         expect(look is None or float(shapes[-1][0]["stroke-width"]) > 0, "and a width for viewers without styles", text, shapes)
+    shapes = Picture(far + b"LA;R180 0 0;R250 900 0;R2000 5000 0;E").shapes("A")
+    expect([(s[0].get("class"), s[2]) for s in shapes] == [(None, 0.9), (None, 1.25), (None, 10.0), ("dot", 0.0), ("dot", 0.0)],
+           "a dot has its true size too, and adds nothing to it", [(s[0], s[2]) for s in shapes])
 
 
 def reach(picture):
@@ -263,7 +270,7 @@ def test_around():
 def test_many():
     names = [bytes(65 + (i >> shift) % 8 for shift in (9, 6, 3, 0)) for i in range(4096)]
     picture = Picture(b"".join(b"L%s;R1 %d %d;" % (n, i, j) for j in range(20) for i, n in enumerate(names)) + b"E")
-    expect(len(picture.layers) == 4096 and all(len(picture.shapes(n)) == 20 for n in picture.layers), "4,096 layers, mixed")
+    expect(len(picture.layers) == 4096 and all(sum(1 for s in picture.shapes(n) if s[0].get("class") == "dot") == 20 for n in picture.layers), "4,096 layers, mixed")
     expect(any("more layers" in w for w in picture.words), "a long legend ends", picture.words[-3:])
     done = cif("plot", "-", text=b"DS1;LA;" + b"R1 0 0;" * 1024 + b"DF;" + b"C1;" * 1024 + b"E")
     expect(done.returncode == 0 and done.stdout.count(b"z") >= 1048576 and done.stdout.endswith(b"</svg>\n"), "1,048,576 shapes drawn", done.stderr)
