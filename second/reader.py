@@ -1,7 +1,8 @@
-"""A second opinion on the CIF reader: what document 01 and sections 7.1.1 and 7.1.2 of Chapter 7 say of a text, as plainly as can be.
+"""A second opinion on the CIF reader: what document 01, sections 7.1.1 and 7.1.2 of Chapter 7 and the requests of document 02 say of a text, as plainly
+as can be.
 
-`flatten(text, room)` gives number, place, length, shapes, calls, redefinitions and the bytes of the flat file, where room is the room's length.
-Sentences in quotation marks are document 01's, and a rule stands under its sentence.
+`flatten(text, room)` gives number, place, length, shapes, calls, redefinitions, rounded distances and the bytes of the flat file, where room is the room's
+length. Sentences in quotation marks are document 01's, those after "request" document 02's, and a rule stands under its sentence.
 """
 from typing import NamedTuple, Optional
 
@@ -20,6 +21,7 @@ class Answer(NamedTuple):
     shapes: int
     calls: int
     redefinitions: int
+    rounded: int
     flat: bytes
 
 
@@ -115,6 +117,27 @@ def directions(command):
     return [t.point for t in command.transformations if t.letter == "R"]
 
 
+# ---- Scale
+
+
+class Scaled(NamedTuple):
+    value: int
+    off_grid: bool  # it was rounded
+
+
+def scaled(a, b, distance):
+    """"Inside a definition each distance d [..] becomes a*d/b." Request 2: "A scaled distance now goes to the nearest whole number, halves away from zero" """
+    whole, rest = divmod(a * abs(distance), b)
+    if 2 * rest >= b:
+        whole += 1
+    return Scaled(-whole if distance < 0 else whole, rest != 0)
+
+
+def rounded(command, a, b):
+    """Request 2: "the result also counts the rounded distances of the text". Each counts where it stands in the text, drawn or not, however often drawn."""
+    return len([n for n in distances(command) if scaled(a, b, n.value).off_grid])
+
+
 # ---- Refusals 3 to 9, and what the text alone says of each command
 
 
@@ -128,14 +151,13 @@ def faults(command, a, b, layer):
     # 4: "a or b is 0", at "the DS"
     if command.kind == "DS" and any(n.value == 0 for n in command.numbers[1:]):
         yield 4, command.place
-    # 5 and 6: "scaled distance not whole" and "scaled distance beyond 16,777,215", at "that number"
+    # request 2: "5 never occurs [..]; 6 and the sizes in 7 are judged after rounding"
+    # 6: "scaled distance beyond 16,777,215", at "that number"
     for n in distances(command):
-        if a * n.value % b != 0:
-            yield 5, n.place
-        if abs(a * n.value) > MOST * b:
+        if abs(scaled(a, b, n.value).value) > MOST:
             yield 6, n.place
     # 7: "zero length, width or diameter; direction (0, 0) of a box or an R; polygon under 3 points", at "the command"
-    if shape and any(n.value == 0 for n in sizes(command)):
+    if shape and any(scaled(a, b, n.value).value == 0 for n in sizes(command)):
         yield 7, command.place
     if any(x.value == 0 and y.value == 0 for x, y in directions(command)):
         yield 7, command.place
@@ -166,21 +188,27 @@ class Call(NamedTuple):
 
 
 def shape(command, a, b, layer):
-    """"Inside a definition each distance d [..] becomes a*d/b." It is whole, since no fault was found."""
-    scaled = [a * n.value // b for n in points(command)]
-    pairs = [(scaled[i], scaled[i + 1]) for i in range(0, len(scaled), 2)]
+    numbers = [scaled(a, b, n.value).value for n in points(command)]
+    pairs = [(numbers[i], numbers[i + 1]) for i in range(0, len(numbers), 2)]
     direction = None
     if command.kind == "B":  # "the direction (1, 0) if omitted and otherwise as given, never shortened"
         direction = tuple(n.value for n in command.numbers[4:]) or (1, 0)
-    return Shape(command.place, layer, command.kind, [a * n.value // b for n in sizes(command)], pairs, direction)
+    return Shape(command.place, layer, command.kind, [scaled(a, b, n.value).value for n in sizes(command)], pairs, direction)
 
 
 def call(command, a, b):
     transformations = []
     for t in command.transformations:
         x, y = [n.value for n in t.point] or [0, 0]
-        transformations.append((t.letter, a * x // b, a * y // b) if t.letter == "T" else (t.letter, x, y))
+        transformations.append((t.letter, scaled(a, b, x).value, scaled(a, b, y).value) if t.letter == "T" else (t.letter, x, y))
     return Call(command.place, command.numbers[0].value, transformations)
+
+
+class Meant(NamedTuple):
+    """A command, its shape or call if it is one, and how many of its distances were rounded."""
+    command: Command
+    what: object
+    rounded: int
 
 
 def meaning(written):
@@ -191,7 +219,7 @@ def meaning(written):
         found = sorted(faults(command, a, b, layer))
         if found:
             raise Refused(*found[0])
-        what = None
+        what, off_grid = None, 0
         if command.kind == "L":
             layer = command.name
         elif command.kind == "DS":
@@ -202,10 +230,10 @@ def meaning(written):
         elif command.kind == "DF":
             a, b, layer = 1, 1, outer
         elif command.kind == "C":
-            what = call(command, a, b)
+            what, off_grid = call(command, a, b), rounded(command, a, b)
         elif command.kind in SHAPES:
-            what = shape(command, a, b, layer)
-        yield command, what
+            what, off_grid = shape(command, a, b, layer), rounded(command, a, b)
+        yield Meant(command, what, off_grid)
 
 
 # ---- Drawing: refusals 10 to 17
@@ -245,7 +273,7 @@ class Drawing:
     def draw_text(self, meant):
         """"Commands outside definitions act in text order." """
         start, body = None, []
-        for command, what in meant:
+        for command, what, _ in meant:
             if command.kind == "DS":
                 start, body = command, []
             elif command.kind == "DF":
@@ -333,14 +361,15 @@ def draw(text):
         drawing.draw_text(meant)
     except Refused as refused:
         # "On refusal the length and all counts are 0"
-        return Answer(refused.number, refused.place, 0, 0, 0, 0, b"")
-    return Answer(0, 0, len(drawing.flat), drawing.shapes, drawing.calls, drawing.redefinitions, bytes(drawing.flat))
+        return Answer(refused.number, refused.place, 0, 0, 0, 0, 0, b"")
+    off_grid = sum(one.rounded for one in meant)
+    return Answer(0, 0, len(drawing.flat), drawing.shapes, drawing.calls, drawing.redefinitions, off_grid, bytes(drawing.flat))
 
 
 def put(answer, room):
     """The same answer in a room of this length. "then 18": "flat file longer than the room or than 16,777,216" """
     if answer.length > min(room, LONGEST):
-        return Answer(18, 0, 0, 0, 0, 0, b"")
+        return Answer(18, 0, 0, 0, 0, 0, 0, b"")
     return answer
 
 

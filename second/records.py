@@ -1,4 +1,12 @@
 """The format of the program `batch` (docs/PROGRAMS.md): what is asked, and what must be told. Shared by second/compare and tools/batch.py."""
+import glob
+import os
+from typing import NamedTuple
+
+import listing
+import reader
+
+REQUESTS = os.path.join(os.path.dirname(os.path.dirname(os.path.abspath(__file__))), "tests", "requests")
 
 LONGEST = 1_048_576  # bytes of a text, of a second text and of a room
 MOST_OPEN = 64  # records lent for open calls
@@ -22,8 +30,8 @@ def line(*fields):
 
 
 def flattened(answer):
-    """What is told of a text: rounded distances, line and column are 0 until their requests land."""
-    return line(*answer[:6], 0, 0, 0) + answer.flat
+    """What is told of a text: line and column are 0 until their request lands."""
+    return line(*answer[:7], 0, 0) + answer.flat
 
 
 def listed(lines):
@@ -31,6 +39,36 @@ def listed(lines):
 
 
 NOTHING = line(0, 0, 0)
+
+
+def told(task, text, room):
+    """What the second opinion tells."""
+    if task == FLATTEN:
+        return flattened(reader.flatten(text, room))
+    return listed(listing.listing(text)) if task == LIST else NOTHING
+
+
+class Written(NamedTuple):
+    """A record with what must be told of it, as it is written in tests/requests."""
+    label: str
+    task: int
+    room: int
+    text: bytes
+    record: bytes
+    told: bytes
+
+
+def written():
+    """All of them. Fields: name, task, room, words, records, argument, text and second text in hex, the line with spaces for its tabs, the bytes in hex."""
+    for path in sorted(glob.glob(os.path.join(REQUESTS, "*.tsv"))):
+        for at, row in enumerate(open(path, encoding="utf-8"), 1):
+            if not row.startswith("#"):
+                name, *numbers, text, second, fields, found = row.rstrip("\n").split("\t")
+                task, room, words, lent, argument = map(int, numbers)
+                text, second = bytes.fromhex(text), bytes.fromhex(second)
+                asked = record(task, text, room, second, words=words, records=lent, argument=argument)
+                label = "%s:%d (%s)" % (os.path.basename(path), at, name)
+                yield Written(label, task, room, text, asked, line(*map(int, fields.split(" "))) + bytes.fromhex(found))
 
 
 def parted(said, fields):

@@ -1,6 +1,6 @@
-"""An account of refusals 2 to 9 that knows neither the project's tables nor how they are made: `agree` holds a written answer to it.
+"""An account of refusals 2 to 9 and of rounded distances that knows neither the project's tables nor how they are made: `agree` holds a written answer to it.
 
-It follows the printed rules of section 7.1.1 over sets of places, and finds refusals 3 to 9 by document 01's table.
+It follows the printed rules of section 7.1.1 over sets of places, and finds refusals 3 to 9 by document 01's table and document 02's request 2.
 """
 import sys
 
@@ -187,8 +187,8 @@ def commands(text):
 
 
 def fault(text):
-    """The first of refusals 3 to 9 and its place, or nothing."""
-    inside, a, b, layer, outer = False, 1, 1, None, None
+    """The first of refusals 3 to 9 and its place, or nothing; and how many distances are rounded, 0 where there is a refusal."""
+    inside, a, b, layer, outer, rounded = False, 1, 1, None, None, 0
     for at, kind, what in commands(text):
         if kind == "L":
             layer = what
@@ -207,28 +207,29 @@ def fault(text):
         found = [(3, p) for p, v in numbers if abs(v) > MOST]
         if kind == "DS" and any(v == 0 for _, v in what[1:3]):
             found.append((4, at))
-        found += [(5, p) for p, v in distances if a * abs(v) % b] if b else []
-        found += [(6, p) for p, v in distances if a * abs(v) // b > MOST] if b else []
+        # by request 2 a distance is rounded, halves away from zero: out of range from MOST and a half on, and nothing below a half
+        found += [(6, p) for p, v in distances if 2 * a * abs(v) >= (2 * MOST + 1) * b]
         nowhere = any(all(v == 0 for _, v in d) for d in directions)
-        if any(v == 0 for _, v in sizes) or nowhere or kind == "P" and points < 3:
+        if any(2 * a * v < b for _, v in sizes) or nowhere or kind == "P" and points < 3:
             found.append((7, at))
         if shape and layer is None:
             found.append((8, at))
         if points > 1024 or len(turns) > 32:
             found.append((9, at))
         if found:
-            return min(found)
+            return min(found), 0
+        rounded += sum(a * v % b != 0 for _, v in distances)
         if kind == "DS":
             a, b = (what[1][1], what[2][1]) if len(what) > 1 else (1, 1)
             inside, outer, layer = True, layer, None
         elif kind == "DF":
             inside, a, b, layer = False, 1, 1, outer
-    return None
+    return None, rounded
 
 
 def agree(text, stuck, answer):
-    """Holds an answer to what is found here of refusals 2 to 9; `stuck` is the place of 2, or IN_GRAMMAR."""
-    found = (2, stuck) if stuck is not IN_GRAMMAR else fault(text)
+    """Holds an answer to what is found here of refusals 2 to 9 and of rounded distances; `stuck` is the place of 2, or IN_GRAMMAR."""
+    found, rounded = ((2, stuck), 0) if stuck is not IN_GRAMMAR else fault(text)
     given = (answer.number, answer.place) if 2 <= answer.number <= 9 else None
-    if found != given:
-        sys.exit(f"no agreement on {text!r}: {answer} is written, the account says {found}")
+    if found != given or answer.rounded != (rounded if answer.number == 0 else 0):
+        sys.exit(f"no agreement on {text!r}: {answer} is written, the account says {found} and {rounded} rounded")
