@@ -1,7 +1,7 @@
 #!/usr/bin/env python3
 """Writes what the program `batch` is run on and what it must answer: crates/batch/stdin and crates/batch/stdout. Run at the top of the repository.
 
-No answer is taken from the program. Those of the rows of tests/*.tsv stand there; the places of refusal 2 in document 01's texts and in texts that
+No answer is taken from the program. Those of the rows of tests/*.tsv and of the records of tests/requests/*.tsv stand there; the places of refusal 2 in document 01's texts and in texts that
 are cut short or hold a byte from 128 up stand in tools/each_rule.py; for all others, and for what is listed, the second opinion (second/) is asked.
 Whatever the source of an answer, the account of tools/account.py has to agree with it. Each flat file is flattened again, in a room that just holds it.
 """
@@ -17,7 +17,7 @@ import reader  # noqa: E402
 import records  # noqa: E402
 
 STDIN, STDOUT = "crates/batch/stdin", "crates/batch/stdout"
-ROWS = ["tests/base.tsv", "tests/digits.tsv", "tests/document.tsv", "tests/drawing.tsv"]
+ROWS = ["tests/base.tsv", "tests/digits.tsv", "tests/document.tsv", "tests/drawing.tsv", "tests/scaling.tsv"]
 ROOM = 4096  # of a text that has none of its own
 
 
@@ -53,7 +53,7 @@ def flattened(asked):
         account.agree(text, account.place(text), answer)
         yield records.record(records.FLATTEN, text, room), records.flattened(answer)
         if answer.number == 0:
-            again = answer._replace(calls=0, redefinitions=0)
+            again = answer._replace(calls=0, redefinitions=0, rounded=0)
             yield records.record(records.FLATTEN, answer.flat, answer.length), records.flattened(again)
 
 
@@ -66,6 +66,14 @@ def listed(asked):
     """Task 2: what the list program prints."""
     for text, answer in asked.items():
         yield records.record(records.LIST, text), records.listed(listing.lines_of(text, drawn(text, answer)))
+
+
+def requests():
+    """The records of tests/requests, on which the second opinion has to agree."""
+    for one in records.written():
+        if one.told != records.told(one.task, one.text, one.room):
+            sys.exit(f"no agreement on {one.label}: {one.told!r} is written")
+        yield one.record, one.told
 
 
 def empty_answers():
@@ -89,6 +97,7 @@ def cases():
     to_list.update((text.encode(), None) for text in each_rule.LISTED)
     yield from flattened(each_once([*written, *texts()]))
     yield from listed(to_list)
+    yield from requests()
     yield from empty_answers()
     yield from ignored_numbers()
     yield records.head(records.FLATTEN, 2, room=2) + b"E", b"cut short\n"
