@@ -2,8 +2,9 @@
 """Makes rows of test vectors: tools/vectors.py [FILE], run at the top of the repository; FILE is tests/base.tsv if left out.
 
 FILE has one vector a line, fields separated by tabs: name, size of the room, the text in hex, number, place, length, shapes, calls,
-redefinitions, the flat file in hex; a line that begins with # is passed over. This writes crates/vectors/proofs/Base.antt, where each is
-a row that is proved by computing: the definitions are held to answers that were worked out apart from them. `rt fmt` after it.
+redefinitions, rounded distances, the flat file in hex; a line that begins with # is passed over. This writes crates/vectors/proofs/Base.antt, where each is
+a row that is proved by computing: the definitions are held to answers that were worked out apart from them. A text with rounded distances
+is a row `rounded-in`, with their number before the flat file; all others have none. `rt fmt` after it.
 """
 import sys
 
@@ -14,7 +15,7 @@ HEAD = """-- The vectors of tests/base.tsv, made into rows by tools/vectors.py: 
 -- A trailing comment is the vector's name. They stand in batches, so that a row that does not compute is found.
 -- Assumes nothing.
 use mathlib.Core.List.{List, [], _∷_}
-use Rattle.definition.proofs.Rows.{Row, accepted-in, refused-in, Holds, Each, all-hold, each}
+use Rattle.definition.proofs.Rows.{Row, accepted-in, rounded-in, refused-in, Holds, Each, all-hold, each}
 """
 
 
@@ -24,13 +25,15 @@ def quoted(data):
 
 
 def row(line):
-    name, room, text, number, place, length, shapes, calls, again, flat = line.rstrip("\n").split("\t")
+    name, room, text, number, place, length, shapes, calls, again, rounded, flat = line.rstrip("\n").split("\t")
     text, flat = bytes.fromhex(text), bytes.fromhex(flat)
     if len(flat) != int(length):
         raise SystemExit(f"vector {name}: the length {length} is not that of its flat file")
+    if number == "0" and rounded != "0":
+        return f"rounded-in {room} {quoted(text)} {shapes} {calls} {again} {rounded} {quoted(flat)}", name
     if number == "0":
         return f"accepted-in {room} {quoted(text)} {shapes} {calls} {again} {quoted(flat)}", name
-    if (length, shapes, calls, again) != ("0", "0", "0", "0"):
+    if (length, shapes, calls, again, rounded) != ("0",) * 5:
         raise SystemExit(f"vector {name}: refused, and yet has a length or counts")
     return f"refused-in {room} {quoted(text)} {number} {place}", name
 
