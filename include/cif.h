@@ -26,8 +26,8 @@ enum cif_word {
   CIF_SHAPES = 3,        /* how many shapes are drawn */
   CIF_CALLS = 4,         /* how many calls are drawn, at any depth */
   CIF_REDEFINITIONS = 5, /* how many definitions replaced one of the same number */
-  CIF_ROUNDED = 6,       /* from here on nothing is told yet, and all is 0: how many distances were rounded; */
-  CIF_LINE = 7,          /* line */
+  CIF_ROUNDED = 6,       /* how many distances of the text were rounded, since a/b of their definition leaves a fraction: each once, drawn or not */
+  CIF_LINE = 7,          /* from here on nothing is told yet, and all is 0: line */
   CIF_COLUMN = 8,        /* and column of the place; */
   CIF_OPEN_CALLS = 9,    /* how many calls were open there; */
   CIF_TEXT = 10,         /* in which of two texts the place is; */
@@ -39,7 +39,8 @@ enum cif_word {
 /* Reads the text and writes its flat file into the room: layer commands, shapes and the End, with every call drawn.
 
    Accepted: answer[CIF_NUMBER] and answer[CIF_PLACE] are 0, the first answer[CIF_LENGTH] bytes of the room are the flat file and the rest of the room
-   is unchanged; the three words after them are the counts.
+   is unchanged; the four words after them are the counts. A distance in a definition is multiplied by a and divided by b and goes to the nearest whole
+   number, a half away from zero.
 
    Refused: answer[CIF_NUMBER] tells why and answer[CIF_PLACE] at which byte; all other words are 0 and not one byte of the room is changed.
 
@@ -48,10 +49,10 @@ enum cif_word {
          2    not in the grammar                                                length of the longest prefix that could still be completed
          3    a number beyond 16,777,215                                        the number
          4    a or b of a DS is 0                                               the DS
-         5    a distance scaled by a/b is not whole                             the number
-         6    a distance scaled by a/b is beyond 16,777,215                     the number
-         7    a length, width or diameter of 0; a direction 0 0; a polygon      the command
-              of fewer than 3 points
+         5    never: it was for scaled distances that are now rounded
+         6    a distance scaled by a/b and rounded is beyond 16,777,215         the number
+         7    a length, width or diameter of 0, scaled and rounded;             the command
+              a direction 0 0; a polygon of fewer than 3 points
          8    a shape with no layer set                                         the command
          9    more than 1,024 points or 32 transformations                      the command
         10    513 definitions alive at once                                     the DS

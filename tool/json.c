@@ -93,6 +93,7 @@ static void put_counts(struct output *out, const struct reading *reading) {
   put_number_field(out, "shapes", reading->answer[CIF_SHAPES]);
   put_number_field(out, "calls", reading->answer[CIF_CALLS]);
   put_number_field(out, "redefinitions", reading->answer[CIF_REDEFINITIONS]);
+  put_number_field(out, "rounded", reading->answer[CIF_ROUNDED]);
 }
 
 void put_unread(struct output *out, const char *name) {

@@ -241,6 +241,7 @@ static void put_counts(struct output *out, const struct reading *reading) {
   put_count(out, reading->answer[CIF_CALLS], " call");
   put_text(out, ", ");
   put_count(out, reading->answer[CIF_REDEFINITIONS], " redefinition");
+  put_rounded_count(out, reading);
   put_text(out, "; the flat file has ");
   put_count(out, reading->answer[CIF_LENGTH], " byte");
   put_text(out, "\n");
@@ -252,7 +253,10 @@ static enum status check_reading(const struct request *request, struct output *o
   if ((request->given & JSON) != 0) {
     if (!put_json(out, reading, &hints)) return complain("not enough memory to show", reading->name, 0);
   } else {
-    if (accepted(reading) && (request->given & QUIET) == 0) put_counts(out, reading);
+    if (accepted(reading) && (request->given & QUIET) == 0) {
+      put_counts(out, reading);
+      if (request->count == 1) tell_rounding(out, reading);
+    }
     flush(out);
     if (!accepted(reading)) tell_refusal(&standard_error, reading, request->count == 1);
     tell_hints(&standard_error, reading->name, reading->text, &hints);

@@ -64,6 +64,18 @@ static uint64_t count_extensions(struct bytes text) {
   return count;
 }
 
+void put_rounded_count(struct output *out, const struct reading *reading) {
+  if (reading->answer[CIF_ROUNDED] == 0) return;
+  put_text(out, ", ");
+  put_count(out, reading->answer[CIF_ROUNDED], " rounded distance");
+}
+
+void tell_rounding(struct output *out, const struct reading *reading) {
+  if (reading->answer[CIF_ROUNDED] == 0) return;
+  put_paragraph(out, "Rounded distances lie between two hundredths of a micron by the scale of their definition (DS n a b), as with 100/3 on a grid of a third of a "
+                     "micron. Each goes to the nearest hundredth, a half away from zero.");
+}
+
 static void put_head_line(struct output *out, const struct reading *reading, int depth) {
   put_name(out, reading->name);
   put_text(out, ": ");
@@ -79,9 +91,11 @@ static void put_head_line(struct output *out, const struct reading *reading, int
   put_count(out, context_at_end(reading->text).definitions, " definition");
   put_text(out, ", ");
   put_count(out, reading->answer[CIF_REDEFINITIONS], " redefinition");
+  put_rounded_count(out, reading);
   put_text(out, ", ");
   put_count(out, count_extensions(reading->text), " user extension");
   put_text(out, " skipped\n");
+  tell_rounding(out, reading);
 }
 
 bool put_summary(struct output *out, const struct reading *reading) {

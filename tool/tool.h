@@ -263,6 +263,9 @@ enum { UNKNOWN_DEPTH = -1 };
 
 /* How deep the calls of an accepted text go. False where there is no memory. */
 bool find_depth(const struct reading *reading, int *depth);
+/* ", 3 rounded distances" for the line with the counts, and a paragraph that says why; nothing where there are none. */
+void put_rounded_count(struct output *out, const struct reading *reading);
+void tell_rounding(struct output *out, const struct reading *reading);
 /* False where there is no memory; then nothing is put. */
 bool put_summary(struct output *out, const struct reading *reading);
 

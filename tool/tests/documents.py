@@ -28,7 +28,8 @@ def test_refusals():
         done = cif("list", "-", text=text.encode())
         told = done.returncode == 0 if verdict == "accepted" else done.stdout == f"refused\t{number}\t{place}\n".encode()
         expect(told, "a text of REFUSALS.md", text, verdict, done)
-    short = {2, 3, 4, 5, 6, 7, 8, 9, 11, 12, 13, 16}
+    short = {2, 3, 4, 6, 7, 8, 9, 11, 12, 13, 16}
+    expect("5" not in {n for _, _, n, _ in found}, "5 never occurs")
     expect({int(n) for _, _, n, _ in found if n} >= short, "REFUSALS.md has a text for each number that a short text can get")
     expect([int(n) for n in re.findall(r"^## (\d+):", page, re.M)] == list(range(1, 19)), "REFUSALS.md has a part for each number")
 

@@ -21,7 +21,6 @@ def refusals():
         (2, 0, b""),
         (3, 6, b"LA;R1 16777216 0;E"),
         (4, 0, b"DS1 0 1;DF;E"),
-        (5, 14, b"DS1 1 2;LA;R2 1 0;DF;E"),
         (6, 14, b"DS1 2 1;LA;R1 8388608 0;DF;E"),
         (7, 3, b"LA;R0 0 0;E"),
         (8, 0, b"R4 0 0;E"),
@@ -105,7 +104,7 @@ def test_every_number():
         expect(kept, "a refusal writes no file", number)
         numbers.add(number)
         sentences.add(told)
-    expect(numbers == set(range(1, 19)) and len(sentences) == 18, "each number has its own sentences", sentences)
+    expect(numbers == set(range(1, 19)) - {5} and len(sentences) == 17, "each number but 5, which never comes, has its own sentences", sentences)
 
 
 def test_cases():
@@ -141,6 +140,9 @@ def test_cases():
         (7, 3, b"LA;B1 0 0 0;E", "box"),
         (7, 3, b"LA;B1 1 0 0 0 0;E", "box"),
         (7, 3, b"LA;W0 0 0;E", "wire"),
+        (7, 11, b"DS1 1 3;LA;R1 0 0;DF;E", "rounded after scaling"),
+        (7, 11, b"DS1 1 3;LA;W1 0 0;DF;E", "rounded after scaling"),
+        (7, 11, b"DS1 1 3;LA;B3 1 0 0;DF;E", "rounded after scaling"),
         (7, 3, b"LA;P0 0 1 1;E", "polygon"),
         (7, 0, b"C1R0 0;E", "call"),
         (9, 0, b"C1" + b"MX" * 33 + b";E", "transformations"),

@@ -73,13 +73,14 @@ def listed(flat, totals):
 
 
 def try_vector(row):
-    text, number, place, flat = bytes.fromhex(row[2]), int(row[3]), int(row[4]), bytes.fromhex(row[9])
+    text, number, place, rounded, flat = bytes.fromhex(row[2]), int(row[3]), int(row[4]), int(row[9]), bytes.fromhex(row[10])
     if number == 18:  # of a small room; the tool's is always the largest
         return
     done = cif("list", "-", text=text)
     if number == 0:
         expect((done.returncode, done.stdout) == (0, listed(flat, row[6:9])), "the list of a vector", text, done)
         expect(cif("flat", "-", text=text).stdout == flat, "the flat file of a vector", text)
+        expect(json.loads(cif("check", "--json", "-", text=text).stdout)["rounded"] == rounded, "the rounded distances of a vector", text)
     else:
         expect((done.returncode, done.stdout) == (1, f"refused\t{number}\t{place}\n".encode()), "the refusal of a vector", text, done)
         expect_told(text, number, place, done.stderr)
@@ -121,6 +122,26 @@ def test_many_files():
     expect(cif("check", "-", good, text=b"E").stdout.startswith(b"standard input: accepted: 0 shapes"), "standard input among several files")
 
 
+def test_rounding():
+    """How many distances were rounded, and why: only where there are any, and the reason where one file is asked about."""
+    grid = scratch("grid.cif", b"DS 1 100 3; L A; W 3 0 0 1 0 2 -1; DF; C 1; E")
+    line = f"{grid}: accepted: 1 shape, 1 call, 0 redefinitions, 3 rounded distances; the flat file has 28 bytes\n"
+    done = cif("check", grid)
+    told = done.stdout.decode()
+    expect(done.returncode == 0 and told.startswith(line) and done.stderr == b"", "rounded distances", done)
+    expect(told.count("\n") == 2 and told[len(line):].startswith("  ") and "a third of a micron" in told, "why they are rounded", told)
+    expect(cif("flat", grid).stdout == b"LA;\nW100 0 0 33 0 67 -33;\nE\n", "what is drawn of them")
+    expect(cif("list", grid).stdout.endswith(b"\ntotal\t1\t1\t0\nwindow\t0\t-33\t67\t0\n"), "the list stays as it is")
+    expect(cif("check", grid, grid).stdout.decode() == 2 * line + "2 files: 2 accepted, 0 refused\n", "a line for each of several files")
+    expect(cif("check", "-q", "--strict", grid).returncode == 0 and cif("check", "-q", grid).stdout == b"", "no hint, and nothing to tell with -q")
+    expect(json.loads(cif("check", "--json", grid).stdout)["rounded"] == 3, "their number in JSON")
+    expect(b": accepted: 0 shapes, 0 calls, 0 redefinitions, 1 rounded distance;" in cif("check", "-", text=b"DS1 1 2;LA;R2 1 0;DF;E").stdout, "one, never drawn")
+    with open(os.path.join(TOP, "tests", "scaling.tsv")) as rows:
+        rows = [row.split("\t") for row in rows if not row.startswith("#")]
+    with concurrent.futures.ThreadPoolExecutor(os.cpu_count()) as pool:
+        list(pool.map(try_vector, rows[::7]))
+
+
 def test_json():
     """An object for each file: every field that docs/JSON.md names, and no other."""
     texts = {"good": EXAMPLE, "bad": b"LA;\nB 4 4 - 0;\nE", "odd": b"LA;R4 0 0;LB;W2 5 -5 9 9;94 \x01;LA;B2 2 7 7;E", "empty": b"E"}
@@ -130,7 +151,7 @@ def test_json():
     expect(done.returncode == 2 and [f["file"] for f in found] == files, "an object for each file, in their order, under its name", files, found)
     good, bad, odd, empty, _, none = found
     expect(none == {"file": files[-1], "status": "unread"}, "a file that cannot be read", none)
-    expect(good == {"file": files[0], "status": "accepted", "number": 0, "bytes": 26, "shapes": 1, "calls": 1, "redefinitions": 0, "window": [75, 0, 75, 0],
+    expect(good == {"file": files[0], "status": "accepted", "number": 0, "bytes": 26, "shapes": 1, "calls": 1, "redefinitions": 0, "rounded": 0, "window": [75, 0, 75, 0],
                     "layers": [{"name": "CM", "shapes": 1, "window": [75, 0, 75, 0]}], "hints": []}, "an accepted text", good)
     message = bad.pop("message", "")
     expect(bad == {"file": files[1], "status": "refused", "number": 2, "place": 11, "line": 2, "column": 8} and "this box" in message, "a refused text", bad)
