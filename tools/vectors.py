@@ -2,20 +2,22 @@
 """Makes rows of test vectors: tools/vectors.py [FILE], run at the top of the repository; FILE is tests/base.tsv if left out.
 
 FILE has one vector a line, fields separated by tabs: name, size of the room, the text in hex, number, place, length, shapes, calls,
-redefinitions, rounded distances, the flat file in hex; a line that begins with # is passed over. This writes crates/vectors/proofs/Base.antt, where each is
+redefinitions, rounded distances, the flat file in hex; a line that begins with # is passed over. Of a file of tests/requests, which has
+records of `batch`, those of task 0 are taken. This writes crates/vectors/proofs/Base.antt (P02.antt of p02.tsv, and so on), where each is
 a row that is proved by computing: the definitions are held to answers that were worked out apart from them. A text with rounded distances
 is a row `rounded-in`, with their number before the flat file; all others have none. `rt fmt` after it.
 """
+import os
 import sys
 
 SOURCE = sys.argv[1] if len(sys.argv) > 1 else "tests/base.tsv"
-OUT = "crates/vectors/proofs/Base.antt"
+OUT = "crates/vectors/proofs/%s.antt" % os.path.basename(SOURCE)[:-len(".tsv")].capitalize()
 BATCH = 20  # rows of one proof: where one does not compute, its batch is named
-HEAD = """-- The vectors of tests/base.tsv, made into rows by tools/vectors.py: answers that were worked out apart from the definitions.
+HEAD = f"""-- The vectors of {SOURCE}, made into rows by tools/vectors.py: answers that were worked out apart from the definitions.
 -- A trailing comment is the vector's name. They stand in batches, so that a row that does not compute is found.
 -- Assumes nothing.
-use mathlib.Core.List.{List, [], _∷_}
-use Rattle.definition.proofs.Rows.{Row, accepted-in, rounded-in, refused-in, Holds, Each, all-hold, each}
+use mathlib.Core.List.{{List, [], _∷_}}
+use Rattle.definition.proofs.Rows.{{Row, accepted-in, rounded-in, refused-in, Holds, Each, all-hold, each}}
 """
 
 
@@ -24,8 +26,21 @@ def quoted(data):
     return '"' + "".join(named.get(c) or (chr(c) if 32 <= c < 127 else "\\u{%x}" % c) for c in data) + '"'
 
 
-def row(line):
-    name, room, text, number, place, length, shapes, calls, again, rounded, flat = line.rstrip("\n").split("\t")
+def vectors(file):
+    """The fields of each vector."""
+    for line in file:
+        fields = line.rstrip("\n").split("\t")
+        if line.startswith("#"):
+            continue
+        if os.path.basename(os.path.dirname(SOURCE)) != "requests":
+            yield fields
+        elif fields[1] == "0":
+            name, _, room, _, _, _, text, _, told, flat = fields
+            yield [name, room, text, *told.split(" ")[:7], flat]
+
+
+def row(fields):
+    name, room, text, number, place, length, shapes, calls, again, rounded, flat = fields
     text, flat = bytes.fromhex(text), bytes.fromhex(flat)
     if len(flat) != int(length):
         raise SystemExit(f"vector {name}: the length {length} is not that of its flat file")
@@ -40,7 +55,7 @@ def row(line):
 
 def main():
     with open(SOURCE, encoding="utf-8") as file:
-        rows = [row(line) for line in file if not line.startswith("#")]
+        rows = [row(fields) for fields in vectors(file)]
     out = HEAD
     for n, k in enumerate(range(0, len(rows), BATCH), 1):
         listed = "\n    ∷ ".join(f"{text}  -- {name}" for text, name in rows[k:k + BATCH])
