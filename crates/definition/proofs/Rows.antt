@@ -22,8 +22,9 @@ use Rattle.grammar.specs.Tables.{kinds, table}
 use Rattle.grammar.specs.Steps.{kindOf, entryOf, nextOf, modeAfter, markOf, roleOf, marked, verdictOf}
 use Rattle.definition.specs.Words.{any, those, first, same, bytesOf}
 use Rattle.definition.specs.Commands.{worth, numbers, paired, next, named, turnAt, turns, commandAt, commands}
-use Rattle.definition.specs.Standing.{after, scaled, whole, scaledShape, scaledTurn}
+use Rattle.definition.specs.Standing.{after, nearest, scaled, whole, scaledShape, scaledTurn}
 use Rattle.definition.specs.Faults.{beyond, partsOf, shifts, bearings, distances, numbersOf, zeroScale, least, emptyShape, degenerate, layerless, tooMany, atNumbers, faults, allFaults, firstFault}
+use Rattle.definition.specs.Rounded.{ragged, roundedFrom, rounded}
 use Rattle.definition.specs.Turns.{negative, heading, rotated, act, aim, inOrder, moved, offAxes}
 use Rattle.definition.specs.Table.{find, enter, forget}
 use Rattle.definition.specs.Drawing.{stepOf, retained, deedOf, deeds, drawShape, drawStep, drawBody, passageTo, passageOf, through, drawCall, happens, tableAfter, story}
@@ -43,18 +44,26 @@ pub record Row : Type 0 where
   pub shapes : ℕ
   pub calls : ℕ
   pub redefinitions : ℕ
+  pub rounded-count : ℕ
   pub flat-file : List ℕ
 
--- a text that is accepted in a room of this size, with its shapes, calls, redefinitions and flat file; and one that is refused, with number and place
+-- a text that is accepted in a room of this size, with its shapes, calls, redefinitions, rounded distances and flat file; one in which nothing is rounded;
+-- and one that is refused, with number and place
+abbrev pub rounding : ℕ → List ℕ → ℕ → ℕ → ℕ → ℕ → List ℕ → Row
+rounding n t s c r k f = record { text = t; room = n; number = 0; place = 0; shapes = s; calls = c; redefinitions = r; rounded-count = k; flat-file = f }
+
 abbrev pub accepting : ℕ → List ℕ → ℕ → ℕ → ℕ → List ℕ → Row
-accepting n t s c r f = record { text = t; room = n; number = 0; place = 0; shapes = s; calls = c; redefinitions = r; flat-file = f }
+accepting n t s c r f = rounding n t s c r 0 f
 
 abbrev pub refusing : ℕ → List ℕ → ℕ → ℕ → Row
-refusing n t k p = record { text = t; room = n; number = k; place = p; shapes = 0; calls = 0; redefinitions = 0; flat-file = [] }
+refusing n t k p = record { text = t; room = n; number = k; place = p; shapes = 0; calls = 0; redefinitions = 0; rounded-count = 0; flat-file = [] }
 
 -- the same of texts that are written out, and in the list program's room
 abbrev pub accepted-in : ℕ → String → ℕ → ℕ → ℕ → String → Row
 accepted-in n t s c r f = accepting n (bytesOf t) s c r (bytesOf f)
+
+abbrev pub rounded-in : ℕ → String → ℕ → ℕ → ℕ → ℕ → String → Row
+rounded-in n t s c r k f = rounding n (bytesOf t) s c r k (bytesOf f)
 
 abbrev pub refused-in : ℕ → String → ℕ → ℕ → Row
 refused-in n t k p = refusing n (bytesOf t) k p
@@ -62,17 +71,20 @@ refused-in n t k p = refusing n (bytesOf t) k p
 abbrev pub accepted : String → ℕ → ℕ → ℕ → String → Row
 accepted t s c r f = accepted-in 32768 t s c r f
 
+abbrev pub rounding-to : String → ℕ → ℕ → ℕ → ℕ → String → Row
+rounding-to t s c r k f = rounded-in 32768 t s c r k f
+
 abbrev pub refused-at : String → ℕ → ℕ → Row
 refused-at t k p = refused-in 32768 t k p
 
 -- what a row says of the answer and the flat file, and what an outcome does; the length is the flat file's
 abbrev pub said-of : Row → List ℕ
-said-of r = r .number ∷ r .place ∷ length (r .flat-file) ∷ r .shapes ∷ r .calls ∷ r .redefinitions ∷ r .flat-file
+said-of r = r .number ∷ r .place ∷ length (r .flat-file) ∷ r .shapes ∷ r .calls ∷ r .redefinitions ∷ r .rounded-count ∷ r .flat-file
 
 abbrev pub said-by : Outcome → List ℕ
 said-by o =
     given-back o .number ∷ given-back o .place ∷ given-back o .length ∷ given-back o .shapes ∷ given-back o .calls ∷ given-back o .redefinitions
-    ∷ flatFile o
+    ∷ given-back o .rounded ∷ flatFile o
 
 -- an outcome that is promised says it
 pub record Holds (r : Row) : Type 0 where
@@ -129,7 +141,7 @@ every test (r ∷ rs) = test r && every test rs
 
 -- the test of rows, and that of printouts; what both compute through is named here once
 unfoldable pub all-hold : List Row → Bool
-unfolding row-holds print-holds every small flatMap has dec kinds table kindOf entryOf nextOf modeAfter markOf roleOf marked verdictOf any those first same bytesOf worth numbers paired next named turnAt turns commandAt commands after scaled whole scaledShape scaledTurn beyond partsOf shifts bearings distances numbersOf zeroScale least emptyShape degenerate layerless tooMany atNumbers faults allFaults firstFault negative heading rotated act aim inOrder moved offAxes find enter forget stepOf retained deedOf deeds drawShape drawStep drawBody passageTo passageOf through drawCall happens tableAfter story counted goOn ending shapesOf digits decimal spaced letterOf said lines flat flatFile given-back fitted drawn outcomeOf fields shapeLines extreme windowLine listing verdict answerOf
+unfolding row-holds print-holds every small flatMap has dec kinds table kindOf entryOf nextOf modeAfter markOf roleOf marked verdictOf any those first same bytesOf worth numbers paired next named turnAt turns commandAt commands after nearest scaled whole scaledShape scaledTurn beyond partsOf shifts bearings distances numbersOf zeroScale least emptyShape degenerate layerless tooMany atNumbers faults allFaults firstFault ragged roundedFrom rounded negative heading rotated act aim inOrder moved offAxes find enter forget stepOf retained deedOf deeds drawShape drawStep drawBody passageTo passageOf through drawCall happens tableAfter story counted goOn ending shapesOf digits decimal spaced letterOf said lines flat flatFile given-back fitted drawn outcomeOf fields shapeLines extreme windowLine listing verdict answerOf
 all-hold rs = every row-holds rs
 
 unfoldable pub all-print : List Printout → Bool

@@ -18,6 +18,7 @@ use Rattle.definition.specs.Rules.{textTooLong, notInGrammar, flatFileTo
 use Rattle.definition.specs.Commands.{Command, commands}
 use Rattle.definition.specs.Standing.{outside}
 use Rattle.definition.specs.Faults.{firstFault}
+use Rattle.definition.specs.Rounded.{rounded}
 use Rattle.definition.specs.Drawing.{Chain, Event, deeds, story}
 use Rattle.definition.specs.Counts.{Counts, counts, End, finished, stopped, ending, shapesOf}
 use Rattle.definition.specs.Flat.{flat}
@@ -26,17 +27,18 @@ pub data Outcome : Type 0 where  -- a text's commands are drawn, with the counts
   accepted : List (Placed Command) → Counts → List Event → Outcome
   rejected : Refusal → Chain → Outcome
 
--- 01, "What the reader takes and gives": on success the number and place are 0; on refusal the length and all counts are 0
+-- 01, "What the reader takes and gives": on success the number and place are 0; on refusal the length and all counts are 0. 02, request 2: the result also
+-- counts the rounded distances of the text
 unfoldable pub flatFile : Outcome → List ℕ
 flatFile (accepted cs c es) = flat (shapesOf es)
 flatFile (rejected r chain) = []
 
-abbrev pub answer : (number place length : ℕ) → Counts → Answer
-answer n p l c = record { number = n; place = p; length = l; shapes = c .shapes; calls = c .calls; redefinitions = c .redefinitions }
+abbrev pub answer : (number place length : ℕ) → Counts → (rounded : ℕ) → Answer
+answer n p l c k = record { number = n; place = p; length = l; shapes = c .shapes; calls = c .calls; redefinitions = c .redefinitions; rounded = k }
 
 unfoldable pub given-back : Outcome → Answer
-given-back (accepted cs c es) = answer 0 0 (length (flat (shapesOf es))) c
-given-back (rejected r chain) = answer (r .number) (r .place) 0 (counts 0 0 0)
+given-back (accepted cs c es) = answer 0 0 (length (flat (shapesOf es))) c (rounded cs)
+given-back (rejected r chain) = answer (r .number) (r .place) 0 (counts 0 0 0) 0
 
 abbrev pub roomAfter : Outcome → List ℕ → List ℕ  -- the first bytes of the room hold the flat file, and the rest of the room is unchanged
 roomAfter o room = flatFile o ++ drop (length (flatFile o)) room

@@ -4,6 +4,7 @@ pub mod Rules
 pub mod Commands
 pub mod Standing
 pub mod Faults
+pub mod Rounded
 pub mod Turns
 pub mod Table
 pub mod Drawing

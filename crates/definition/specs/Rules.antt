@@ -1,11 +1,11 @@
 -- 01, "Numbers a refusal carries": a name for each row of the table, its number there, and the order in which the rules are looked at. A rule that
--- is added gets a name, its number, and its place in the order, which need not be by number.
+-- is added gets a name, its number, and its place in the order, which need not be by number. 5 is no rule's number since request 2 of document 02.
 use mathlib.Core.List.{List, [], _∷_}
 use Prim.Native.Nat.{ℕ}
 use Rattle.definition.specs.declared.Refusal.{Refusal}
 
 pub data Rule : Type 0 where
-  textTooLong notInGrammar numberTooLarge zeroFactor notWhole scaledTooLarge degenerateCommand noLayer tooManyParts : Rule
+  textTooLong notInGrammar numberTooLarge zeroFactor scaledTooLarge degenerateCommand noLayer tooManyParts : Rule
   tooManyDefinitions offTheAxes undefinedSymbol beingDrawn tooDeep tooManyCalls outOfRange tooManyShapes flatFileTooLong : Rule
 
 abbrev pub numberOf : Rule → ℕ
@@ -13,7 +13,6 @@ numberOf textTooLong = 1
 numberOf notInGrammar = 2
 numberOf numberTooLarge = 3
 numberOf zeroFactor = 4
-numberOf notWhole = 5
 numberOf scaledTooLarge = 6
 numberOf degenerateCommand = 7
 numberOf noLayer = 8
@@ -33,5 +32,5 @@ refuse r p = record { number = numberOf r; place = p }
 
 abbrev pub order : List Rule  -- 01: 1; then 2; then 3 to 9, within a command by number; then 10 to 17, at one command by number; then 18
 order =
-    textTooLong ∷ notInGrammar ∷ numberTooLarge ∷ zeroFactor ∷ notWhole ∷ scaledTooLarge ∷ degenerateCommand ∷ noLayer ∷ tooManyParts
+    textTooLong ∷ notInGrammar ∷ numberTooLarge ∷ zeroFactor ∷ scaledTooLarge ∷ degenerateCommand ∷ noLayer ∷ tooManyParts
     ∷ tooManyDefinitions ∷ offTheAxes ∷ undefinedSymbol ∷ beingDrawn ∷ tooDeep ∷ tooManyCalls ∷ outOfRange ∷ tooManyShapes ∷ flatFileTooLong ∷ []

@@ -2,7 +2,7 @@
 -- text alone, and nothing is carried out of a called symbol.
 use mathlib.Core.Bool.{Bool, true, false}
 use mathlib.Core.List.{List, [], _∷_, map}
-use Prim.Native.Nat.{ℕ, _*_, _/_, _%_}
+use Prim.Native.Nat.{ℕ, _+_, _*_, _/_, _%_}
 use lib.Dec.{eqb}
 use lib.IntN.{ℤ, pos, negsuc, negℤ, natAbs}
 use Rattle.definition.specs.Words.{Point, point}
@@ -30,11 +30,15 @@ after (call n ts) s = s
 after (delete n) s = s
 after nothing s = s
 
-unfoldable pub scaled : Standing → ℤ → ℤ  -- 7.1.2.3: each distance d becomes a * d / b
-scaled s (pos d) = pos (s .a * d / s .b)
-scaled s (negsuc d) = negℤ (pos (s .a * natAbs (negsuc d) / s .b))
+unfoldable pub nearest : ℕ → ℕ → ℕ  -- the whole number nearest to n / b, the higher of two: n / b and a half more, cut off
+nearest n b = (2 * n + b) / (2 * b)
 
-unfoldable pub whole : Standing → ℤ → Bool
+-- 7.1.2.3, 02 request 2: each distance d becomes a * d / b, to the nearest whole number, halves away from zero
+unfoldable pub scaled : Standing → ℤ → ℤ
+scaled s (pos d) = pos (nearest (s .a * d) (s .b))
+scaled s (negsuc d) = negℤ (pos (nearest (s .a * natAbs (negsuc d)) (s .b)))
+
+unfoldable pub whole : Standing → ℤ → Bool  -- a * d / b is a whole number, so that nothing is rounded
 whole s d = eqb (s .a * natAbs d % s .b) 0
 
 abbrev pub scaledPoint : Standing → Point Number → Point ℤ  -- a shape or a transformation with its distances scaled, and directions as given

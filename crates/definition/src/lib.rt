@@ -24,7 +24,8 @@ pub struct Refusal {
     pub place: usize,
 }
 
-// What a reader gives back (01, "What the reader takes and gives"): refusal number, place, length written, and the counts of the drawing.
+// What a reader gives back (01, "What the reader takes and gives"): refusal number, place, length written, the counts of the drawing, and how many distances
+// of the text were rounded (02, request 2).
 pub struct Answer {
     pub number: usize,
     pub place: usize,
@@ -32,4 +33,5 @@ pub struct Answer {
     pub shapes: usize,
     pub calls: usize,
     pub redefinitions: usize,
+    pub rounded: usize,
 }
