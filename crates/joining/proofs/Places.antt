@@ -13,12 +13,12 @@ use lib.ListN.{length, getD, drop, length-map, List·getD-map}
 use Rattle.grammar.specs.Notation.{Letter, head, second, turn, axis, sign, lead, stop, 'B', 'C', 'D', 'L', 'P', 'R', 'S', 'T', 'W', 'X'}
 use Rattle.definition.specs.declared.Refusal.{Refusal}
 use Rattle.definition.specs.Limits.{mostPoints, mostTurns}
-use Rattle.definition.specs.Rules.{Rule, numberTooLarge, zeroFactor, notWhole, scaledTooLarge, degenerateCommand, noLayer, tooManyParts, refuse}
+use Rattle.definition.specs.Rules.{Rule, numberTooLarge, zeroFactor, scaledTooLarge, degenerateCommand, noLayer, tooManyParts, refuse}
 use Rattle.definition.specs.Words.{if_then_else_, Placed, at, Point, point, those, any, first}
 use Rattle.definition.specs.Commands.{Number, box, flash, wire, polygon, Shape, shapeOf, Turn, translate, mirrorX, mirrorY, rotate}
 use Rattle.definition.specs.Commands.{Command, draw, layer, call, start, finish, delete, nothing, _plays_, _is_}
 use Rattle.definition.specs.Commands.{worth, numbers, nth, paired, next, turnAt, turns, commandAt, commands}
-use Rattle.definition.specs.Standing.{Standing, after, given, scaled, whole, scaledPoint, scaledShape, scaledTurn, outside}
+use Rattle.definition.specs.Standing.{Standing, after, given, scaled, scaledPoint, scaledShape, scaledTurn, outside}
 use Rattle.definition.specs.Faults.{Parts, parts, partsOf, shifts, bearings, both, distances, numbersOf, zeroScale, degenerate, layerless, tooMany, atNumbers, atCommand, faults, allFaults, zero?, beyond, nowhere, emptyShape, firstFault}
 use Rattle.definition.specs.Table.{shape, instance}
 use Rattle.definition.specs.Drawing.{stepOf}
@@ -334,10 +334,9 @@ faults-shift k s c =
     let w = c .what in
     and-then (number numberTooLarge beyond (numbersOf w) _ (numbersOf-shift k w))
     (and-then (command zeroFactor (zeroScale w) _ (zeroScale-shift k s w))
-    (and-then (number notWhole (λ d. not (whole s d)) (distances w) _ (distances-shift k w))
     (and-then (number scaledTooLarge (λ d. beyond (scaled s d)) (distances w) _ (distances-shift k w))
     (and-then (command degenerateCommand (degenerate s w) _ (degenerate-shift k s w))
-    (and-then (command noLayer (layerless s w) _ (layerless-shift k s w)) (command tooManyParts (tooMany w) _ (tooMany-shift k s w))))))) .maps
+    (and-then (command noLayer (layerless s w) _ (layerless-shift k s w)) (command tooManyParts (tooMany w) _ (tooMany-shift k s w)))))) .maps
   where
     number : (n : Rule) (fails : ℤ → Bool) (ds ds′ : List Number) → ds′ ≡ map (shift k) ds → Maps (shiftRefusal k) (atNumbers n fails ds) (atNumbers n fails ds′)
     number n fails ds ds′ e = record { maps = ap (atNumbers n fails) e ∙ atNumbers-shift n k fails ds }

@@ -7,11 +7,11 @@ use mathlib.Core.Option.{Option, none, some}
 use Prim.Native.Nat.{ℕ, zero, suc}
 use lib.IntN.{ℤ, pos, negsuc, negℤ, natAbs}
 use Rattle.definition.specs.declared.Refusal.{Refusal}
-use Rattle.definition.specs.Rules.{Rule, numberTooLarge, zeroFactor, notWhole, scaledTooLarge}
+use Rattle.definition.specs.Rules.{Rule, numberTooLarge, zeroFactor, scaledTooLarge}
 use Rattle.definition.specs.Words.{if_then_else_, at, Point, those, first}
 use Rattle.definition.specs.Commands.{Shape, Turn, Number, translate, mirrorX, mirrorY, rotate}
 use Rattle.definition.specs.Commands.{Command, draw, layer, call, start, finish, delete, nothing}
-use Rattle.definition.specs.Standing.{Standing, scaled, whole, given, scaledShape}
+use Rattle.definition.specs.Standing.{Standing, scaled, given, scaledShape}
 use Rattle.definition.specs.Faults.{beyond, both, partsOf, distances, numbersOf, atNumbers, atCommand, zeroScale, faults}
 use Rattle.definition.specs.Turns.{Heading, +x, +y, -x, -y, heading, rotated, act, aim, inOrder, moved}
 use Rattle.definition.specs.Table.{Step, shape, instance, setting}
@@ -91,8 +91,7 @@ fit-step s p (draw k) e =
     let d = distances (draw k) in
     let e₁ = nil-right (atNumbers numberTooLarge beyond n) _ e in
     let e₂ = nil-right (atCommand zeroFactor (zeroScale (draw k)) p) _ e₁ in
-    let e₃ = nil-right (atNumbers notWhole (λ z. not (whole s z)) d) _ e₂ in
-    let six = at-numbers scaledTooLarge (λ z. beyond (scaled s z)) d (nil-left (atNumbers scaledTooLarge (λ z. beyond (scaled s z)) d) _ e₃) in
+    let six = at-numbers scaledTooLarge (λ z. beyond (scaled s z)) d (nil-left (atNumbers scaledTooLarge (λ z. beyond (scaled s z)) d) _ e₂) in
     let three = at-numbers numberTooLarge beyond n (nil-left (atNumbers numberTooLarge beyond n) _ e) in
     let sb = k .sizes ++ both (k .points) in
     let sbd = k .sizes ++ (both (k .points) ++ both (k .directions)) in (

@@ -16,6 +16,7 @@ use Rattle.definition.specs.Commands.{Command, commands}
 use Rattle.definition.specs.Drawing.{Chain, Event}
 use Rattle.definition.specs.Counts.{Counts, shapesOf, stopped}
 use Rattle.definition.specs.Flat.{flat}
+use Rattle.definition.specs.Rounded.{rounded}
 use Rattle.definition.specs.declared.Answer.{Answer}
 use Rattle.definition.specs.Answer.{Outcome, accepted, rejected, flatFile, given-back, roomAfter, Answers, Promised}
 use Rattle.definition.specs.Computed.{answerOf}
@@ -91,6 +92,7 @@ pub record RefusalHolds (room : List ℕ) (r : Answer) (left : List ℕ) (by : R
   pub no-shapes : r .shapes ≡ 0
   pub no-calls : r .calls ≡ 0
   pub no-redefinitions : r .redefinitions ≡ 0
+  pub none-rounded : r .rounded ≡ 0
   pub room-kept : left ≡ room
 
 pub refusal-holds : {t room : List ℕ} {r : Answer} {left : List ℕ} (h : Promised t room r left) {by : Refusal} {chain : Chain} → h .outcome ≡ rejected by chain
@@ -105,24 +107,26 @@ refusal-holds {t} {room} {r} {left} h {by} {chain} e =
         no-shapes = ap (λ (a : Answer). a .shapes) g;
         no-calls = ap (λ (a : Answer). a .calls) g;
         no-redefinitions = ap (λ (a : Answer). a .redefinitions) g;
+        none-rounded = ap (λ (a : Answer). a .rounded) g;
         room-kept = h .kept ∙ ap (λ (o : Outcome). roomAfter o room) e;
       },
       located (subst (Answers t (length room)) e (h .answers)),
     )
 
 -- 01: on success the number and place are 0, the first bytes of the room hold the flat file and the rest of the room is unchanged
-pub record SuccessHolds (room : List ℕ) (r : Answer) (left : List ℕ) (c : Counts) (flat-file : List ℕ) : Type 0 where
+pub record SuccessHolds (room : List ℕ) (r : Answer) (left : List ℕ) (cs : List (Placed Command)) (c : Counts) (flat-file : List ℕ) : Type 0 where
   pub no-number : r .number ≡ 0
   pub no-place : r .place ≡ 0
   pub length-is : r .length ≡ length flat-file
   pub shapes-are : r .shapes ≡ c .shapes
   pub calls-are : r .calls ≡ c .calls
   pub redefinitions-are : r .redefinitions ≡ c .redefinitions
+  pub rounded-are : r .rounded ≡ rounded cs
   pub room-holds : left ≡ flat-file ++ drop (length flat-file) room
   pub fits : length flat-file ≤ length room
 
 pub success-holds : {t room : List ℕ} {r : Answer} {left : List ℕ} (h : Promised t room r left) {cs : List (Placed Command)} {c : Counts} {es : List Event} → h .outcome ≡ accepted cs c es
-    → SuccessHolds room r left c (flat (shapesOf es))
+    → SuccessHolds room r left cs c (flat (shapesOf es))
 unfolding given-back flatFile
 success-holds {t} {room} {r} {left} h {cs} {c} {es} e =
     let g : r ≡ given-back (accepted cs c es) = h .given ∙ ap (λ (o : Outcome). given-back o) e in
@@ -134,6 +138,7 @@ success-holds {t} {room} {r} {left} h {cs} {c} {es} e =
       shapes-are = ap (λ (x : Answer). x .shapes) g;
       calls-are = ap (λ (x : Answer). x .calls) g;
       redefinitions-are = ap (λ (x : Answer). x .redefinitions) g;
+      rounded-are = ap (λ (x : Answer). x .rounded) g;
       room-holds = h .kept ∙ ap (λ (o : Outcome). roomAfter o room) e;
       fits = subst (λ (x : List Event). length (flat (shapesOf x)) ≤ length room) (sym (a .is-drawing)) (a .room-fits);
     }

@@ -2,11 +2,13 @@
 -- same shapes; and flattened again it is the same bytes.
 -- Assumes nothing.
 use mathlib.Core.Path.{_≡_, refl, sym, ap, _∙_, subst}
-use mathlib.Core.Bool.{Bool, true, false}
+use mathlib.Core.Bool.{Bool, true, false, not}
 use mathlib.Core.List.{List, [], _∷_, _++_, map}
-use Prim.Native.Nat.{ℕ, suc, _+_, _≤_}
+use Prim.Native.Nat.{ℕ, suc, _+_, _*_, _%_, _≤_}
 use native.Mathlib.Omega.{arith}
+use borrow.Author.Tests.{eq-eqb}
 use lib.Dec.{T}
+use lib.IntN.{ℤ, natAbs}
 use lib.ListN.{length, take, drop, length-append}
 use lib.Seq.{take-at, drop-at}
 use Rattle.grammar.specs.Notation.{Letter, dec, has, head, skip, stop}
@@ -15,8 +17,11 @@ use Rattle.grammar.specs.Tables.{letter}
 use Rattle.grammar.proofs.Markings.{one-marking}
 use Rattle.definition.specs.declared.Answer.{Answer}
 use Rattle.definition.specs.Limits.{mostBytes}
-use Rattle.definition.specs.Words.{if_then_else_, Placed, at, same}
-use Rattle.definition.specs.Commands.{Kind, box, flash, wire, polygon, Command, draw, layer, call, start, finish, delete, nothing, commandAt, commands, _plays_}
+use Rattle.definition.specs.Words.{if_then_else_, Placed, at, same, those}
+use Rattle.definition.specs.Standing.{outside, after, whole}
+use Rattle.definition.specs.Faults.{distances}
+use Rattle.definition.specs.Rounded.{ragged, roundedFrom, rounded}
+use Rattle.definition.specs.Commands.{Number, Kind, box, flash, wire, polygon, Command, draw, layer, call, start, finish, delete, nothing, commandAt, commands, _plays_}
 use Rattle.definition.specs.Drawing.{Drawn, Event, drew}
 use Rattle.definition.specs.Counts.{Counts, counts, shapesOf}
 use Rattle.definition.specs.Flat.{letterOf, numbersOfShape, flat}
@@ -156,6 +161,45 @@ only-shapes-of {t} {f} k o =
     the-end : (n : ℕ) → commands n lastLetters ≡ at n nothing ∷ []
     the-end n = unfold commands commandAt has dec in refl
 
+-- ---- nothing is rounded again: a flat file has no definitions, and outside them nothing is scaled
+
+no-number : (t : ℤ → Bool) → ((z : ℤ) → t z ≡ false) → (ds : List Number) → those (λ d. t (d .what)) ds ≡ []
+unfolding those
+no-number t h [] = refl
+no-number t h (d ∷ ds) = rw (h (d .what)) (no-number t h ds)
+
+whole-outside : (l : List ℕ) (z : ℤ) → not (whole (outside l) z) ≡ false
+unfolding whole
+whole-outside l z = ap (λ (b : Bool). not b) (eq-eqb (1 * natAbs z % 1) 0 (rest (natAbs z)))
+  where
+    rest : (n : ℕ) → 1 * n % 1 ≡ 0
+    rest n = omega arith
+
+none-ragged : (l : List ℕ) (c : Command) → length (ragged (outside l) c) ≡ 0
+unfolding ragged
+none-ragged l c = ap (λ (ds : List Number). length ds) (no-number (λ z. not (whole (outside l) z)) (whole-outside l) (distances c))
+
+none-from : (l : List ℕ) (cs : List (Placed Command)) (p : ℕ) → All (λ (c : Placed Command). LayerOrShape (c .what)) cs → roundedFrom (outside l) (cs ++ (at p nothing ∷ [])) ≡ 0
+unfolding All roundedFrom after LayerOrShape
+none-from l [] p h = let e = none-ragged l nothing in omega arith
+none-from l (c ∷ cs) p h = go (c .what) (h .0) (λ m. none-from m cs p (h .1))
+  where
+    ends : List (Placed Command)
+    ends = cs ++ (at p nothing ∷ [])
+
+    go : (w : Command) → LayerOrShape w → ((m : List ℕ) → roundedFrom (outside m) ends ≡ 0) → length (ragged (outside l) w) + roundedFrom (after w (outside l)) ends ≡ 0
+    go (layer m) o f = let e = none-ragged l (layer m) in let g = f m in omega arith
+    go (draw k) o f = let e = none-ragged l (draw k) in let g = f l in omega arith
+    go (call n ts) o f = absurd o
+    go (start n a b) o f = absurd o
+    go finish o f = absurd o
+    go (delete n) o f = absurd o
+    go nothing o f = absurd o
+
+none-rounded : {size : ℕ} {cs : List (Placed Command)} → OnlyShapes size cs → rounded cs ≡ 0
+unfolding rounded
+none-rounded o = ap (λ (cs : List (Placed Command)). roundedFrom (outside []) cs) (o .is) ∙ none-from [] (o .before) (o .end) (o .each)
+
 -- ---- demand 3
 
 -- of the flat file of the shapes ds, which a text drew in a room of this length with counts c
@@ -170,7 +214,7 @@ pub record Demand3 (room : ℕ) (c : Counts) (ds : List Drawn) : Type 0 where
   -- the room held it
   pub short : length (flat ds) ≤ mostBytes
   pub fitted : length (flat ds) ≤ room
-  -- every room that holds it accepts it: no calls and no redefinitions, and as many shapes as were drawn
+  -- every room that holds it accepts it: no calls, no redefinitions and nothing rounded, and as many shapes as were drawn
   pub events : List Event
   pub accepts : (room′ : ℕ) → length (flat ds) ≤ room′ → Answers (flat ds) room′ (accepted (commands 0 letters) (counts 0 (c .shapes) 0) events)
   pub all-counted : c .shapes ≡ length ds
@@ -181,9 +225,9 @@ pub record Demand3 (room : ℕ) (c : Counts) (ds : List Drawn) : Type 0 where
   pub same-bytes : flat (shapesOf events) ≡ flat ds
   -- so a reader may leave it at the start of a room that holds it, with the rest of the room unchanged; and none may do otherwise
   pub promised : (before : List ℕ) → length (flat ds) ≤ length before
-      → Promised (flat ds) before (answer 0 0 (length (flat ds)) (counts 0 (c .shapes) 0)) (flat ds ++ drop (length (flat ds)) before)
+      → Promised (flat ds) before (answer 0 0 (length (flat ds)) (counts 0 (c .shapes) 0) 0) (flat ds ++ drop (length (flat ds)) before)
   pub settled : (before left : List ℕ) (r : Answer) → length (flat ds) ≤ length before → Promised (flat ds) before r left
-      → (r ≡ answer 0 0 (length (flat ds)) (counts 0 (c .shapes) 0)) × (left ≡ flat ds ++ drop (length (flat ds)) before)
+      → (r ≡ answer 0 0 (length (flat ds)) (counts 0 (c .shapes) 0) 0) × (left ≡ flat ds ++ drop (length (flat ds)) before)
 
 pub demand3 : {t : List ℕ} {room : ℕ} {cs : List (Placed Command)} {c : Counts} {es : List Event} → Answers t room (accepted cs c es) → Demand3 room c (shapesOf es)
 demand3 {t} {room} {cs} {c} {es} k = record {
@@ -217,11 +261,15 @@ demand3 {t} {room} {cs} {c} {es} k = record {
     accepts room′ h = subst (λ (n : ℕ). Answers (flat (shapesOf es)) room′ (accepted (commands 0 (flatLetters (shapesOf es))) (counts 0 n 0) (again .events))) (sym counted) (again .answers room′ h)
 
     promised : (before : List ℕ) → length (flat (shapesOf es)) ≤ length before
-        → Promised (flat (shapesOf es)) before (answer 0 0 (length (flat (shapesOf es))) (counts 0 (c .shapes) 0)) (flat (shapesOf es) ++ drop (length (flat (shapesOf es))) before)
+        → Promised (flat (shapesOf es)) before (answer 0 0 (length (flat (shapesOf es))) (counts 0 (c .shapes) 0) 0) (flat (shapesOf es) ++ drop (length (flat (shapesOf es))) before)
     promised before h = record {
       outcome = accepted (commands 0 (flatLetters (shapesOf es))) (counts 0 (c .shapes) 0) (again .events);
       answers = accepts (length before) h;
-      given = unfold given-back in ap (λ (w : List ℕ). answer 0 0 (length w) (counts 0 (c .shapes) 0)) (sym (again .same-bytes));
+      given =
+          unfold given-back in (
+          ap (λ (w : List ℕ). answer 0 0 (length w) (counts 0 (c .shapes) 0) 0) (sym (again .same-bytes))
+          ∙ ap (λ (k : ℕ). answer 0 0 (length (flat (shapesOf (again .events)))) (counts 0 (c .shapes) 0) k)
+          (sym (none-rounded (only-shapes-of (again .grammatical) (flat-openings (shapesOf es))))));
       kept = unfold flatFile in ap (λ (w : List ℕ). w ++ drop (length w) before) (sym (again .same-bytes));
     }
 
@@ -233,7 +281,7 @@ pub twice : {t room left room′ left′ : List ℕ} {r r′ : Answer} {cs : Lis
 twice {t} {room} {left} {room′} {left′} {r} {r′} {cs} {c} {es} p e h q =
     let F = flat (shapesOf es) in
     let d : Demand3 (length room) c (shapesOf es) = demand3 (subst (Answers t (length room)) e (p .answers)) in
-    let back : r ≡ answer 0 0 (length F) c = unfold given-back in (p .given ∙ ap given-back e) in
+    let back : r ≡ answer 0 0 (length F) c (rounded cs) = unfold given-back in (p .given ∙ ap given-back e) in
     let size : length F ≡ r .length = sym (ap (λ (x : Answer). x .length) back) in
     let leaves : left ≡ F ++ drop (length F) room = unfold flatFile in (p .kept ∙ ap (λ (o : Outcome). roomAfter o room) e) in
     let first : take (r .length) left ≡ F = ap (take (r .length)) leaves ∙ take-at F (drop (length F) room) (r .length) size in

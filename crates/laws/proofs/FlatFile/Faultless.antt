@@ -13,10 +13,10 @@ use Rattle.grammar.specs.Notation.{Letter, dec, has, stop, skip}
 use Rattle.grammar.specs.Tables.{letter}
 use Rattle.definition.specs.declared.Refusal.{Refusal}
 use Rattle.definition.specs.Limits.{mostPoints}
-use Rattle.definition.specs.Rules.{Rule, numberTooLarge, notWhole, scaledTooLarge}
+use Rattle.definition.specs.Rules.{Rule, numberTooLarge, scaledTooLarge}
 use Rattle.definition.specs.Words.{if_then_else_, Placed, at, Point, any, those, same}
 use Rattle.definition.specs.Commands.{Shape, Number, Command, draw, layer, commandAt, commands}
-use Rattle.definition.specs.Standing.{outside, after, given, scaled, whole, scaledShape}
+use Rattle.definition.specs.Standing.{outside, after, given, scaled, scaledShape}
 use Rattle.definition.specs.Faults.{beyond, both, emptyShape, partsOf, distances, numbersOf, atNumbers, zeroScale, degenerate, layerless, tooMany, faults, allFaults}
 use Rattle.definition.specs.Flat.{letterOf, numbersOfShape}
 use Rattle.definition.specs.Drawing.{Drawn}
@@ -62,18 +62,6 @@ unfolding any
 any-same f g h [] = refl
 any-same f g h (z ∷ zs) = ap₂ (λ (a b : Bool). a || b) (h z) (any-same f g h zs)
 
-any-never : (f : ℤ → Bool) → ((z : ℤ) → f z ≡ false) → (zs : List ℤ) → any f zs ≡ false
-unfolding any
-any-never f h [] = refl
-any-never f h (z ∷ zs) = rw (h z) (any-never f h zs)
-
-whole-outside : (l : List ℕ) (z : ℤ) → not (whole (outside l) z) ≡ false
-unfolding whole
-whole-outside l z = ap (λ (b : Bool). not b) (eq-eqb (1 * natAbs z % 1) 0 (rest (natAbs z)))
-  where
-    rest : (n : ℕ) → 1 * n % 1 ≡ 0
-    rest n = omega arith
-
 faults-draw : (n : ℕ) (l : List ℕ) (w : Shape Number) → Good l (valued w) → InRange (numbersOfShape (valued w)) → faults (outside l) (at n (draw w)) ≡ []
 unfolding faults zeroScale degenerate layerless tooMany partsOf any
 faults-draw n l w g h =
@@ -82,8 +70,6 @@ faults-draw n l w g h =
     let near : InRange (a ++ b) = range-++ a b (range-left a _ h) (range-left b (both (map given (w .directions))) (range-right a _ h)) in
     let three : atNumbers numberTooLarge beyond (numbersOf (draw w)) ≡ [] =
     none-listed numberTooLarge beyond (numbersOf (draw w)) (ap (λ (zs : List ℤ). any beyond zs) (numbers-drawn w) ∙ none-beyond (numbersOfShape (valued w)) h) in
-    let five : atNumbers notWhole (λ z. not (whole (outside l) z)) (distances (draw w)) ≡ [] =
-    none-listed notWhole (λ z. not (whole (outside l) z)) (distances (draw w)) (any-never (λ z. not (whole (outside l) z)) (whole-outside l) (values (distances (draw w)))) in
     let six : atNumbers scaledTooLarge (λ z. beyond (scaled (outside l) z)) (distances (draw w)) ≡ [] =
     none-listed scaledTooLarge (λ z. beyond (scaled (outside l) z)) (distances (draw w))
     (any-same (λ z. beyond (scaled (outside l) z)) beyond (λ z. ap beyond (scaled-outside l z)) (values (distances (draw w)))
@@ -91,7 +77,7 @@ faults-draw n l w g h =
     let seven : emptyShape (scaledShape (outside l) w) ≡ false = ap (λ (k : Shape ℤ). emptyShape k) (read-outside l w) ∙ g .full in
     let eight : eqb (length l) 0 ≡ false = g .some-name in
     let nine : ltb mostPoints (length (w .points)) ≡ false = ap (λ (k : ℕ). ltb mostPoints k) (sym (length-map given (w .points))) ∙ g .few in
-    rw (three, five, six, seven, eight, nine)
+    rw (three, six, seven, eight, nine)
 
 -- no fault from here on
 abbrev Clear : List ℕ → ℕ → List Letter → Type 0

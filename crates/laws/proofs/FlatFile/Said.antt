@@ -13,11 +13,11 @@ use lib.ListN.{length}
 use Rattle.grammar.specs.Notation.{Letter, Match}
 use Rattle.grammar.specs.Productions.{cifFile}
 use Rattle.definition.specs.Limits.{largest, mostPoints}
-use Rattle.definition.specs.Rules.{Rule, numberTooLarge, zeroFactor, notWhole, scaledTooLarge, degenerateCommand, noLayer, tooManyParts}
+use Rattle.definition.specs.Rules.{Rule, numberTooLarge, zeroFactor, scaledTooLarge, degenerateCommand, noLayer, tooManyParts}
 use Rattle.definition.specs.Words.{at, Point, any}
 use Rattle.definition.specs.Commands.{Kind, box, flash, wire, polygon, Shape, Turn, Number, translate, mirrorX, mirrorY, rotate}
 use Rattle.definition.specs.Commands.{Command, draw, layer, call, start, finish, delete, nothing, commands}
-use Rattle.definition.specs.Standing.{Standing, outside, after, scaled, whole, scaledPoint, scaledShape}
+use Rattle.definition.specs.Standing.{Standing, outside, after, scaled, scaledPoint, scaledShape}
 use Rattle.definition.specs.Faults.{beyond, both, zero?, nowhere, least, emptyShape, partsOf, distances, numbersOf, atNumbers, atCommand, zeroScale, degenerate, layerless, tooMany, faults, allFaults, firstFault}
 use Rattle.definition.specs.Turns.{Heading, +x, +y, -x, -y, heading, rotated, act, aim, inOrder, moved}
 use Rattle.definition.specs.Drawing.{stepOf, Drawn}
@@ -148,8 +148,7 @@ unfolding stepOf All Made Kept.StepP FitStep faults degenerate layerless tooMany
 good-step s p (draw w) x y e =
     let e₁ = nil-right (atNumbers numberTooLarge beyond (numbersOf (draw w))) _ e in
     let e₂ = nil-right (atCommand zeroFactor (zeroScale (draw w)) p) _ e₁ in
-    let e₃ = nil-right (atNumbers notWhole (λ z. not (whole s z)) (distances (draw w))) _ e₂ in
-    let e₄ = nil-right (atNumbers scaledTooLarge (λ z. beyond (scaled s z)) (distances (draw w))) _ e₃ in
+    let e₄ = nil-right (atNumbers scaledTooLarge (λ z. beyond (scaled s z)) (distances (draw w))) _ e₂ in
     let e₅ = nil-right (atCommand degenerateCommand (degenerate s (draw w)) p) _ e₄ in
     let e₆ = nil-right (atCommand noLayer (layerless s (draw w)) p) _ e₅ in
     let seven : degenerate s (draw w) ≡ false = not-at degenerateCommand p _ (nil-left (atCommand degenerateCommand (degenerate s (draw w)) p) _ e₄) in

@@ -12,6 +12,7 @@ use Rattle.grammar.specs.Tables.{letter}
 use Rattle.definition.specs.Words.{at, Point, point}
 use Rattle.definition.specs.Commands.{box, flash, wire, polygon, Shape, Number, draw, numbers, nth, paired, commandAt}
 use Rattle.definition.specs.Standing.{outside, given, scaled, scaledPoint, scaledShape}
+use Rattle.definition.proofs.Nearest.{nearest-equal}
 use Rattle.definition.specs.Faults.{both}
 use Rattle.definition.specs.Flat.{letterOf, numbersOfShape}
 use Rattle.laws.proofs.FlatFile.Again.{values, spacedLetters, spaced-read}
@@ -103,11 +104,8 @@ shape-read n k (a-polygon ps) l m e =
 -- outside definitions the scale is 1
 pub scaled-outside : (name : List ℕ) (z : ℤ) → scaled (outside name) z ≡ z
 unfolding scaled
-scaled-outside name (pos d) = ap (λ (k : ℕ). pos k) (omega arith)
-scaled-outside name (negsuc d) = ap (λ (k : ℕ). negℤ (pos k)) one
-  where
-    one : 1 * suc d / 1 ≡ suc d
-    one = omega arith
+scaled-outside name (pos d) = ap (λ (k : ℕ). pos k) (nearest-equal d 1 (omega arith))
+scaled-outside name (negsuc d) = ap (λ (k : ℕ). negℤ (pos k)) (nearest-equal (suc d) 1 (omega arith))
 
 pub read-outside : (name : List ℕ) (w : Shape Number) → scaledShape (outside name) w ≡ valued w
 unfolding scaledShape

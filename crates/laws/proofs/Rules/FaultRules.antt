@@ -17,13 +17,14 @@ use Rattle.grammar.specs.Notation.{Letter}
 use Rattle.grammar.specs.Viable.{bytes, Marked}
 use Rattle.definition.specs.declared.Refusal.{Refusal}
 use Rattle.definition.specs.Limits.{largest, mostPoints, mostTurns}
-use Rattle.definition.specs.Rules.{Rule, numberTooLarge, zeroFactor, notWhole, scaledTooLarge, degenerateCommand, noLayer, tooManyParts, refuse, order}
+use Rattle.definition.specs.Rules.{Rule, numberTooLarge, zeroFactor, scaledTooLarge, degenerateCommand, noLayer, tooManyParts, refuse, order}
 use Rattle.definition.specs.Words.{if_then_else_, Placed, at, Point, any, those, first}
 use Rattle.definition.specs.Commands.{Number, Kind, box, flash, wire, polygon, Shape, Turn, translate, mirrorX, mirrorY, rotate}
 use Rattle.definition.specs.Commands.{Command, draw, layer, call, start, finish, delete, nothing, commands}
-use Rattle.definition.specs.Standing.{Standing, outside, after, scaled, whole, given, scaledPoint, scaledShape}
+use Rattle.definition.specs.Standing.{Standing, outside, after, nearest, scaled, given, scaledPoint, scaledShape}
 use Rattle.definition.specs.Faults.{beyond, zero?, partsOf, bearings, distances, numbersOf, zeroScale, nowhere, least, emptyShape, degenerate, layerless, tooMany}
 use Rattle.definition.specs.Faults.{atNumbers, atCommand, faults, allFaults, firstFault}
+use Rattle.definition.proofs.Nearest.{nearest-zero, abs-scaled}
 use Rattle.laws.proofs.Lists.Range.{All, all-++}
 use Rattle.laws.proofs.Rules.Order.{rankIn, rank, Earlier, ByCommand, one-rank, one-rule}
 use Rattle.laws.proofs.Commands.Sizes.{abs-neg, nil-left, nil-right, all-right, no-fault, all-left}
@@ -37,9 +38,9 @@ infix 40 _∈_
 abbrev pub _∈_ : {A : Type 0} → A → List A → Type 0
 a ∈ l = List·Memᴰ a l
 
--- the length, after scaling, of a distance; and the direction (0, 0)
+-- the length, after scaling and rounding, of a distance; and the direction (0, 0)
 abbrev pub Scaled : Standing → Number → ℕ
-Scaled s d = s .a * natAbs (d .what) / s .b
+Scaled s d = nearest (s .a * natAbs (d .what)) (s .b)
 
 pub record Nowhere (q : Point Number) : Type 0 where
   pub no-x : natAbs (q .x .what) ≡ 0
@@ -51,8 +52,6 @@ pub data Breaks (s : Standing) (c : Placed Command) : Rule → (place : ℕ) →
   number-beyond : (d : Number) → d ∈ numbersOf (c .what) → largest < natAbs (d .what) → Breaks s c numberTooLarge (d .place)
   -- a or b is 0; the DS
   zero-factor : (symbol a b : Number) → c .what ≡ start symbol a b → (natAbs (a .what) ≡ 0) ⊎ (natAbs (b .what) ≡ 0) → Breaks s c zeroFactor (c .place)
-  -- scaled distance not whole; that number
-  not-whole : (d : Number) → d ∈ distances (c .what) → (s .a * natAbs (d .what) % s .b ≡ 0 → ⊥) → Breaks s c notWhole (d .place)
   -- scaled distance beyond 16,777,215; that number
   scaled-beyond : (d : Number) → d ∈ distances (c .what) → largest < Scaled s d → Breaks s c scaledTooLarge (d .place)
   -- zero length, width or diameter; direction (0, 0) of a box or an R; polygon under 3 points; the command
@@ -212,11 +211,6 @@ bearing-turned (translate p) m = absurd (List·Memᴰ·not-nil m)
 bearing-turned mirrorX m = absurd (List·Memᴰ·not-nil m)
 bearing-turned mirrorY m = absurd (List·Memᴰ·not-nil m)
 
-abs-scaled : (s : Standing) (z : ℤ) → natAbs (scaled s z) ≡ s .a * natAbs z / s .b
-unfolding scaled
-abs-scaled s (pos d) = refl
-abs-scaled s (negsuc d) = abs-neg (pos (s .a * natAbs (negsuc d) / s .b))
-
 empty-list : {A : Type 0} (l : List A) → length l ≡ 0 → l ≡ []
 empty-list [] e = refl
 empty-list (a ∷ l) e = absurd (omega arith)
@@ -335,17 +329,15 @@ module _ (s : Standing) (c : Placed Command) where
   Broken r = (rule : Rule) × (r ≡ refuse rule (r .place)) × Breaks s c rule (r .place)
 
   broken : Pathed (c .what) → {r : Refusal} → r ∈ faults s c → Broken r
-  unfolding faults beyond whole
+  unfolding faults beyond
   broken f {r} m =
       parted (atNumbers numberTooLarge beyond (numbersOf (c .what))) (at-number numberTooLarge beyond _ (λ d i e. number-beyond d i (ltb-true largest (natAbs (d .what)) e)))
       (parted (atCommand zeroFactor (zeroScale (c .what)) (c .place)) (at-command zeroFactor _ (zero-scale-broken s (c .place) (c .what)))
-      (parted (atNumbers notWhole (λ d. not (whole s d)) (distances (c .what)))
-      (at-number notWhole (λ d. not (whole s d)) _ (λ d i e. not-whole d i (eqb-false (s .a * natAbs (d .what) % s .b) 0 (not-true (whole s (d .what)) e))))
       (parted (atNumbers scaledTooLarge (λ d. beyond (scaled s d)) (distances (c .what)))
       (at-number scaledTooLarge (λ d. beyond (scaled s d)) _ (λ d i e. scaled-beyond d i (subst (λ (n : ℕ). largest < n) (abs-scaled s (d .what)) (ltb-true largest (natAbs (scaled s (d .what))) e))))
       (parted (atCommand degenerateCommand (degenerate s (c .what)) (c .place)) (at-command degenerateCommand _ (degenerate-broken s (c .place) (c .what) f))
       (parted (atCommand noLayer (layerless s (c .what)) (c .place)) (at-command noLayer _ (layerless-broken s (c .place) (c .what)))
-      (at-command tooManyParts _ (too-many-broken s (c .place) (c .what)))))))) m
+      (at-command tooManyParts _ (too-many-broken s (c .place) (c .what))))))) m
     where
       at-number : (n : Rule) (t : ℤ → Bool) (ds : List Number) → ((d : Number) → d ∈ ds → t (d .what) ≡ true → Breaks s c n (d .place)) → r ∈ atNumbers n t ds → Broken r
       at-number n t ds g i = let h = refused-number n t ds i in subst Broken (sym (h .same)) (n, refl, g (h .number) (h .among) (h .fails))
@@ -361,9 +353,6 @@ module _ (s : Standing) (c : Placed Command) where
 
   abbrev fours : List Refusal
   fours = atCommand zeroFactor (zeroScale (c .what)) (c .place)
-
-  abbrev fives : List Refusal
-  fives = atNumbers notWhole (λ d. not (whole s d)) (distances (c .what))
 
   abbrev sixes : List Refusal
   sixes = atNumbers scaledTooLarge (λ d. beyond (scaled s d)) (distances (c .what))
@@ -385,18 +374,14 @@ module _ (s : Standing) (c : Placed Command) where
   unfolding faults
   among-fours m = Memᴰ·append-right threes (Memᴰ·append-left _ m)
 
-  among-fives : {r : Refusal} → r ∈ fives → r ∈ faults s c
-  unfolding faults
-  among-fives m = Memᴰ·append-right threes (Memᴰ·append-right fours (Memᴰ·append-left _ m))
-
   among-sixes : {r : Refusal} → r ∈ sixes → r ∈ faults s c
   unfolding faults
-  among-sixes m = Memᴰ·append-right threes (Memᴰ·append-right fours (Memᴰ·append-right fives (Memᴰ·append-left _ m)))
+  among-sixes m = Memᴰ·append-right threes (Memᴰ·append-right fours (Memᴰ·append-left _ m))
 
   -- the refusals that stand at the command, from 7 on
   behind-sixes : {r : Refusal} → r ∈ (sevens ++ (eights ++ nines)) → r ∈ faults s c
   unfolding faults
-  behind-sixes m = Memᴰ·append-right threes (Memᴰ·append-right fours (Memᴰ·append-right fives (Memᴰ·append-right sixes m)))
+  behind-sixes m = Memᴰ·append-right threes (Memᴰ·append-right fours (Memᴰ·append-right sixes m))
 
   among-sevens : degenerate s (c .what) ≡ true → refuse degenerateCommand (c .place) ∈ faults s c
   among-sevens e = behind-sixes (Memᴰ·append-left _ (command-refused degenerateCommand (c .place) (degenerate s (c .what)) e))
@@ -425,14 +410,13 @@ module _ (s : Standing) (c : Placed Command) where
       (subst (λ (x : Kind). length (map (scaledPoint s) (k .points)) < least x) (sym e) (omega (arith, length-map (scaledPoint s) (k .points))))))
 
   listed : {n : Rule} {p : ℕ} → Breaks s c n p → refuse n p ∈ faults s c
-  unfolding beyond whole zeroScale degenerate layerless tooMany partsOf bearings any scaledShape
+  unfolding beyond zeroScale degenerate layerless tooMany partsOf bearings any scaledShape
   listed (number-beyond d m h) = among-threes (number-refused numberTooLarge beyond m (lt-ltb largest (natAbs (d .what)) h))
   listed (zero-factor n a b e h) = among-fours (command-refused zeroFactor (c .place) (zeroScale (c .what)) (subst (λ (w : Command). zeroScale w ≡ true) (sym e) (go h)))
     where
       go : (natAbs (a .what) ≡ 0) ⊎ (natAbs (b .what) ≡ 0) → (zero? (a .what) || (zero? (b .what) || false)) ≡ true
       go (inl i) = or-one (zero? (a .what)) _ (inl (eq-eqb (natAbs (a .what)) 0 i))
       go (inr i) = or-one (zero? (a .what)) _ (inr (or-one (zero? (b .what)) false (inl (eq-eqb (natAbs (b .what)) 0 i))))
-  listed (not-whole d m h) = among-fives (number-refused notWhole (λ x. not (whole s x)) m (ap (λ (b : Bool). not b) (ne-eqb (s .a * natAbs (d .what) % s .b) 0 h)))
   listed (scaled-beyond d m h) = among-sixes (number-refused scaledTooLarge (λ x. beyond (scaled s x)) m (lt-ltb largest (natAbs (scaled s (d .what))) (subst (λ (n : ℕ). largest < n) (sym (abs-scaled s (d .what))) h)))
   listed (zero-size k d e m h) =
       empty-degenerate k e (zero-empty k (inl (any-map zero? (λ (x : Number). scaled s (x .what)) (k .sizes) ∙ any-has (λ x. zero? (scaled s (x .what))) m (eq-eqb _ 0 (abs-scaled s (d .what) ∙ h)))))
@@ -533,15 +517,8 @@ module _ (s : Standing) where
   unfolding beyond
   small-within z h = le-ltb largest (natAbs z) (omega arith)
 
-  null-rest : (z : ℤ) → Null z → s .a * natAbs z % s .b ≡ 0
-  null-rest z h = ap (λ (n : ℕ). s .a * n % s .b) h ∙ ap (λ (n : ℕ). n % s .b) (mul-zero (s .a)) ∙ zero-mod (s .b)
-
-  null-scaled : (z : ℤ) → Null z → s .a * natAbs z / s .b ≡ 0
-  null-scaled z h = ap (λ (n : ℕ). s .a * n / s .b) h ∙ ap (λ (n : ℕ). n / s .b) (mul-zero (s .a)) ∙ zero-div (s .b)
-
-  null-whole : (z : ℤ) → Null z → not (whole s z) ≡ false
-  unfolding whole
-  null-whole z h = ap (λ (b : Bool). not b) (eq-eqb (s .a * natAbs z % s .b) 0 (null-rest z h))
+  null-scaled : (z : ℤ) → Null z → nearest (s .a * natAbs z) (s .b) ≡ 0
+  null-scaled z h = ap (λ (n : ℕ). nearest n (s .b)) (ap (λ (n : ℕ). s .a * n) h ∙ mul-zero (s .a)) ∙ nearest-zero (s .b)
 
   null-within : (z : ℤ) → Null z → beyond (scaled s z) ≡ false
   unfolding beyond
@@ -552,10 +529,9 @@ module _ (s : Standing) where
   faults-least c high h =
       joined {k = 0} (threes s c) _ (omega arith) (rising-refusals Small numberTooLarge beyond small-within (h .numbers-rise))
       (joined (fours s c) _ (omega arith) (one-refusal zeroFactor (c .place) (zeroScale (c .what)))
-      (joined (fives s c) _ (omega arith) (rising-refusals Null notWhole (λ d. not (whole s d)) null-whole (h .distances-rise))
       (joined (sixes s c) _ (omega arith) (rising-refusals Null scaledTooLarge (λ d. beyond (scaled s d)) null-within (h .distances-rise))
       (joined (sevens s c) _ (omega arith) (one-refusal degenerateCommand (c .place) (degenerate s (c .what)))
-      (joined (eights s c) _ (omega arith) (one-refusal noLayer (c .place) (layerless s (c .what))) (behind (nines s c) (omega arith) (one-refusal tooManyParts (c .place) (tooMany (c .what)))))))))
+      (joined (eights s c) _ (omega arith) (one-refusal noLayer (c .place) (layerless s (c .what))) (behind (nines s c) (omega arith) (one-refusal tooManyParts (c .place) (tooMany (c .what))))))))
       .in-order
 
 -- ---- the first rule broken
@@ -746,7 +722,6 @@ no-first-fault {t} {m} k = (
 pub rule-ranked : {s : Standing} {c : Placed Command} {n : Rule} {p : ℕ} → Breaks s c n p → ByCommand n
 rule-ranked (number-beyond d m h) = record { least = omega arith; most = omega arith }
 rule-ranked (zero-factor n a b e h) = record { least = omega arith; most = omega arith }
-rule-ranked (not-whole d m h) = record { least = omega arith; most = omega arith }
 rule-ranked (scaled-beyond d m h) = record { least = omega arith; most = omega arith }
 rule-ranked (zero-size k d e m h) = record { least = omega arith; most = omega arith }
 rule-ranked (zero-direction k q e m h) = record { least = omega arith; most = omega arith }
@@ -773,7 +748,6 @@ not-idle {Idle} {low} {high} {d} (stands {d = x} {ds} a b r) m f = go (List·Mem
 rule-place : {s : Standing} {c : Placed Command} {high : ℕ} {n : Rule} {p : ℕ} → Stands high c → Breaks s c n p → p < high
 rule-place {s} {c} x (number-beyond d m h) = not-idle (x .numbers-rise) m (λ z. omega arith)
 rule-place {s} {c} x (zero-factor n a b e h) = x .within
-rule-place {s} {c} x (not-whole d m h) = not-idle (x .distances-rise) m (λ z. h (null-rest s (d .what) z))
 rule-place {s} {c} x (scaled-beyond d m h) = not-idle (x .distances-rise) m (λ z. omega (arith, null-scaled s (d .what) z))
 rule-place {s} {c} x (zero-size k d e m h) = x .within
 rule-place {s} {c} x (zero-direction k q e m h) = x .within

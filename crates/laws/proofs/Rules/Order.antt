@@ -9,7 +9,7 @@ use native.Mathlib.Omega.{arith}
 use lib.Dec.{eqb}
 use lib.ListN.{getD}
 use Rattle.definition.specs.declared.Refusal.{Refusal}
-use Rattle.definition.specs.Rules.{Rule, textTooLong, notInGrammar, numberTooLarge, zeroFactor, notWhole, scaledTooLarge, degenerateCommand, noLayer}
+use Rattle.definition.specs.Rules.{Rule, textTooLong, notInGrammar, numberTooLarge, zeroFactor, scaledTooLarge, degenerateCommand, noLayer}
 use Rattle.definition.specs.Rules.{tooManyParts, tooManyDefinitions, offTheAxes, undefinedSymbol, beingDrawn, tooDeep, tooManyCalls, outOfRange}
 use Rattle.definition.specs.Rules.{tooManyShapes, flatFileTooLong, numberOf, refuse, order}
 use Rattle.definition.specs.Words.{if_then_else_}
@@ -41,7 +41,6 @@ standing-there textTooLong = refl
 standing-there notInGrammar = refl
 standing-there numberTooLarge = refl
 standing-there zeroFactor = refl
-standing-there notWhole = refl
 standing-there scaledTooLarge = refl
 standing-there degenerateCommand = refl
 standing-there noLayer = refl
@@ -71,7 +70,6 @@ number-from-1 textTooLong = omega arith
 number-from-1 notInGrammar = omega arith
 number-from-1 numberTooLarge = omega arith
 number-from-1 zeroFactor = omega arith
-number-from-1 notWhole = omega arith
 number-from-1 scaledTooLarge = omega arith
 number-from-1 degenerateCommand = omega arith
 number-from-1 noLayer = omega arith
@@ -85,3 +83,23 @@ number-from-1 tooManyCalls = omega arith
 number-from-1 outOfRange = omega arith
 number-from-1 tooManyShapes = omega arith
 number-from-1 flatFileTooLong = omega arith
+
+-- 02, request 2: 5 is no rule's number any more
+pub number-not-5 : (r : Rule) → numberOf r ≡ 5 → ⊥
+number-not-5 textTooLong e = omega arith
+number-not-5 notInGrammar e = omega arith
+number-not-5 numberTooLarge e = omega arith
+number-not-5 zeroFactor e = omega arith
+number-not-5 scaledTooLarge e = omega arith
+number-not-5 degenerateCommand e = omega arith
+number-not-5 noLayer e = omega arith
+number-not-5 tooManyParts e = omega arith
+number-not-5 tooManyDefinitions e = omega arith
+number-not-5 offTheAxes e = omega arith
+number-not-5 undefinedSymbol e = omega arith
+number-not-5 beingDrawn e = omega arith
+number-not-5 tooDeep e = omega arith
+number-not-5 tooManyCalls e = omega arith
+number-not-5 outOfRange e = omega arith
+number-not-5 tooManyShapes e = omega arith
+number-not-5 flatFileTooLong e = omega arith
