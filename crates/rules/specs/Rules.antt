@@ -7,7 +7,10 @@ use Prim.Native.Nat.{ℕ, _-_, _*_, _/_, _%_}
 use lib.Dec.{ltb, eqb}
 use Rattle.definition.specs.Limits.{largest, mostPoints, mostTurns}
 use Rattle.definition.specs.Words.{if_then_else_}
+use Rattle.definition.specs.Standing.{nearest}
 use Rattle.pieces.specs.Pieces.{letterS}
+use Rattle.rules.specs.declared.AtScale.{AtScale}
+use Rattle.rules.specs.Written.{one}
 use Rattle.rules.specs.Letters.{letterB, letterC, letterD, letterP, letterR, letterT, letterW, leastPoints, noRefusal}
 
 -- a command with the first letter l is a shape
@@ -18,9 +21,15 @@ shapely l = eqb l letterB || (eqb l letterP || (eqb l letterR || eqb l letterW))
 unfoldable pub distance : ℕ → ℕ → ℕ → Bool
 distance l w i = if eqb l letterB then ltb i 4 else if eqb l letterC then eqb w letterT else shapely l
 
--- number i at the scale a, b
+-- number i at the scale a, b; and 1 where it was rounded
 abbrev pub scaledBy : ℕ → ℕ → ℕ → ℕ → ℕ → ℕ → ℕ
-scaledBy a b l w i n = if distance l w i then a * n / b else n
+scaledBy a b l w i n = if distance l w i then nearest (a * n) b else n
+
+abbrev pub roundedBy : ℕ → ℕ → ℕ → ℕ → ℕ → ℕ → ℕ
+roundedBy a b l w i n = one (distance l w i && not (eqb (a * n % b) 0))
+
+abbrev pub scaledTo : (value rounded : ℕ) → AtScale
+scaledTo v k = record { value = v; rounded = k }
 
 -- number i may not be 0: a length, a width, a diameter, or the second of a direction whose first is 0, which z says
 unfoldable pub vital : ℕ → ℕ → ℕ → Bool → Bool
@@ -47,16 +56,15 @@ bare l y = shapely l && eqb y 0
 unfoldable pub many : ℕ → ℕ → ℕ → Bool
 many l n t = if eqb l letterC then ltb mostTurns t else ltb mostPoints (pointsOf l n)
 
--- the lowest refusal that a number meets, at the scale a, b: number i, of size n, behind the letter w and, as z says, a number that is 0
+-- the lowest refusal that a number meets: number i, of size n and v after scaling, after the letter w and, as z says, a number that is 0
 abbrev pub emptyNo : ℕ → ℕ → ℕ → Bool → ℕ → ℕ
-emptyNo l w i z n = if eqb n 0 && vital l w i z then 7 else noRefusal
+emptyNo l w i z v = if eqb v 0 && vital l w i z then 7 else noRefusal
 
-unfoldable pub numberNo : ℕ → ℕ → ℕ → ℕ → ℕ → Bool → ℕ → ℕ
-numberNo a b l w i z n =
+unfoldable pub numberNo : ℕ → ℕ → ℕ → Bool → ℕ → ℕ → ℕ
+numberNo l w i z n v =
     if ltb largest n then 3
-    else if distance l w i && not (eqb (a * n % b) 0) then 5
-    else if distance l w i && ltb largest (a * n / b) then 6
-    else emptyNo l w i z n
+    else if ltb largest v then 6
+    else emptyNo l w i z v
 
 -- the lowest that a whole command meets
 unfoldable pub wholeNo : ℕ → ℕ → ℕ → ℕ → ℕ → ℕ → ℕ → ℕ

@@ -1,9 +1,13 @@
 // The rules for one command of a CIF text, in refusals 3 to 9: the lowest that a number meets, and the lowest that a whole command meets; and what is
 // scaled. They stand below both passes over a text, the check and the drawing, so that both go by the same rules.
 ghost use mathlib.Core.Path.{_≡_};
-ghost use Prim.Native.Nat.{_+_, _*_, _/_, _≤_};
+ghost use mathlib.Core.Bool.{not};
+ghost use Prim.Native.Nat.{_+_, _*_, _%_, _≤_};
+ghost use lib.Dec.{eqb};
+ghost use Rattle.definition.specs.Standing.{nearest};
 ghost use Rattle.pieces.specs.Pieces.{tooLarge};
-ghost use Rattle.rules.specs.Rules.{shapely, distance, scaledBy, vital, scaleless, few, bare, pointsOf, many, emptyNo, numberNo, wholeNo};
+ghost use Rattle.rules.specs.Written.{one};
+ghost use Rattle.rules.specs.Rules.{shapely, distance, scaledBy, roundedBy, scaledTo, vital, scaleless, few, bare, pointsOf, many, emptyNo, numberNo, wholeNo};
 
 // 01, refusal 7.
 const LEAST_POINTS: usize = 3;
@@ -39,26 +43,48 @@ pub fn is_distance(letter: u8, word: u8, index: usize) -> bool
     is_shape(letter)
 }
 
-// A distance at a scale. Here alone a number is divided, for the check and for the drawing.
-fn scaled_distance(a: usize, b: usize, n: usize) -> usize
-    requires { ⌜ (a ≤ tooLarge) × (1 ≤ b) × (n ≤ tooLarge) ⌝ }
-    ensures { λ r. ⌜ r ≡ a * n / b ⌝ }
-{
-    a * n / b
+// A number at a scale: its value, and 1 if it was rounded, else 0.
+pub struct AtScale {
+    pub value: usize,
+    pub rounded: usize,
 }
 
-// A number at a scale, whole or not: refusal 5 is for the check. At a = b, and so outside definitions, nothing is divided.
-pub fn scaled(a: usize, b: usize, letter: u8, word: u8, index: usize, n: usize) -> usize
+fn scaled_to(value: usize, rounded: usize) -> AtScale
+    ensures { λ r. ⌜ r ≡ scaledTo value rounded ⌝ }
+{
+    AtScale { value, rounded }
+}
+
+// A distance at a scale, to the nearest whole number, halves away from zero (02, request 2). Here alone a number is divided, once, for the check and for the
+// drawing; what the division leaves is held against what is missing to the next whole number, so that nothing is doubled.
+fn scaled_distance(a: usize, b: usize, n: usize) -> AtScale
     requires { ⌜ (a ≤ tooLarge) × (1 ≤ b) × (n ≤ tooLarge) ⌝ }
-    ensures { λ r. ⌜ r ≡ scaledBy a b letter word index n ⌝ }
+    ensures { λ r. ⌜ r ≡ scaledTo (nearest (a * n) b) (one (not (eqb (a * n % b) 0))) ⌝ }
+{
+    let x = a * n;
+    let below = x / b;
+    let rest = x - below * b;
+    if rest == 0 {
+        return scaled_to(below, 0);
+    }
+    if rest < b - rest {
+        return scaled_to(below, 1);
+    }
+    scaled_to(below + 1, 1)
+}
+
+// A number at a scale. At a = b, and so outside definitions, nothing is divided.
+pub fn scaled(a: usize, b: usize, letter: u8, word: u8, index: usize, n: usize) -> AtScale
+    requires { ⌜ (a ≤ tooLarge) × (1 ≤ b) × (n ≤ tooLarge) ⌝ }
+    ensures { λ r. ⌜ r ≡ scaledTo (scaledBy a b letter word index n) (roundedBy a b letter word index n) ⌝ }
 {
     if a == b {
-        return n;
+        return scaled_to(n, 0);
     }
     if is_distance(letter, word, index) {
         return scaled_distance(a, b, n);
     }
-    n
+    scaled_to(n, 0)
 }
 
 // What may not be 0: a length, a width, a diameter, or the second number of a direction whose first is 0.
@@ -104,37 +130,17 @@ fn empty_no(letter: u8, word: u8, index: usize, zero: bool, n: usize) -> usize
     NO_REFUSAL
 }
 
-// The lowest refusal that a number meets. At a scale of a = b, and so outside definitions, nothing is divided; elsewhere once.
-pub fn number_no(
-    a: usize,
-    b: usize,
-    letter: u8,
-    word: u8,
-    index: usize,
-    zero: bool,
-    n: usize,
-) -> usize
-    requires { ⌜ (a ≤ tooLarge) × (1 ≤ b) ⌝ }
-    ensures { λ r. ⌜ r ≡ numberNo a b letter word index zero n ⌝ }
+// The lowest refusal that a number of size n meets, which is v after scaling.
+pub fn number_no(letter: u8, word: u8, index: usize, zero: bool, n: usize, v: usize) -> usize
+    ensures { λ r. ⌜ r ≡ numberNo letter word index zero n v ⌝ }
 {
     if definition::LARGEST < n {
         return 3;
     }
-    if a == b {
-        return empty_no(letter, word, index, zero, n);
+    if definition::LARGEST < v {
+        return 6;
     }
-    if is_distance(letter, word, index) {
-        let x = a * n;
-        let scaled = scaled_distance(a, b, n);
-        if scaled * b == x {
-            if definition::LARGEST < scaled {
-                return 6;
-            }
-            return empty_no(letter, word, index, zero, n);
-        }
-        return 5;
-    }
-    empty_no(letter, word, index, zero, n)
+    empty_no(letter, word, index, zero, v)
 }
 
 fn is_scaleless(letter: u8, word: u8, a: usize, b: usize) -> bool
