@@ -2,10 +2,10 @@
 -- laws, so that the contracts of its parts are plain equations.
 -- Assumes nothing.
 use mathlib.Core.Path.{_≡_, refl, sym, ap, _∙_, subst}
-use mathlib.Core.Bool.{Bool, true, false, _&&_, _||_}
+use mathlib.Core.Bool.{Bool, true, false, not, _&&_, _||_}
 use mathlib.Core.List.{List, [], _∷_}
 use mathlib.Core.Logic.{_⊎_, ⊎-elim}
-use Prim.Native.Nat.{ℕ, _+_, _*_, _/_, _≤_, _<_}
+use Prim.Native.Nat.{ℕ, _+_, _*_, _/_, _%_, _≤_, _<_}
 use native.Mathlib.Omega.{arith}
 use borrow.Author.Tests.{lt-ltb, le-ltb, ltb-false, eqb-false}
 use lib.Dec.{ltb, eqb}
@@ -18,7 +18,8 @@ use Rattle.pieces.specs.declared.Piece.the-variants.{First, Second, Number, Wor
 use Rattle.rules.specs.Letters.{letterD, letterL, noRefusal, byteUnit}
 use Rattle.pieces.specs.Pieces.{letterS, letterF}
 use Rattle.rules.specs.Written.{one, turning}
-use Rattle.rules.specs.Rules.{scaleless, few, bare, many, numberNo, wholeNo}
+use Rattle.rules.specs.Rules.{distance, scaleless, few, bare, many, scaledBy, roundedBy, scaledTo, numberNo, wholeNo}
+use Rattle.rules.specs.declared.AtScale.{AtScale}
 use Rattle.definition.specs.declared.Refusal.{Refusal}
 use Rattle.checking.specs.Account.{layerOf, refusal, scope, atStart}
 use Rattle.checking.specs.Along.{lower, blamed, kept, fresh, begun, idle, counted, worded, afterDoing, finished, onward, runs, Fair, Sane}
@@ -52,14 +53,16 @@ pub finish-none : (s : Scope) (c : Doing) → c .busy ≡ false → Then s ≡ f
 unfolding finished
 finish-none s c hb = rw hb
 
-pub counted-is : (s : Scope) (c : Doing) (p n k a b no′ at : ℕ) → k ≡ numberNo (s .a) (s .b) (c .letter) (c .word) (c .count) (c .zero) n
+pub counted-is : (s : Scope) (c : Doing) (p n : ℕ) (v : AtScale) (k a b no′ at : ℕ)
+    → v ≡ scaledTo (scaledBy (s .a) (s .b) (c .letter) (c .word) (c .count) n) (roundedBy (s .a) (s .b) (c .letter) (c .word) (c .count) n)
+    → k ≡ numberNo (c .letter) (c .word) (c .count) (c .zero) n (v .value)
     → a ≡ kept (c .count) 1 n (c .a) → b ≡ kept (c .count) 2 n (c .b) → no′ ≡ lower k (c .no) → at ≡ blamed k (c .no) p (c .place) (c .at)
-    → record { busy = c .busy; place = c .place; letter = c .letter; word = c .word; count = c .count + 1; zero = eqb n 0; turns = c .turns; unit = c .unit; a = a; b = b; name = c .name; no = no′; at = at } ≡ counted s c p n
+    → record { busy = c .busy; place = c .place; letter = c .letter; word = c .word; count = c .count + 1; zero = eqb n 0; turns = c .turns; unit = c .unit; a = a; b = b; name = c .name; no = no′; at = at; rounded = c .rounded + v .rounded } ≡ counted s c p n
 unfolding counted
-counted-is s c p n k a b no′ at ek ea eb en et = rw (ea, eb, en, et, ek)
+counted-is s c p n v k a b no′ at ev ek ea eb en et = rw (ea, eb, en, et, ek, ev)
 
 pub worded-is : (c : Doing) (w t v : ℕ) → t ≡ c .turns + one (turning w) → v ≡ c .name + w * c .unit
-    → record { busy = c .busy; place = c .place; letter = c .letter; word = w; count = c .count; zero = c .zero; turns = t; unit = c .unit / byteUnit; a = c .a; b = c .b; name = v; no = c .no; at = c .at } ≡ worded c w
+    → record { busy = c .busy; place = c .place; letter = c .letter; word = w; count = c .count; zero = c .zero; turns = t; unit = c .unit / byteUnit; a = c .a; b = c .b; name = v; no = c .no; at = c .at; rounded = c .rounded } ≡ worded c w
 unfolding worded
 worded-is c w t v et ev = rw (et, ev)
 
@@ -106,9 +109,9 @@ fair-finished s c f ha =
         let h₂ = ltb-false (c .no) noRefusal ez in
         fair-after s c f ha (no-scaleless (scaleless (c .letter) (c .word) (c .a) (c .b)) (choose (few (c .letter) (c .count)) 7 (choose (bare (c .letter) (layerOf s)) 8 (choose (many (c .letter) (c .count) (c .turns)) 9 noRefusal))) (omega arith))
 
-sane-fresh : (n : ℕ) (z : Bool) (p l : ℕ) → Sane n (fresh z p l)
+sane-fresh : (n : ℕ) (z : Bool) (p l k : ℕ) → k ≤ n → Sane n (fresh z p l k)
 unfolding fresh
-sane-fresh n z p l = record { count = omega arith; turns = omega arith; a = omega arith; name = omega arith }
+sane-fresh n z p l k h = record { count = omega arith; rounded = h; turns = omega arith; a = omega arith; name = omega arith }
 
 kept-le : (b : Bool) (x y : ℕ) → x ≤ tooLarge → y ≤ tooLarge → choose b x y ≤ tooLarge
 kept-le true x y h k = h
@@ -118,10 +121,16 @@ one-le : (b : Bool) → choose b 1 0 ≤ 1
 one-le true = omega arith
 one-le false = omega arith
 
+pub one-le-rounded : (s : Scope) (c : Doing) (n : ℕ) (v : AtScale)
+    → v ≡ scaledTo (scaledBy (s .a) (s .b) (c .letter) (c .word) (c .count) n) (roundedBy (s .a) (s .b) (c .letter) (c .word) (c .count) n) → v .rounded ≤ 1
+one-le-rounded s c n v e =
+    subst (λ (k : ℕ). k ≤ 1) (sym (ap (λ (x : AtScale). x .rounded) e)) (one-le (distance (c .letter) (c .word) (c .count) && not (eqb (s .a * n % s .b) 0)))
+
 sane-counted : (m : ℕ) (s : Scope) (c : Doing) (p n : ℕ) → n ≤ tooLarge → Sane m c → Sane (m + 1) (counted s c p n)
 unfolding counted
 sane-counted m s c p n h k = record {
   count = let i = k .count in omega arith;
+  rounded = let i = k .rounded in let j = one-le (distance (c .letter) (c .word) (c .count) && not (eqb (s .a * n % s .b) 0)) in omega arith;
   turns = let i = k .turns in omega arith;
   a = kept-le (eqb (c .count) 1) n (c .a) h (k .a);
   name = k .name;
@@ -131,6 +140,7 @@ sane-worded : (m : ℕ) (c : Doing) (w : ℕ) → w < 256 → Sane m c → Sane 
 unfolding worded
 sane-worded m c w h k = record {
   count = let i = k .count in omega arith;
+  rounded = let i = k .rounded in omega arith;
   turns = let i = k .turns in let j = one-le (turning w) in omega arith;
   a = k .a;
   name = name-room w (c .unit) (c .name) h (k .name);
@@ -139,33 +149,37 @@ sane-worded m c w h k = record {
 pub sane-up : (n m : ℕ) (c : Doing) → n ≤ m → Sane n c → Sane m c
 sane-up n m c h k = record {
   count = let i = k .count in omega arith;
+  rounded = let i = k .rounded in omega arith;
   turns = let i = k .turns in omega arith;
   a = k .a;
   name = k .name;
 }
+
+abbrev whole-run : List ℕ → Fault
+whole-run t = runs (stream t start) atStart (idle 0)
 
 -- where the checker stands
 pub record Checking (t : List ℕ) (spot : Spot) (s : Scope) (c : Doing) : Type 0 where
   pub fit : Fit t spot
   pub fair : Fair s
   pub sane : Sane (spot .at) c
-  pub is : runs (stream t spot) s c ≡ runs (stream t start) atStart idle
+  pub is : runs (stream t spot) s c ≡ whole-run t
 
-pub checking-start : (t : List ℕ) (s : Scope) (c : Doing) → s ≡ atStart → c ≡ idle → Checking t start s c
+pub checking-start : (t : List ℕ) (s : Scope) (c : Doing) → s ≡ atStart → c ≡ idle 0 → Checking t start s c
 checking-start t s c es e = record {
   fit = record { within = omega arith; state = omega arith };
   fair = subst Fair (sym es) (record { a = omega arith; b = omega arith });
-  sane = subst (Sane 0) (sym e) (sane-fresh 0 false 0 0);
-  is = ap (λ (d : Doing). runs (stream t start) s d) e ∙ ap (λ (d : Scope). runs (stream t start) d idle) es;
+  sane = subst (Sane 0) (sym e) (sane-fresh 0 false 0 0 0 (omega arith));
+  is = ap (λ (d : Doing). runs (stream t start) s d) e ∙ ap (λ (d : Scope). runs (stream t start) d (idle 0)) es;
 }
 
 module _ {t : List ℕ} {spot : Spot} {s : Scope} {c : Doing} (g : Checking t spot s c) where
-  over : stream t spot ≡ [] → runs [] s c ≡ runs (stream t start) atStart idle
+  over : stream t spot ≡ [] → runs [] s c ≡ whole-run t
   over e = sym (ap (λ (l : List Piece). runs l s c) e) ∙ g .is
 
   -- a piece that leaves the scope s′ and the command c′
   module _ {to : Spot} (x : Piece) (st : Step t spot x to) where
-    before : runs (x ∷ stream t to) s c ≡ runs (stream t start) atStart idle
+    before : runs (x ∷ stream t to) s c ≡ whole-run t
     before = sym (ap (λ (l : List Piece). runs l s c) (st .is)) ∙ g .is
 
     next : (s′ : Scope) (c′ : Doing) → Fair s′ → Sane (spot .at + 1) c′ → runs (stream t to) s′ c′ ≡ runs (x ∷ stream t to) s c → Checking t to s′ c′
@@ -195,31 +209,31 @@ module _ {t : List ℕ} {spot : Spot} {s : Scope} {c : Doing} (g : Checking t sp
     ends : (f : Scope → Fault) {y : Ended} → e ≡ y → onward f y ≡ onward f (finished s c)
     ends f eu = sym (ap (λ (y : Ended). onward f y) (sym ee ∙ eu))
 
-    pub checking-bad : {to : Spot} {n : ℕ} {r : Refusal} → Finds t spot to n → (n ≡ number lead → ⊥) → n ≤ number head → e ≡ Broken r → Refused r ≡ runs (stream t start) atStart idle
+    pub checking-bad : {to : Spot} {n : ℕ} {r : Refusal} → Finds t spot to n → (n ≡ number lead → ⊥) → n ≤ number head → e ≡ Broken r → Refused r ≡ whole-run t
     unfolding runs
-    checking-bad (none z h) l a eu = ends (λ v. Clear) eu ∙ over h
-    checking-bad {to} (some (First p b) z st) l a eu = ends (λ v. runs (stream t to) v (begun p b)) eu ∙ before (First p b) st
+    checking-bad (none z h) l a eu = ends (λ v. Clear (c .rounded)) eu ∙ over h
+    checking-bad {to} (some (First p b) z st) l a eu = ends (λ v. runs (stream t to) v (begun p b (c .rounded))) eu ∙ before (First p b) st
     checking-bad (some (Second b) z st) l a eu = absurd (omega arith)
     checking-bad (some (Number p σ n) z st) l a eu = absurd (l z)
     checking-bad (some (Word b) z st) l a eu = absurd (omega arith)
-    checking-bad {to} (some Stop z st) l a eu = ends (λ v. runs (stream t to) v idle) eu ∙ before Stop st
+    checking-bad {to} (some Stop z st) l a eu = ends (λ v. runs (stream t to) v (idle (c .rounded))) eu ∙ before Stop st
 
     module _ {u : Scope} (eu : e ≡ Then u) where
       fair-then : Fair u
       fair-then = subst FairEnd (sym ee ∙ eu) (fair-finished s c (g .fair) (g .sane .a))
 
-      pub checking-clear : stream t spot ≡ [] → Clear ≡ runs (stream t start) atStart idle
+      pub checking-clear : stream t spot ≡ [] → Clear (c .rounded) ≡ whole-run t
       unfolding runs
-      checking-clear h = ends (λ v. Clear) eu ∙ over h
+      checking-clear h = ends (λ v. Clear (c .rounded)) eu ∙ over h
 
-      pub checking-first : {to : Spot} {p l : ℕ} {d : Doing} → Step t spot (First p l) to → d ≡ begun p l → Checking t to u d
+      pub checking-first : {to : Spot} {p l : ℕ} {d : Doing} → Step t spot (First p l) to → d ≡ begun p l (c .rounded) → Checking t to u d
       unfolding runs
       checking-first {to} {p} {l} {d} st ed =
-          next (First p l) st u d fair-then (subst (Sane (spot .at + 1)) (sym ed) (sane-fresh (spot .at + 1) true p l))
-          (ap (λ (k : Doing). runs (stream t to) u k) ed ∙ ends (λ v. runs (stream t to) v (begun p l)) eu)
+          next (First p l) st u d fair-then (subst (Sane (spot .at + 1)) (sym ed) (sane-fresh (spot .at + 1) true p l (c .rounded) (let i = g .sane .rounded in omega arith)))
+          (ap (λ (k : Doing). runs (stream t to) u k) ed ∙ ends (λ v. runs (stream t to) v (begun p l (c .rounded))) eu)
 
-      pub checking-stop : {to : Spot} {d : Doing} → Step t spot Stop to → d ≡ idle → Checking t to u d
+      pub checking-stop : {to : Spot} {d : Doing} → Step t spot Stop to → d ≡ idle (c .rounded) → Checking t to u d
       unfolding runs
       checking-stop {to} {d} st ed =
-          next Stop st u d fair-then (subst (Sane (spot .at + 1)) (sym ed) (sane-fresh (spot .at + 1) false 0 0))
-          (ap (λ (k : Doing). runs (stream t to) u k) ed ∙ ends (λ v. runs (stream t to) v idle) eu)
+          next Stop st u d fair-then (subst (Sane (spot .at + 1)) (sym ed) (sane-fresh (spot .at + 1) false 0 0 (c .rounded) (let i = g .sane .rounded in omega arith)))
+          (ap (λ (k : Doing). runs (stream t to) u k) ed ∙ ends (λ v. runs (stream t to) v (idle (c .rounded))) eu)

@@ -1,9 +1,9 @@
 -- Refusals 3 to 9 of whole commands as they are written, in text order. A running account, not to be believed: the refusals stand in crates/definition,
 -- and crates/reading shows that on a text of the grammar the two come to the same. All is over ℕ: a number is its distance from zero.
 -- Assumes nothing.
-use mathlib.Core.Bool.{Bool, true, false, not, _&&_}
+use mathlib.Core.Bool.{Bool, true, false, _&&_}
 use mathlib.Core.List.{List, [], _∷_}
-use Prim.Native.Nat.{ℕ, _*_, _/_, _%_}
+use Prim.Native.Nat.{ℕ, _+_}
 use lib.Dec.{ltb, eqb}
 use lib.ListN.{length}
 use Rattle.grammar.specs.Notation.{Letter}
@@ -13,7 +13,7 @@ use Rattle.definition.specs.Words.{if_then_else_}
 use Rattle.pieces.specs.Pieces.{letterS, letterF, pieces}
 use Rattle.rules.specs.Letters.{letterD, letterL, noRefusal, firstUnit}
 use Rattle.rules.specs.Written.{Written, Figure, written, numbers, letters, lastLetter, sizeAt, packedBy, turnsOf}
-use Rattle.rules.specs.Rules.{distance, vital, scaleless, few, bare, many}
+use Rattle.rules.specs.Rules.{scaledBy, roundedBy, vital, scaleless, few, bare, many}
 use Rattle.checking.specs.declared.Scope.{Scope}
 use Rattle.checking.specs.declared.Fault.{Fault}
 use Rattle.checking.specs.declared.Fault.the-variants.{Clear, Refused}
@@ -39,11 +39,10 @@ when b n p r = if b then blame n p ∷ r else r
 -- against a number of the command at place p with the first letter l
 abbrev pub ofNumber : Scope → ℕ → ℕ → Figure → List Blame → List Blame
 ofNumber s p l f r =
-    let d = distance l (f .word) (f .index) in
+    let v = scaledBy (s .a) (s .b) l (f .word) (f .index) (f .size) in
     when (ltb largest (f .size)) 3 (f .place)
-    (when (d && not (eqb (s .a * f .size % s .b) 0)) 5 (f .place)
-    (when (d && ltb largest (s .a * f .size / s .b)) 6 (f .place)
-    (when (eqb (f .size) 0 && vital l (f .word) (f .index) (f .zero)) 7 p r)))
+    (when (ltb largest v) 6 (f .place)
+    (when (eqb v 0 && vital l (f .word) (f .index) (f .zero)) 7 p r))
 
 unfoldable pub ofNumbers : Scope → ℕ → ℕ → List Figure → List Blame → List Blame
 ofNumbers s p l [] r = r
@@ -91,14 +90,19 @@ scopeAfter s c =
     let ns = numbers c in
     scopeBy s (c .letter) (lastLetter c) (sizeAt 1 ns 1) (sizeAt 1 ns 2) (packedBy firstUnit (letters (c .items)))
 
--- 01: for all commands in text order
-unfoldable pub faultFrom : Scope → List Written → Fault
-faultFrom s [] = Clear
-faultFrom s (c ∷ cs) = faultBy (foremost (blames s c)) (faultFrom (scopeAfter s c) cs)
+-- 02, request 2: how many numbers of a command with the first letter l are rounded
+unfoldable pub roundedOf : Scope → ℕ → List Figure → ℕ
+roundedOf s l [] = 0
+roundedOf s l (f ∷ fs) = roundedBy (s .a) (s .b) l (f .word) (f .index) (f .size) + roundedOf s l fs
+
+-- 01: for all commands in text order; where there is no fault, how many numbers are rounded, after k of them
+unfoldable pub faultFrom : Scope → ℕ → List Written → Fault
+faultFrom s k [] = Clear k
+faultFrom s k (c ∷ cs) = faultBy (foremost (blames s c)) (faultFrom (scopeAfter s c) (k + roundedOf s (c .letter) (numbers c)) cs)
 
 abbrev pub atStart : Scope
 atStart = scope false 1 1 0 0
 
 -- the account's first fault of a marked text
 abbrev pub faultOf : List Letter → Fault
-faultOf m = faultFrom atStart (written (pieces 0 0 m))
+faultOf m = faultFrom atStart 0 (written (pieces 0 0 m))

@@ -11,7 +11,7 @@ use Rattle.pieces.specs.declared.Piece.{Piece}
 use Rattle.pieces.specs.declared.Piece.the-variants.{First, Second, Number, Word, Stop}
 use Rattle.rules.specs.Letters.{noRefusal, byteUnit, firstUnit}
 use Rattle.rules.specs.Written.{turning, one}
-use Rattle.rules.specs.Rules.{numberNo, wholeNo}
+use Rattle.rules.specs.Rules.{scaledBy, roundedBy, numberNo, wholeNo}
 use Rattle.checking.specs.Account.{layerOf, refusal, scopeBy}
 use Rattle.checking.specs.declared.Scope.{Scope}
 use Rattle.checking.specs.declared.Doing.{Doing}
@@ -31,9 +31,9 @@ blamed k n here place at = if ltb k n then (if eqb k 7 then place else here) els
 abbrev pub kept : ℕ → ℕ → ℕ → ℕ → ℕ
 kept i k n old = if eqb i k then n else old
 
--- a command of which nothing but its first letter is known; one begins, or none is there
-unfoldable pub fresh : Bool → ℕ → ℕ → Doing
-fresh z p l = record {
+-- a command of which nothing but its first letter is known; one begins, or none is there, after k rounded numbers
+unfoldable pub fresh : Bool → ℕ → ℕ → ℕ → Doing
+fresh z p l k = record {
   busy = z;
   place = p;
   letter = l;
@@ -47,18 +47,19 @@ fresh z p l = record {
   name = 0;
   no = noRefusal;
   at = 0;
+  rounded = k;
 }
 
-abbrev pub begun : ℕ → ℕ → Doing
-begun p l = fresh true p l
+abbrev pub begun : ℕ → ℕ → ℕ → Doing
+begun p l k = fresh true p l k
 
-abbrev pub idle : Doing
-idle = fresh false 0 0
+abbrev pub idle : ℕ → Doing
+idle k = fresh false 0 0 k
 
 -- with a number at place p of size n; with a letter w
 unfoldable pub counted : Scope → Doing → ℕ → ℕ → Doing
 counted s c p n =
-    let k = numberNo (s .a) (s .b) (c .letter) (c .word) (c .count) (c .zero) n in
+    let k = numberNo (c .letter) (c .word) (c .count) (c .zero) n (scaledBy (s .a) (s .b) (c .letter) (c .word) (c .count) n) in
     record {
       busy = c .busy;
       place = c .place;
@@ -73,6 +74,7 @@ counted s c p n =
       name = c .name;
       no = lower k (c .no);
       at = blamed k (c .no) p (c .place) (c .at);
+      rounded = c .rounded + roundedBy (s .a) (s .b) (c .letter) (c .word) (c .count) n;
     }
 
 unfoldable pub worded : Doing → ℕ → Doing
@@ -90,6 +92,7 @@ worded c w = record {
   name = c .name + w * c .unit;
   no = c .no;
   at = c .at;
+  rounded = c .rounded;
 }
 
 -- at the end of a command: what stands then, or the refusal
@@ -111,12 +114,12 @@ onward f (Broken r) = Refused r
 
 -- the first fault of the pieces that are left
 unfoldable pub runs : List Piece → Scope → Doing → Fault
-runs [] s c = onward (λ t. Clear) (finished s c)
-runs (First p b ∷ xs) s c = onward (λ t. runs xs t (begun p b)) (finished s c)
+runs [] s c = onward (λ t. Clear (c .rounded)) (finished s c)
+runs (First p b ∷ xs) s c = onward (λ t. runs xs t (begun p b (c .rounded))) (finished s c)
 runs (Second b ∷ xs) s c = runs xs s (worded c b)
 runs (Number p σ n ∷ xs) s c = runs xs s (counted s c p n)
 runs (Word b ∷ xs) s c = runs xs s (worded c b)
-runs (Stop ∷ xs) s c = onward (λ t. runs xs t idle) (finished s c)
+runs (Stop ∷ xs) s c = onward (λ t. runs xs t (idle (c .rounded))) (finished s c)
 
 -- what the code needs so that nothing wraps: a scale that can be divided by, and counts within the bytes read
 pub record Fair (s : Scope) : Type 0 where
@@ -125,6 +128,7 @@ pub record Fair (s : Scope) : Type 0 where
 
 pub record Sane (n : ℕ) (c : Doing) : Type 0 where
   pub count : c .count ≤ n
+  pub rounded : c .rounded ≤ n
   pub turns : c .turns ≤ n
   pub a : c .a ≤ tooLarge
   pub name : c .name + byteUnit * c .unit ≤ byteUnit * firstUnit

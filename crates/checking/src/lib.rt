@@ -5,7 +5,7 @@ ghost use mathlib.Core.Path.{_≡_};
 ghost use mathlib.Core.Bool.{true, false};
 ghost use Prim.Native.Nat.{_+_, _≤_};
 ghost use Rattle.grammar.specs.Steps.{KindsLent, NextLent};
-ghost use Rattle.pieces.specs.Pieces.{farthest, stream, start};
+ghost use Rattle.pieces.specs.Pieces.{farthest, tooLarge, stream, start};
 ghost use Rattle.rules.specs.Written.{turning, one};
 ghost use Rattle.checking.specs.Account.{layerOf, scope, atStart};
 ghost use Rattle.checking.specs.Along.{lower, blamed, kept, fresh, idle, counted, worded, afterDoing, finished, runs, Fair, Sane};
@@ -19,14 +19,15 @@ pub struct Scope {
     pub inner: usize,
 }
 
-// What is said of a text: nothing, or a refusal.
+// What is said of a text: nothing against it, and how many of its distances are rounded; or a refusal.
 pub enum Fault {
-    Clear,
+    Clear(usize),
     Refused(Refusal),
 }
 
 // The command that is being checked: its place and first letter, its last letter, how many numbers it has had and whether the last was 0, its
-// transformations, what its next letter counts in its name, its second and third number, its name, and its lowest refusal so far with the place.
+// transformations, what its next letter counts in its name, its second and third number, its name, its lowest refusal so far with the place, and how many
+// distances of the text are rounded so far.
 pub struct Doing {
     pub busy: bool,
     pub place: usize,
@@ -41,6 +42,7 @@ pub struct Doing {
     pub name: usize,
     pub no: usize,
     pub at: usize,
+    pub rounded: usize,
 }
 
 // How a command ends: what stands then, or its refusal.
@@ -103,8 +105,8 @@ fn more_turns(turns: usize, b: u8) -> usize
     turns
 }
 
-fn new_command(busy: bool, place: usize, letter: u8) -> Doing
-    ensures { λ r. ⌜ r ≡ fresh busy place letter ⌝ }
+fn new_command(busy: bool, place: usize, letter: u8, rounded: usize) -> Doing
+    ensures { λ r. ⌜ r ≡ fresh busy place letter rounded ⌝ }
 {
     Doing {
         busy,
@@ -120,14 +122,16 @@ fn new_command(busy: bool, place: usize, letter: u8) -> Doing
         name: 0,
         no: rules::NO_REFUSAL,
         at: 0,
+        rounded,
     }
 }
 
 fn add_number(s: Scope, c: Doing, p: usize, n: usize) -> Doing
-    requires { ⌜ Fair s × Sane farthest c ⌝ }
+    requires { ⌜ Fair s × Sane farthest c × (n ≤ tooLarge) ⌝ }
     ensures { λ r. ⌜ r ≡ counted s c p n ⌝ }
 {
-    let k = rules::number_no(s.a, s.b, c.letter, c.word, c.count, c.zero, n);
+    let v = rules::scaled(s.a, s.b, c.letter, c.word, c.count, n);
+    let k = rules::number_no(c.letter, c.word, c.count, c.zero, n, v.value);
     let a = keep(c.count, 1, n, c.a);
     let b = keep(c.count, 2, n, c.b);
     let no = lower_of(k, c.no);
@@ -146,6 +150,7 @@ fn add_number(s: Scope, c: Doing, p: usize, n: usize) -> Doing
         name: c.name,
         no,
         at,
+        rounded: c.rounded + v.rounded,
     }
 }
 
@@ -169,6 +174,7 @@ fn add_letter(c: Doing, w: u8) -> Doing
         name,
         no: c.no,
         at: c.at,
+        rounded: c.rounded,
     }
 }
 
@@ -265,11 +271,11 @@ fn finish(s: Scope, c: Doing) -> Ended
 
 pub fn checked(text: &[u8], kinds: &[u8; 256], next: &[u16; grammar::tables::ENTRY_COUNT]) -> Fault
     requires { ⌜ KindsLent (now kinds) × NextLent (now next) ⌝ }
-    ensures { λ r. ⌜ r ≡ runs (stream (now (text .entry)) start) atStart idle ⌝ }
+    ensures { λ r. ⌜ r ≡ runs (stream (now (text .entry)) start) atStart (idle 0) ⌝ }
 {
     let mut spot = pieces::Spot { at: 0, state: 0 };
     let mut s = without(0);
-    let mut c = new_command(false, 0, 0);
+    let mut c = new_command(false, 0, 0, 0);
     loop {
         let m = pieces::next_mark(text, kinds, next, spot);
         let mark = m.mark;
@@ -287,14 +293,14 @@ pub fn checked(text: &[u8], kinds: &[u8; 256], next: &[u16; grammar::tables::ENT
                 }
                 Ended::Then(t) => {
                     if mark == grammar::tables::SKIP {
-                        return Fault::Clear;
+                        return Fault::Clear(c.rounded);
                     }
                     s = t;
                     spot = m.to;
                     if mark == grammar::tables::HEAD {
-                        c = new_command(true, m.at, m.byte);
+                        c = new_command(true, m.at, m.byte, c.rounded);
                     } else {
-                        c = new_command(false, 0, 0);
+                        c = new_command(false, 0, 0, c.rounded);
                     }
                 }
             }

@@ -28,7 +28,8 @@ use Rattle.pieces.specs.declared.Piece.{Piece}
 use Rattle.pieces.specs.declared.Piece.the-variants.{First, Second, Number, Word, Stop}
 use Rattle.rules.specs.Letters.{letterC, letterM, byteUnit, firstUnit}
 use Rattle.rules.specs.Written.{Written, itemsOf, stops, written, writtenAt, letters, lastOf, packedBy, one, insideBehind}
-use Rattle.rules.specs.Rules.{distance}
+use Rattle.rules.specs.Rules.{scaledBy, roundedBy, scaledTo}
+use Rattle.rules.specs.declared.AtScale.{AtScale}
 use Rattle.commands.specs.Words.{widest, held, signed, word, valueOf, letterWords, bodyOf, tally, kindBy, framed, wordsOf, Writes, lineNumber, lineLetter, Lined, closed, Closed, Tells, insideFirst, preceding, lettersOn, pieceEnd, piecesOn, ReadsCommand, ReadsItems}
 use Rattle.commands.specs.declared.Line.{Line}
 use Rattle.commands.specs.declared.Read.{Read}
@@ -97,11 +98,12 @@ put-in l at v r h e = record { next = refl; laid = ap (λ (z : ℤ). set l at z)
 pub put-out : (l : List ℤ) (at : ℕ) (v : ℤ) → length l ≤ at → Writes l at (v ∷ []) (at + 1) l
 put-out l at v h = record { next = refl; laid = sym (set-out l at v h) }
 
-pub lined-number : (ws ws′ : List ℤ) (c : Line) (a b l : ℕ) (σ : Bool) (n v at : ℕ) → v ≡ choose (distance l (c .word) (c .count)) (a * n / b) n → Writes ws (c .at) (word σ v ∷ []) at ws′
+pub lined-number : (ws ws′ : List ℤ) (c : Line) (a b l : ℕ) (σ : Bool) (n : ℕ) (v : AtScale) (at : ℕ) → v ≡ scaledTo (scaledBy a b l (c .word) (c .count) n) (roundedBy a b l (c .word) (c .count) n)
+    → Writes ws (c .at) (word σ (v .value) ∷ []) at ws′
     → Lined ws (c .at) (valueOf a b l (c .word) (c .count) σ n ∷ []) (lineNumber c) (record { at = at; word = c .word; count = c .count + 1; unit = c .unit; name = c .name }) ws′
 lined-number ws ws′ c a b l σ n v at ev w = record {
   line = ap (λ (k : ℕ). record { at = k; word = c .word; count = c .count + 1; unit = c .unit; name = c .name }) (w .next);
-  laid = w .laid ∙ ap (λ (k : ℕ). sets ws (c .at) (word σ k ∷ [])) ev;
+  laid = w .laid ∙ ap (λ (k : AtScale). sets ws (c .at) (word σ (k .value) ∷ [])) ev;
 }
 
 pub lined-letter : (ws ws′ : List ℤ) (c : Line) (l x y at : ℕ) → y ≡ c .name + x * c .unit → Writes ws (c .at) (letterWords l x) at ws′

@@ -138,7 +138,7 @@ fn line_number(
     ensures { λ r. ⌜ Lined (now (words .entry)) (c .at) (valueOf a b letter (c .word) (c .count) minus n ∷ []) (lineNumber c) r (now (words .exit)) ⌝ }
 {
     let v = rules::scaled(a, b, letter, c.word, c.count, n);
-    let at = put_word(words, c.at, minus, v);
+    let at = put_word(words, c.at, minus, v.value);
     Line {
         at,
         word: c.word,

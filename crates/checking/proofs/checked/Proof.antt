@@ -32,7 +32,8 @@ read-number-requires : tie.Need-read-number-requires Inv-loop μ-loop
 read-number-requires c κs = search needs
 
 add-number-requires : tie.Need-add-number-requires Inv-loop μ-loop
-add-number-requires c κs = (c .before .before .before .loop .inv .fair, sane-up _ _ _ (omega arith) (c .before .before .before .loop .inv .sane))
+unfolding number
+add-number-requires c κs = (c .before .before .before .loop .inv .fair, sane-up _ _ _ (omega arith) (c .before .before .before .loop .inv .sane), c .read-number .ensures .0 _ (c .before .before .next-mark .ensures .led (c .before .if1 .taken)) .small)
 
 loop-less : tie.Need-loop-less Inv-loop μ-loop
 unfolding number
