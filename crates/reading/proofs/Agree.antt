@@ -4,7 +4,8 @@ use mathlib.Core.Path.{_≡_, refl, sym, ap, ap₂, _∙_, subst}
 use mathlib.Core.Bool.{Bool, true, false, not, _&&_, _||_, and-false}
 use mathlib.Core.List.{List, [], _∷_, _++_, flatMap}
 use mathlib.Core.Option.{Option, none, some}
-use Prim.Native.Nat.{ℕ, _*_, _/_, _%_, _≤_, _<_}
+use Prim.Native.Nat.{ℕ, _+_, _*_, _%_, _≤_, _<_}
+use native.Mathlib.Nat.{zero-add}
 use native.Mathlib.Omega.{arith}
 use borrow.Author.Tests.{lt-ltb, ltb-false, eqb-false}
 use lib.Dec.{ltb, eqb}
@@ -14,10 +15,12 @@ use Rattle.grammar.specs.Notation.{Letter}
 use Rattle.grammar.specs.Viable.{Marked}
 use Rattle.definition.specs.Limits.{largest}
 use Rattle.definition.specs.declared.Refusal.{Refusal}
-use Rattle.definition.specs.Rules.{Rule, numberTooLarge, zeroFactor, notWhole, scaledTooLarge, degenerateCommand, noLayer, tooManyParts, numberOf, refuse}
+use Rattle.definition.specs.Rules.{Rule, numberTooLarge, zeroFactor, scaledTooLarge, degenerateCommand, noLayer, tooManyParts, numberOf, refuse}
 use Rattle.definition.specs.Words.{if_then_else_, Placed, at, any, those, first}
 use Rattle.definition.specs.Commands.{Number, Command, start, finish, layer, commands}
-use Rattle.definition.specs.Standing.{Standing, outside, after, scaled, whole}
+use Rattle.definition.specs.Standing.{Standing, outside, after, nearest, scaled, whole}
+use Rattle.definition.specs.Rounded.{ragged, roundedFrom, rounded}
+use Rattle.definition.proofs.Nearest.{abs-scaled}
 use Rattle.definition.specs.Faults.{beyond, zero?, partsOf, distances, numbersOf, zeroScale, degenerate, layerless, tooMany, atNumbers, atCommand, faults, allFaults, firstFault}
 use Rattle.laws.proofs.Lists.Range.{All, all-++}
 use Rattle.laws.proofs.Commands.Made.{Name}
@@ -27,7 +30,7 @@ use Rattle.pieces.specs.Pieces.{capped}
 use Rattle.rules.specs.Letters.{firstUnit}
 use Rattle.rules.specs.Written.{Written, numbers, letters, figures, lastOf, lastLetter, sizeAt, packedBy, turnsOf}
 use Rattle.rules.specs.Rules.{scaleless, few, bare, many}
-use Rattle.checking.specs.Account.{layerOf, Blame, blame, ofNumbers, ofWhole, blames, foremost, faultBy, scopeAfter, faultFrom, atStart, faultOf}
+use Rattle.checking.specs.Account.{layerOf, Blame, blame, ofNumbers, ofWhole, blames, foremost, faultBy, scopeAfter, roundedOf, faultFrom, atStart, faultOf}
 use Rattle.reading.specs.Refusal.{faultSaid}
 use Rattle.checking.specs.declared.Scope.{Scope}
 use Rattle.checking.specs.declared.Fault.{Fault}
@@ -35,9 +38,9 @@ use Rattle.laws.proofs.FlatFile.Said.{or-first, or-second}
 use Rattle.commands.specs.Words.{signed}
 use Rattle.reading.proofs.Says.{tells, Says, a-polygon, a-box, a-turned-box, a-flash, a-wire, a-layer, a-call, a-start, a-scaled-start, a-finish, a-deletion, a-nothing, AllSay, none-said, one-said}
 use Rattle.reading.proofs.AllSay.{all-say}
-use Rattle.reading.proofs.Foremost.{pick, chosen, find, foremost-is, headOf, found, head-numbers, head-command, alike, Numbered}
-use Rattle.reading.proofs.Marks.{Mark, foundBy, marksOf, all-marks, far-marks, weighty, fewPoints, abs-scaled, weights}
-use Rattle.reading.proofs.Blames.{capped-exact, sees-none, sees-3, sees-5, sees-6, sees-7, all-of-numbers, Wholly, of-whole}
+use Rattle.reading.proofs.Foremost.{pick, chosen, find, foremost-is, headOf, along, found, head-numbers, head-command, alike, Numbered}
+use Rattle.reading.proofs.Marks.{Mark, alongMarks, foundBy, onePlace, marksOf, all-marks, far-marks, far-counted, weightyAt, fewPoints, weights}
+use Rattle.reading.proofs.Blames.{capped-exact, sees-none, sees-3, sees-6, sees-7, sees-rounded, all-of-numbers, Wholly, of-whole}
 use Rattle.reading.proofs.Facing.{abs-signed, letters-words, Faces, faces}
 use Rattle.reading.proofs.Packed.{packed, packed-none}
 
@@ -71,25 +74,37 @@ unless-some true p x e = absurd (let z : _≡_ {A = ℕ} 0 1 = cc in omega arith
 unless-some false p x e = (refl, e)
 
 by-none : (h : Mark → Bool) (ms : List Mark) → foundBy h ms none ≡ none → All (λ m. h m ≡ false) ms
-unfolding foundBy All
+unfolding alongMarks All
 by-none h [] e = tt
 by-none h (m ∷ ms) e = let r = unless-some (h m) _ _ e in (r .0, by-none h ms (r .1))
 
-found-none : (t : ℤ → Bool) (zs : List Number) → found t zs none ≡ none → All (λ z. t (z .what) ≡ false) zs
-unfolding found All
-found-none t [] e = tt
-found-none t (z ∷ zs) e = let r = unless-some (t (z .what)) _ _ e in (r .0, found-none t zs (r .1))
+none-found : (t : ℤ → Bool) (zs : List Number) → All (λ z. t (z .what) ≡ false) zs → found t zs none ≡ none
+unfolding along All
+none-found t [] a = refl
+none-found t (z ∷ zs) a = rw (a .0) (none-found t zs (a .1))
 
 by-same : (h g : Mark → Bool) → ((m : Mark) → h m ≡ g m) → (ms : List Mark) (x : Option ℕ) → foundBy h ms x ≡ foundBy g ms x
-unfolding foundBy
+unfolding alongMarks
 by-same h g e [] x = refl
 by-same h g e (m ∷ ms) x = ap₂ {C = Option ℕ} (λ (b : Bool) (y : Option ℕ). if b then some (m .number .place) else y) (e m) (by-same h g e ms x)
+
+by-count : (h g : Mark → Bool) → ((m : Mark) → h m ≡ g m) → (ms : List Mark) → alongMarks onePlace h ms 0 ≡ alongMarks onePlace g ms 0
+unfolding alongMarks
+by-count h g e [] = refl
+by-count h g e (m ∷ ms) = ap₂ {C = ℕ} (λ (b : Bool) (n : ℕ). (if b then 1 else 0) + n) (e m) (by-count h g e ms)
 
 any-const : {A : Type 0} (b : Bool) (l : List A) → (any (λ x. true) l && b) ≡ any (λ x. b) l
 unfolding any
 any-const b [] = refl
 any-const true (x ∷ l) = refl
 any-const false (x ∷ l) = sym (and-false (any (λ y. true) l)) ∙ any-const false l
+
+-- what no fault says
+pub record Faultless (σ : Standing) (d : Placed Command) : Type 0 where
+  pub near : All (λ (z : Number). beyond (z .what) ≡ false) (numbersOf (d .what))
+  pub scale : zeroScale (d .what) ≡ false
+  pub near-distances : All (λ (z : Number). beyond (scaled σ (z .what)) ≡ false) (distances (d .what))
+  pub not-many : tooMany (d .what) ≡ false
 
 -- ---- one command
 
@@ -124,44 +139,42 @@ module _ (s : Scope) (σ : Standing) (g : Fits s σ) (c : Written) (d : Placed C
 
   four : find 4 all ≡ if-place (zeroScale (d .what))
   four =
-      sees-none s p l wholly 4 refl refl refl refl (numbers c)
+      sees-none s p l wholly 4 refl refl refl (numbers c)
       ∙ (wh .four
       ∙ ap₂ {C = Option ℕ} (λ (b : Bool) (q : ℕ). if b then some q else none) (k .scale) (k .place))
-
-  five : find 3 all ≡ none → find 5 all ≡ found (λ z. not (whole σ z)) (distances (d .what)) none
-  five e =
-      sees-5 s p l wholly (k .sees) (near e)
-      ∙ (ap (foundBy (λ m. m .far && not (eqb (s .a * natAbs (m .number .what) % s .b) 0)) ms) (wh .none-else 5 refl refl refl refl)
-      ∙ (by-same (λ m. m .far && not (eqb (s .a * natAbs (m .number .what) % s .b) 0)) (λ m. m .far && not (whole σ (m .number .what)))
-      (λ m. ap₂ {C = Bool} (λ (a b : ℕ). m .far && not (eqb (a * natAbs (m .number .what) % b) 0)) (g .scale .same-a) (g .scale .same-b) ∙ unfold whole in refl) ms none
-      ∙ far-marks (λ z. not (whole σ z)) (d .what) none))
 
   six : find 3 all ≡ none → find 6 all ≡ found (λ z. beyond (scaled σ z)) (distances (d .what)) none
   six e =
       sees-6 s p l wholly (k .sees) (near e)
-      ∙ (ap (foundBy (λ m. m .far && ltb largest (s .a * natAbs (m .number .what) / s .b)) ms) (wh .none-else 6 refl refl refl refl)
-      ∙ (by-same (λ m. m .far && ltb largest (s .a * natAbs (m .number .what) / s .b)) (λ m. m .far && beyond (scaled σ (m .number .what)))
-      (λ m. ap₂ {C = Bool} (λ (a b : ℕ). m .far && ltb largest (a * natAbs (m .number .what) / b)) (g .scale .same-a) (g .scale .same-b)
+      ∙ (ap (foundBy (λ m. m .far && ltb largest (nearest (s .a * natAbs (m .number .what)) (s .b))) ms) (wh .none-else 6 refl refl refl refl)
+      ∙ (by-same (λ m. m .far && ltb largest (nearest (s .a * natAbs (m .number .what)) (s .b))) (λ m. m .far && beyond (scaled σ (m .number .what)))
+      (λ m. ap₂ {C = Bool} (λ (a b : ℕ). m .far && ltb largest (nearest (a * natAbs (m .number .what)) b)) (g .scale .same-a) (g .scale .same-b)
       ∙ ap (λ (n : ℕ). m .far && ltb largest n) (sym (abs-scaled σ (m .number .what))) ∙ unfold beyond in refl) ms none
       ∙ far-marks (λ z. beyond (scaled σ z)) (d .what) none))
 
-  seven : find 3 all ≡ none → find 5 all ≡ none → find 7 all ≡ if-place (degenerate σ (d .what))
-  seven e₃ e₅ =
-      sees-7 s p l wholly (k .sees)
-      ∙ (ap (λ (y : Option ℕ). if any weighty ms then some p else y)
-      (wh .seven
-      ∙ ap (λ (b : Bool). if b then some p else none) (k .few-points))
-      ∙ (nest (any weighty ms) (fewPoints (d .what))
-      ∙ ap₂ {C = Option ℕ} (λ (b : Bool) (q : ℕ). if b then some q else none)
-      (weights σ (g .scale .some-a) (g .scale .some-b) (d .what) (found-none (λ z. not (whole σ z)) (distances (d .what)) (sym (five e₃) ∙ e₅))) (k .place)))
+  seven : find 3 all ≡ none → find 7 all ≡ if-place (degenerate σ (d .what))
+  seven e₃ =
+      sees-7 s p l wholly (k .sees) (near e₃)
+      ∙ (ap (λ (y : Option ℕ). if any heavy ms then some p else y) (wh .seven ∙ ap (λ (b : Bool). if b then some p else none) (k .few-points))
+      ∙ (nest (any heavy ms) (fewPoints (d .what)) ∙ ap₂ {C = Option ℕ} (λ (b : Bool) (q : ℕ). if b then some q else none) weighed (k .place)))
     where
+      heavy : Mark → Bool
+      heavy m = weightyAt (s .a) (s .b) m
+
+      weighed : (any heavy ms || fewPoints (d .what)) ≡ degenerate σ (d .what)
+      weighed =
+          ap₂ {C = Bool} (λ (a b : ℕ). any (λ m. weightyAt a b m) ms || fewPoints (d .what)) (g .scale .same-a) (g .scale .same-b) ∙ weights σ (d .what)
+
       nest : (a b : Bool) → (if a then some p else (if b then some p else none)) ≡ (if a || b then some p else none)
       nest true b = refl
       nest false b = refl
 
+  five : find 5 all ≡ none
+  five = sees-none s p l wholly 5 refl refl refl (numbers c) ∙ wh .none-else 5 refl refl refl refl
+
   eight : find 8 all ≡ if-place (layerless σ (d .what))
   eight =
-      sees-none s p l wholly 8 refl refl refl refl (numbers c)
+      sees-none s p l wholly 8 refl refl refl (numbers c)
       ∙ (wh .eight
       ∙ ap₂ {C = Option ℕ} (λ (b : Bool) (q : ℕ). if b then some q else none) layers (k .place))
     where
@@ -172,29 +185,26 @@ module _ (s : Scope) (σ : Standing) (g : Fits s σ) (c : Written) (d : Placed C
 
   nine : find 9 all ≡ if-place (tooMany (d .what))
   nine =
-      sees-none s p l wholly 9 refl refl refl refl (numbers c)
+      sees-none s p l wholly 9 refl refl refl (numbers c)
       ∙ (wh .nine
       ∙ ap₂ {C = Option ℕ} (λ (b : Bool) (q : ℕ). if b then some q else none) (k .too-many) (k .place))
 
   faults-head : headOf (faults σ d)
       ≡ pick (found beyond (numbersOf (d .what)) none) 3
       (pick (if-place (zeroScale (d .what))) 4
-      (pick (found (λ z. not (whole σ z)) (distances (d .what)) none) 5
       (pick (found (λ z. beyond (scaled σ z)) (distances (d .what)) none) 6
-      (pick (if-place (degenerate σ (d .what))) 7 (pick (if-place (layerless σ (d .what))) 8 (pick (if-place (tooMany (d .what))) 9 (blame 10 0)))))))
+      (pick (if-place (degenerate σ (d .what))) 7 (pick (if-place (layerless σ (d .what))) 8 (pick (if-place (tooMany (d .what))) 9 (blame 10 0))))))
   unfolding faults
   faults-head =
       head-numbers numberTooLarge beyond (numbersOf (d .what)) _
       ∙ ap (pick (found beyond (numbersOf (d .what)) none) 3)
       (head-command zeroFactor (zeroScale (d .what)) (d .place) _
       ∙ ap (pick (if-place (zeroScale (d .what))) 4)
-      (head-numbers notWhole (λ z. not (whole σ z)) (distances (d .what)) _
-      ∙ ap (pick (found (λ z. not (whole σ z)) (distances (d .what)) none) 5)
       (head-numbers scaledTooLarge (λ z. beyond (scaled σ z)) (distances (d .what)) _
       ∙ ap (pick (found (λ z. beyond (scaled σ z)) (distances (d .what)) none) 6)
       (head-command degenerateCommand (degenerate σ (d .what)) (d .place) _
       ∙ ap (pick (if-place (degenerate σ (d .what))) 7)
-      (head-command noLayer (layerless σ (d .what)) (d .place) _ ∙ ap (pick (if-place (layerless σ (d .what))) 8) (last (tooMany (d .what))))))))
+      (head-command noLayer (layerless σ (d .what)) (d .place) _ ∙ ap (pick (if-place (layerless σ (d .what))) 8) (last (tooMany (d .what)))))))
     where
       last : (b : Bool) → headOf (atCommand tooManyParts b (d .place)) ≡ pick (if-place b) 9 (blame 10 0)
       last true = refl
@@ -210,22 +220,26 @@ module _ (s : Scope) (σ : Standing) (g : Fits s σ) (c : Written) (d : Placed C
       foremost-is all all-numbered
       ∙ (alike _ _ 3 _ _ three
       (λ e₃. alike _ _ 4 _ _ four
-      (λ e₄. alike _ _ 5 _ _ (five e₃)
+      (λ e₄. alike _ _ 5 _ _ five
       (λ e₅. alike _ _ 6 _ _ (six e₃)
-      (λ e₆. alike _ _ 7 _ _ (seven e₃ e₅)
+      (λ e₆. alike _ _ 7 _ _ (seven e₃)
       (λ e₇. alike _ _ 8 _ _ eight
       (λ e₈. alike _ _ 9 _ _ nine (λ e₉. refl)))))))
       ∙ sym faults-head)
 
--- ---- what stands behind it
+  -- and as many of its numbers are rounded
+  pub rounded-agreed : Faultless σ d → roundedOf s l (numbers c) ≡ length (ragged σ (d .what))
+  unfolding ragged
+  rounded-agreed f =
+      sees-rounded s l (k .sees) (near-marks (f .near))
+      ∙ (by-count (λ m. m .far && not (eqb (s .a * natAbs (m .number .what) % s .b) 0)) (λ m. m .far && not (whole σ (m .number .what)))
+      (λ m. ap₂ {C = Bool} (λ (a b : ℕ). m .far && not (eqb (a * natAbs (m .number .what) % b) 0)) (g .scale .same-a) (g .scale .same-b) ∙ unfold whole in refl) ms
+      ∙ far-counted (λ z. not (whole σ z)) (d .what))
+    where
+      near-marks : All (λ (z : Number). beyond (z .what) ≡ false) (numbersOf (d .what)) → All (λ m. beyond (m .number .what) ≡ false) ms
+      near-marks h = by-none (λ m. beyond (m .number .what)) ms (all-marks beyond (d .what) none ∙ none-found beyond (numbersOf (d .what)) h)
 
--- what no fault says
-pub record Faultless (σ : Standing) (d : Placed Command) : Type 0 where
-  pub near : All (λ (z : Number). beyond (z .what) ≡ false) (numbersOf (d .what))
-  pub scale : zeroScale (d .what) ≡ false
-  pub whole-distances : All (λ (z : Number). not (whole σ (z .what)) ≡ false) (distances (d .what))
-  pub near-distances : All (λ (z : Number). beyond (scaled σ (z .what)) ≡ false) (distances (d .what))
-  pub not-many : tooMany (d .what) ≡ false
+-- ---- what stands behind it
 
 no-atCommand : (n : Rule) (b : Bool) (p : ℕ) → atCommand n b p ≡ [] → b ≡ false
 no-atCommand n true p e = absurd (let z : _≡_ {A = ℕ} 0 1 = cc in omega arith)
@@ -236,17 +250,14 @@ unfolding faults
 faultless σ d e =
     let f₃ = atNumbers numberTooLarge beyond (numbersOf (d .what)) in
     let f₄ = atCommand zeroFactor (zeroScale (d .what)) (d .place) in
-    let f₅ = atNumbers notWhole (λ z. not (whole σ z)) (distances (d .what)) in
     let f₆ = atNumbers scaledTooLarge (λ z. beyond (scaled σ z)) (distances (d .what)) in
     let f₇ = atCommand degenerateCommand (degenerate σ (d .what)) (d .place) in
     let f₈ = atCommand noLayer (layerless σ (d .what)) (d .place) in
     let e₄ = nil-right f₃ _ e in
-    let e₅ = nil-right f₄ _ e₄ in
-    let e₆ = nil-right f₅ _ e₅ in
+    let e₆ = nil-right f₄ _ e₄ in
     record {
       near = at-numbers numberTooLarge beyond (numbersOf (d .what)) (nil-left f₃ _ e);
       scale = no-atCommand zeroFactor (zeroScale (d .what)) (d .place) (nil-left f₄ _ e₄);
-      whole-distances = at-numbers notWhole (λ z. not (whole σ z)) (distances (d .what)) (nil-left f₅ _ e₅);
       near-distances = at-numbers scaledTooLarge (λ z. beyond (scaled σ z)) (distances (d .what)) (nil-left f₆ _ e₆);
       not-many = no-atCommand tooManyParts (tooMany (d .what)) (d .place) (nil-right f₈ _ (nil-right f₇ _ (nil-right f₆ _ e₆)));
     }
@@ -367,26 +378,35 @@ unfolding faults
 low σ d =
     all-++ Low _ _ (low-numbers numberTooLarge (omega arith) beyond (numbersOf (d .what)))
     (all-++ Low _ _ (low-command zeroFactor (omega arith) (zeroScale (d .what)) (d .place))
-    (all-++ Low _ _ (low-numbers notWhole (omega arith) (λ z. not (whole σ z)) (distances (d .what)))
     (all-++ Low _ _ (low-numbers scaledTooLarge (omega arith) (λ z. beyond (scaled σ z)) (distances (d .what)))
     (all-++ Low _ _ (low-command degenerateCommand (omega arith) (degenerate σ (d .what)) (d .place))
-    (all-++ Low _ _ (low-command noLayer (omega arith) (layerless σ (d .what)) (d .place)) (low-command tooManyParts (omega arith) (tooMany (d .what)) (d .place)))))))
+    (all-++ Low _ _ (low-command noLayer (omega arith) (layerless σ (d .what)) (d .place)) (low-command tooManyParts (omega arith) (tooMany (d .what)) (d .place))))))
 
 -- the first of a command's, or of those behind it
-said : (f : Fault) (rs more : List Refusal) → All Low rs → (rs ≡ [] → f ≡ faultSaid (first more)) → faultBy (headOf rs) f ≡ faultSaid (first (rs ++ more))
+said : (f : Fault) (rs more : List Refusal) (n : ℕ) → All Low rs → (rs ≡ [] → f ≡ faultSaid (first more) n) → faultBy (headOf rs) f ≡ faultSaid (first (rs ++ more)) n
 unfolding first All
-said f [] more h k = k refl
-said f (r ∷ rs) more h k = rw (lt-ltb (r .number) 10 (h .0)) refl
+said f [] more n h k = k refl
+said f (r ∷ rs) more n h k = rw (lt-ltb (r .number) 10 (h .0)) refl
 
-pub fault-from : {cs : List Written} {ds : List (Placed Command)} → AllSay cs ds → (s : Scope) (σ : Standing) → Fits s σ → Ordered (σ .inside) ds
-    → faultFrom s cs ≡ faultSaid (first (allFaults σ ds))
-unfolding faultFrom allFaults Ordered
-fault-from none-said s σ g o = unfold first in refl
-fault-from (one-said {c} {d} {cs} {ds} x xs) s σ g o =
-    ap (λ (b : Blame). faultBy b (faultFrom (scopeAfter s c) cs)) (agreed s σ g c d (faces x))
-    ∙ said (faultFrom (scopeAfter s c) cs) (faults σ d) (allFaults (after (d .what) σ) ds) (low σ d)
-    (λ e. fault-from xs (scopeAfter s c) (after (d .what) σ) (fits-after s σ g x (o .0) (faultless σ d e))
-    (subst (λ (i : Bool). Ordered i ds) (sym (after-inside (d .what) σ)) (o .1)))
+pub fault-from : {cs : List Written} {ds : List (Placed Command)} → AllSay cs ds → (s : Scope) (σ : Standing) → Fits s σ → Ordered (σ .inside) ds → (n : ℕ)
+    → faultFrom s n cs ≡ faultSaid (first (allFaults σ ds)) (n + roundedFrom σ ds)
+unfolding faultFrom allFaults Ordered roundedFrom
+fault-from none-said s σ g o n = unfold first in ap (λ (k : ℕ). faultSaid none k) (omega arith)
+fault-from (one-said {c} {d} {cs} {ds} x xs) s σ g o n =
+    ap (λ (b : Blame). faultBy b (faultFrom (scopeAfter s c) n′ cs)) (agreed s σ g c d (faces x))
+    ∙ said (faultFrom (scopeAfter s c) n′ cs) (faults σ d) (allFaults (after (d .what) σ) ds) (n + (length (ragged σ (d .what)) + rest)) (low σ d)
+    (λ e. let f = faultless σ d e in
+    fault-from xs (scopeAfter s c) (after (d .what) σ) (fits-after s σ g x (o .0) f) (subst (λ (i : Bool). Ordered i ds) (sym (after-inside (d .what) σ)) (o .1)) n′
+    ∙ ap (faultSaid (first (allFaults (after (d .what) σ) ds))) (sum (rounded-agreed s σ g c d (faces x) f)))
+  where
+    n′ : ℕ
+    n′ = n + roundedOf s (c .letter) (numbers c)
+
+    rest : ℕ
+    rest = roundedFrom (after (d .what) σ) ds
+
+    sum : roundedOf s (c .letter) (numbers c) ≡ length (ragged σ (d .what)) → n′ + rest ≡ n + (length (ragged σ (d .what)) + rest)
+    sum e = omega arith
 
 pub fits-start : Fits atStart (outside [])
 unfolding packedBy
@@ -400,6 +420,7 @@ fits-start = record {
 }
 
 -- the account's first fault of a grammatical text is the definition's
-pub fault-is : {t : List ℕ} {m : List Letter} → Marked t m → faultOf m ≡ faultSaid (firstFault (commands 0 m))
-unfolding firstFault
-fault-is k = fault-from (all-say k) atStart (outside []) fits-start (ordered k 0)
+pub fault-is : {t : List ℕ} {m : List Letter} → Marked t m → faultOf m ≡ faultSaid (firstFault (commands 0 m)) (rounded (commands 0 m))
+unfolding firstFault rounded
+fault-is {m = m} k =
+    fault-from (all-say k) atStart (outside []) fits-start (ordered k 0) 0 ∙ ap (faultSaid (firstFault (commands 0 m))) (zero-add (roundedFrom (outside []) (commands 0 m)))

@@ -4,22 +4,24 @@ use mathlib.Core.Path.{_≡_, refl, sym, ap, ap₂, _∙_}
 use mathlib.Core.Bool.{Bool, true, false, not, _&&_, _||_, and-comm}
 use mathlib.Core.List.{List, [], _∷_}
 use mathlib.Core.Option.{Option, none, some}
-use Prim.Native.Nat.{ℕ, _*_, _/_, _%_}
+use Prim.Native.Nat.{ℕ, _+_, _*_, _%_}
+use native.Mathlib.Nat.{zero-add}
 use native.Mathlib.Omega.{arith}
 use lib.Dec.{ltb, eqb}
 use lib.IntN.{natAbs}
 use borrow.Author.Tests.{lt-ltb, ltb-false, ne-eqb}
 use Rattle.definition.specs.Words.{if_then_else_, any}
-use Rattle.definition.specs.Faults.{beyond, zero?}
+use Rattle.definition.specs.Standing.{nearest}
+use Rattle.definition.specs.Faults.{beyond}
 use Rattle.laws.proofs.Lists.Range.{All}
 use Rattle.definition.specs.Limits.{largest}
 use Rattle.pieces.specs.Pieces.{tooLarge, capped}
-use Rattle.rules.specs.Written.{Figure}
-use Rattle.rules.specs.Rules.{distance, vital, scaleless, few, bare, many}
-use Rattle.checking.specs.Account.{Blame, when, ofNumber, ofNumbers, ofWhole}
+use Rattle.rules.specs.Written.{Figure, one}
+use Rattle.rules.specs.Rules.{distance, scaledBy, vital, scaleless, few, bare, many}
+use Rattle.checking.specs.Account.{Blame, when, ofNumber, ofNumbers, ofWhole, roundedOf}
 use Rattle.checking.specs.declared.Scope.{Scope}
 use Rattle.reading.proofs.Foremost.{find, find-own, find-other, Numbered, all-when}
-use Rattle.reading.proofs.Marks.{Mark, foundBy, weighty}
+use Rattle.reading.proofs.Marks.{Mark, alongMarks, foundBy, onePlace, worthAt, weightyAt}
 
 -- ---- capped sizes
 
@@ -57,7 +59,7 @@ pub record Seen (l : ℕ) (f : Figure) (m : Mark) : Type 0 where
 pub record Absent (m : Mark) : Type 0 where
   pub near : beyond (m .number .what) ≡ false
   pub not-far : m .far ≡ false
-  pub light : weighty m ≡ false
+  pub light : m .vital ≡ false
 
 pub data Sees (l : ℕ) : List Figure → List Mark → Type 0 where
   no-more : Sees l [] []
@@ -75,14 +77,14 @@ module _ (s : Scope) (p l : ℕ) where
   abbrev test₃ : Figure → Bool
   test₃ f = ltb largest (f .size)
 
-  abbrev test₅ : Figure → Bool
-  test₅ f = distance l (f .word) (f .index) && not (eqb (s .a * f .size % s .b) 0)
+  abbrev value : Figure → ℕ
+  value f = scaledBy (s .a) (s .b) l (f .word) (f .index) (f .size)
 
   abbrev test₆ : Figure → Bool
-  test₆ f = distance l (f .word) (f .index) && ltb largest (s .a * f .size / s .b)
+  test₆ f = ltb largest (value f)
 
   abbrev test₇ : Figure → Bool
-  test₇ f = eqb (f .size) 0 && Rattle.rules.specs.Rules.vital l (f .word) (f .index) (f .zero)
+  test₇ f = eqb (value f) 0 && Rattle.rules.specs.Rules.vital l (f .word) (f .index) (f .zero)
 
   module _ (f : Figure) (r : List Blame) where
     abbrev from₇ : List Blame
@@ -91,74 +93,73 @@ module _ (s : Scope) (p l : ℕ) where
     abbrev from₆ : List Blame
     from₆ = when (test₆ f) 6 (f .place) from₇
 
-    abbrev from₅ : List Blame
-    from₅ = when (test₅ f) 5 (f .place) from₆
-
-    find-none : (k : ℕ) → eqb 3 k ≡ false → eqb 5 k ≡ false → eqb 6 k ≡ false → eqb 7 k ≡ false → find k (ofNumber s p l f r) ≡ find k r
-    find-none k e₃ e₅ e₆ e₇ =
-        find-other k 3 e₃ (test₃ f) (f .place) from₅
-        ∙ (find-other k 5 e₅ (test₅ f) (f .place) from₆ ∙ (find-other k 6 e₆ (test₆ f) (f .place) from₇ ∙ find-other k 7 e₇ (test₇ f) p r))
+    find-none : (k : ℕ) → eqb 3 k ≡ false → eqb 6 k ≡ false → eqb 7 k ≡ false → find k (ofNumber s p l f r) ≡ find k r
+    find-none k e₃ e₆ e₇ =
+        find-other k 3 e₃ (test₃ f) (f .place) from₆ ∙ (find-other k 6 e₆ (test₆ f) (f .place) from₇ ∙ find-other k 7 e₇ (test₇ f) p r)
 
     find-3 : find 3 (ofNumber s p l f r) ≡ (if test₃ f then some (f .place) else find 3 r)
     find-3 =
-        find-own 3 refl (test₃ f) (f .place) from₅
-        ∙ ap (λ (y : Option ℕ). if test₃ f then some (f .place) else y)
-        (find-other 3 5 refl (test₅ f) (f .place) from₆ ∙ (find-other 3 6 refl (test₆ f) (f .place) from₇ ∙ find-other 3 7 refl (test₇ f) p r))
-
-    find-5 : find 5 (ofNumber s p l f r) ≡ (if test₅ f then some (f .place) else find 5 r)
-    find-5 =
-        find-other 5 3 refl (test₃ f) (f .place) from₅
-        ∙ (find-own 5 refl (test₅ f) (f .place) from₆
-        ∙ ap (λ (y : Option ℕ). if test₅ f then some (f .place) else y) (find-other 5 6 refl (test₆ f) (f .place) from₇ ∙ find-other 5 7 refl (test₇ f) p r))
+        find-own 3 refl (test₃ f) (f .place) from₆
+        ∙ ap (λ (y : Option ℕ). if test₃ f then some (f .place) else y) (find-other 3 6 refl (test₆ f) (f .place) from₇ ∙ find-other 3 7 refl (test₇ f) p r)
 
     find-6 : find 6 (ofNumber s p l f r) ≡ (if test₆ f then some (f .place) else find 6 r)
     find-6 =
-        find-other 6 3 refl (test₃ f) (f .place) from₅
-        ∙ (find-other 6 5 refl (test₅ f) (f .place) from₆
-        ∙ (find-own 6 refl (test₆ f) (f .place) from₇ ∙ ap (λ (y : Option ℕ). if test₆ f then some (f .place) else y) (find-other 6 7 refl (test₇ f) p r)))
+        find-other 6 3 refl (test₃ f) (f .place) from₆
+        ∙ (find-own 6 refl (test₆ f) (f .place) from₇ ∙ ap (λ (y : Option ℕ). if test₆ f then some (f .place) else y) (find-other 6 7 refl (test₇ f) p r))
 
     find-7 : find 7 (ofNumber s p l f r) ≡ (if test₇ f then some p else find 7 r)
-    find-7 =
-        find-other 7 3 refl (test₃ f) (f .place) from₅
-        ∙ (find-other 7 5 refl (test₅ f) (f .place) from₆ ∙ (find-other 7 6 refl (test₆ f) (f .place) from₇ ∙ find-own 7 refl (test₇ f) p r))
+    find-7 = find-other 7 3 refl (test₃ f) (f .place) from₆ ∙ (find-other 7 6 refl (test₆ f) (f .place) from₇ ∙ find-own 7 refl (test₇ f) p r)
 
     all-of-number : All Numbered r → All Numbered (ofNumber s p l f r)
     all-of-number h =
-        all-when (test₃ f) 3 (f .place) from₅ (omega arith) (omega arith)
-        (all-when (test₅ f) 5 (f .place) from₆ (omega arith) (omega arith)
-        (all-when (test₆ f) 6 (f .place) from₇ (omega arith) (omega arith) (all-when (test₇ f) 7 p r (omega arith) (omega arith) h)))
+        all-when (test₃ f) 3 (f .place) from₆ (omega arith) (omega arith)
+        (all-when (test₆ f) 6 (f .place) from₇ (omega arith) (omega arith) (all-when (test₇ f) 7 p r (omega arith) (omega arith) h))
+
+  -- where no number is beyond, sizes are exact
+  abbrev Near : Mark → Type 0
+  Near m = beyond (m .number .what) ≡ false
+
+  exact : (f : Figure) (m : Mark) → Seen l f m → Near m → f .size ≡ natAbs (m .number .what)
+  unfolding beyond
+  exact f m x h = x .size ∙ capped-exact (natAbs (m .number .what)) h
+
+  value-is : (f : Figure) (m : Mark) → Seen l f m → Near m → value f ≡ worthAt (s .a) (s .b) m
+  value-is f m x h = ap₂ {C = ℕ} (λ (d : Bool) (n : ℕ). if d then nearest (s .a * n) (s .b) else n) (x .far) (exact f m x h)
 
   -- ---- against all numbers of a command
   module _ (r : List Blame) where
-    pub sees-none : (k : ℕ) → eqb 3 k ≡ false → eqb 5 k ≡ false → eqb 6 k ≡ false → eqb 7 k ≡ false → (fs : List Figure) → find k (ofNumbers s p l fs r) ≡ find k r
+    pub sees-none : (k : ℕ) → eqb 3 k ≡ false → eqb 6 k ≡ false → eqb 7 k ≡ false → (fs : List Figure) → find k (ofNumbers s p l fs r) ≡ find k r
     unfolding ofNumbers
-    sees-none k e₃ e₅ e₆ e₇ [] = refl
-    sees-none k e₃ e₅ e₆ e₇ (f ∷ fs) = find-none f (ofNumbers s p l fs r) k e₃ e₅ e₆ e₇ ∙ sees-none k e₃ e₅ e₆ e₇ fs
+    sees-none k e₃ e₆ e₇ [] = refl
+    sees-none k e₃ e₆ e₇ (f ∷ fs) = find-none f (ofNumbers s p l fs r) k e₃ e₆ e₇ ∙ sees-none k e₃ e₆ e₇ fs
 
     sees-found : (k : ℕ) (t : Figure → Bool) (h : Mark → Bool) (P : Mark → Type 0)
         → ((f : Figure) (q : List Blame) → find k (ofNumber s p l f q) ≡ (if t f then some (f .place) else find k q))
         → ((f : Figure) (m : Mark) → Seen l f m → P m → t f ≡ h m) → ((m : Mark) → Absent m → h m ≡ false)
         → {fs : List Figure} {ms : List Mark} → Sees l fs ms → All P ms → find k (ofNumbers s p l fs r) ≡ foundBy h ms (find k r)
-    unfolding ofNumbers foundBy All
+    unfolding ofNumbers alongMarks All
     sees-found k t h P own same skip no-more a = refl
     sees-found k t h P own same skip (left-out {m} x g) a = rw (skip m x) (sees-found k t h P own same skip g (a .1))
     sees-found k t h P own same skip (one-seen {f} {m} {fs} {ms} x g) a =
         own f (ofNumbers s p l fs r)
         ∙ rw (same f m x (a .0), x .place) (ap (λ (y : Option ℕ). if h m then some (m .number .place) else y) (sees-found k t h P own same skip g (a .1)))
 
-    pub sees-7 : {fs : List Figure} {ms : List Mark} → Sees l fs ms → find 7 (ofNumbers s p l fs r) ≡ (if any weighty ms then some p else find 7 r)
-    unfolding ofNumbers any
-    sees-7 no-more = refl
-    sees-7 (left-out {m} {ms} x g) = sees-7 g ∙ ap (λ (b : Bool). if b || any weighty ms then some p else find 7 r) (sym (x .light))
-    sees-7 (one-seen {f} {m} {fs} {ms} x g) =
+    abbrev heavy : Mark → Bool
+    heavy m = weightyAt (s .a) (s .b) m
+
+    pub sees-7 : {fs : List Figure} {ms : List Mark} → Sees l fs ms → All Near ms → find 7 (ofNumbers s p l fs r) ≡ (if any heavy ms then some p else find 7 r)
+    unfolding ofNumbers any All
+    sees-7 no-more a = refl
+    sees-7 (left-out {m} {ms} x g) a =
+        sees-7 g (a .1) ∙ ap (λ (b : Bool). if (b && eqb (worthAt (s .a) (s .b) m) 0) || any heavy ms then some p else find 7 r) (sym (x .light))
+    sees-7 (one-seen {f} {m} {fs} {ms} x g) a =
         find-7 f (ofNumbers s p l fs r)
-        ∙ (ap (λ (y : Option ℕ). if test₇ f then some p else y) (sees-7 g)
-        ∙ (ap (λ (b : Bool). if b then some p else (if any weighty ms then some p else find 7 r)) weight ∙ nest (weighty m) (any weighty ms)))
+        ∙ (ap (λ (y : Option ℕ). if test₇ f then some p else y) (sees-7 g (a .1))
+        ∙ (ap (λ (b : Bool). if b then some p else (if any heavy ms then some p else find 7 r)) weight ∙ nest (heavy m) (any heavy ms)))
       where
-        weight : test₇ f ≡ weighty m
+        weight : test₇ f ≡ heavy m
         weight =
-            ap₂ (λ (a b : Bool). a && b) (ap (λ (n : ℕ). eqb n 0) (x .size) ∙ capped-zero (natAbs (m .number .what))) (x .vital)
-            ∙ and-comm (zero? (m .number .what)) (m .vital)
+            ap₂ (λ (b c : Bool). b && c) (ap (λ (n : ℕ). eqb n 0) (value-is f m x (a .0))) (x .vital) ∙ and-comm (eqb (worthAt (s .a) (s .b) m) 0) (m .vital)
 
         nest : (a b : Bool) → (if a then some p else (if b then some p else find 7 r)) ≡ (if a || b then some p else find 7 r)
         nest true b = refl
@@ -170,32 +171,46 @@ module _ (s : Scope) (p l : ℕ) where
         sees-found 3 test₃ (λ m. beyond (m .number .what)) (λ m. Unit {0}) find-3 (λ f m x u. ap (λ (n : ℕ). ltb largest n) (x .size) ∙ capped-beyond (natAbs (m .number .what)))
         (λ m x. x .near) g (all-unit ms)
 
-    -- where no number is beyond, sizes are exact
-    abbrev Near : Mark → Type 0
-    Near m = beyond (m .number .what) ≡ false
+    -- a number that is no distance and not beyond stays so
+    far-test : Mark → Bool
+    far-test m = m .far && ltb largest (nearest (s .a * natAbs (m .number .what)) (s .b))
 
-    exact : (f : Figure) (m : Mark) → Seen l f m → Near m → f .size ≡ natAbs (m .number .what)
-    unfolding beyond
-    exact f m x h = x .size ∙ capped-exact (natAbs (m .number .what)) h
-
-    pub sees-5 : {fs : List Figure} {ms : List Mark} → Sees l fs ms → All Near ms
-        → find 5 (ofNumbers s p l fs r) ≡ foundBy (λ m. m .far && not (eqb (s .a * natAbs (m .number .what) % s .b) 0)) ms (find 5 r)
-    sees-5 g a =
-        sees-found 5 test₅ (λ m. m .far && not (eqb (s .a * natAbs (m .number .what) % s .b) 0)) Near find-5
-        (λ f m x h. ap₂ (λ (b : Bool) (n : ℕ). b && not (eqb (s .a * n % s .b) 0)) (x .far) (exact f m x h))
-        (λ m x. ap (λ (b : Bool). b && not (eqb (s .a * natAbs (m .number .what) % s .b) 0)) (x .not-far)) g a
+    far-or-near : (m : Mark) → Near m → ltb largest (worthAt (s .a) (s .b) m) ≡ far-test m
+    unfolding beyond far-test
+    far-or-near m h = go (m .far)
+      where
+        go : (b : Bool) → ltb largest (if b then nearest (s .a * natAbs (m .number .what)) (s .b) else natAbs (m .number .what)) ≡ (b && ltb largest (nearest (s .a * natAbs (m .number .what)) (s .b)))
+        go true = refl
+        go false = h
 
     pub sees-6 : {fs : List Figure} {ms : List Mark} → Sees l fs ms → All Near ms
-        → find 6 (ofNumbers s p l fs r) ≡ foundBy (λ m. m .far && ltb largest (s .a * natAbs (m .number .what) / s .b)) ms (find 6 r)
+        → find 6 (ofNumbers s p l fs r) ≡ foundBy (λ m. m .far && ltb largest (nearest (s .a * natAbs (m .number .what)) (s .b))) ms (find 6 r)
+    unfolding far-test
     sees-6 g a =
-        sees-found 6 test₆ (λ m. m .far && ltb largest (s .a * natAbs (m .number .what) / s .b)) Near find-6
-        (λ f m x h. ap₂ (λ (b : Bool) (n : ℕ). b && ltb largest (s .a * n / s .b)) (x .far) (exact f m x h))
-        (λ m x. ap (λ (b : Bool). b && ltb largest (s .a * natAbs (m .number .what) / s .b)) (x .not-far)) g a
+        sees-found 6 test₆ far-test Near find-6
+        (λ f m x h. ap (λ (n : ℕ). ltb largest n) (value-is f m x h) ∙ far-or-near m h)
+        (λ m x. ap (λ (b : Bool). b && ltb largest (nearest (s .a * natAbs (m .number .what)) (s .b))) (x .not-far)) g a
 
     pub all-of-numbers : (fs : List Figure) → All Numbered r → All Numbered (ofNumbers s p l fs r)
     unfolding ofNumbers
     all-of-numbers [] h = h
     all-of-numbers (f ∷ fs) h = all-of-number f (ofNumbers s p l fs r) (all-of-numbers fs h)
+
+-- ---- rounded numbers of a command
+
+module _ (s : Scope) (l : ℕ) where
+  abbrev ragged-mark : Mark → Bool
+  ragged-mark m = m .far && not (eqb (s .a * natAbs (m .number .what) % s .b) 0)
+
+  pub sees-rounded : {fs : List Figure} {ms : List Mark} → Sees l fs ms → All (λ m. beyond (m .number .what) ≡ false) ms → roundedOf s l fs ≡ alongMarks onePlace ragged-mark ms 0
+  unfolding roundedOf alongMarks All
+  sees-rounded no-more a = refl
+  sees-rounded (left-out {m} {ms} x g) a =
+      sees-rounded g (a .1)
+      ∙ sym (ap (λ (b : Bool). (if b && not (eqb (s .a * natAbs (m .number .what) % s .b) 0) then 1 else 0) + alongMarks onePlace ragged-mark ms 0) (x .not-far) ∙ zero-add _)
+  sees-rounded (one-seen {f} {m} {fs} {ms} x g) a =
+      ap₂ {C = ℕ} (λ (b : Bool) (n : ℕ). one (b && not (eqb (s .a * n % s .b) 0)) + roundedOf s l fs) (x .far) (exact s 0 l f m x (a .0))
+      ∙ ap (λ (n : ℕ). one (ragged-mark m) + n) (sees-rounded g (a .1))
 
 -- ---- against the command as a whole
 

@@ -7,7 +7,7 @@ use mathlib.Core.List.{List, [], _∷_, _++_, map, flatMap, append-nil}
 use mathlib.Core.Option.{none}
 use Prim.Native.Nat.{ℕ, zero, suc, _+_, _*_, _/_, _≤_, _<_}
 use native.Mathlib.Omega.{arith}
-use native.Mathlib.Nat.{mul-zero, div-eq-of-lt}
+use native.Mathlib.Nat.{mul-zero}
 use borrow.Author.Tests.{ltb-false, le-ltb}
 use lib.Dec.{ltb}
 use lib.IntN.{ℤ, pos, negℤ, natAbs}
@@ -17,9 +17,10 @@ use Rattle.grammar.specs.Viable.{Marked}
 use Rattle.definition.specs.Limits.{largest, mostBytes, mostPoints}
 use Rattle.definition.specs.Words.{Placed, Point, any}
 use Rattle.definition.specs.Commands.{Number, Turn, translate, mirrorX, mirrorY, rotate, Command, draw, layer, call, start, finish, delete, nothing, commands}
-use Rattle.definition.specs.Standing.{Standing, outside, after, scaled, scaledPoint, scaledShape, scaledTurn}
+use Rattle.definition.specs.Standing.{Standing, outside, after, nearest, scaled, scaledPoint, scaledShape, scaledTurn}
 use Rattle.definition.specs.Faults.{beyond, partsOf, shifts, bearings, both, distances, numbersOf, tooMany, faults, allFaults, firstFault}
 use Rattle.definition.specs.Flat.{letterOf, numbersOfShape}
+use Rattle.definition.proofs.Nearest.{nearest-zero}
 use Rattle.laws.proofs.Lists.Range.{All, all-to}
 use Rattle.laws.proofs.Commands.Sizes.{all-left, nil-left, nil-right, no-fault}
 use Rattle.laws.proofs.FlatFile.Said.{length-map, or-first}
@@ -96,20 +97,20 @@ module _ (s : Standing) (hb : 0 < s .b) where
   abbrev NearScaled : Number → Type 0
   NearScaled z = beyond (scaled s (z .what)) ≡ false
 
-  scaled-signed : (σ : Bool) (v : ℕ) → scaled s (signed σ v) ≡ signed σ (s .a * v / s .b)
+  scaled-signed : (σ : Bool) (v : ℕ) → scaled s (signed σ v) ≡ signed σ (nearest (s .a * v) (s .b))
   unfolding scaled
   scaled-signed false v = refl
   scaled-signed true zero = ap pos (none-left) ∙ ap (λ (n : ℕ). negℤ (pos n)) (sym none-left)
     where
-      none-left : s .a * 0 / s .b ≡ 0
-      none-left = ap (λ (n : ℕ). n / s .b) (mul-zero (s .a)) ∙ div-eq-of-lt hb
+      none-left : nearest (s .a * 0) (s .b) ≡ 0
+      none-left = ap (λ (n : ℕ). nearest n (s .b)) (mul-zero (s .a)) ∙ nearest-zero (s .b)
   scaled-signed true (suc v) = refl
 
-  scaled-size : (σ : Bool) (v : ℕ) → beyond (scaled s (signed σ v)) ≡ false → s .a * v / s .b ≤ largest
+  scaled-size : (σ : Bool) (v : ℕ) → beyond (scaled s (signed σ v)) ≡ false → nearest (s .a * v) (s .b) ≤ largest
   unfolding beyond
   scaled-size σ v e =
       let h = ltb-false largest (natAbs (scaled s (signed σ v))) e in
-      let d : natAbs (scaled s (signed σ v)) ≡ s .a * v / s .b = ap natAbs (scaled-signed σ v) ∙ abs-signed σ (s .a * v / s .b) in
+      let d : natAbs (scaled s (signed σ v)) ≡ nearest (s .a * v) (s .b) = ap natAbs (scaled-signed σ v) ∙ abs-signed σ (nearest (s .a * v) (s .b)) in
       omega arith
 
   module _ (l w i : ℕ) where
@@ -117,7 +118,7 @@ module _ (s : Standing) (hb : 0 < s .b) where
         → valueOf (s .a) (s .b) l w i σ (capped v) ≡ scaled s (signed σ v)
     far-value σ v d e f =
         let h = scaled-size σ v f in
-        rw (d, capped-exact v (near-size σ v e)) (word-exact σ (s .a * v / s .b) (omega arith) ∙ sym (scaled-signed σ v))
+        rw (d, capped-exact v (near-size σ v e)) (word-exact σ (nearest (s .a * v) (s .b)) (omega arith) ∙ sym (scaled-signed σ v))
 
     plain-value : (σ : Bool) (v : ℕ) → distance l w i ≡ false → beyond (signed σ v) ≡ false → valueOf (s .a) (s .b) l w i σ (capped v) ≡ signed σ v
     plain-value σ v d e =

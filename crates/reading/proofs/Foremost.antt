@@ -100,13 +100,20 @@ abbrev pub headOf : List Refusal → Blame
 headOf [] = blame 10 0
 headOf (r ∷ rs) = blame (r .number) (r .place)
 
+-- along numbers: what each brings, by the test and its place, to what those after it bring
+unfoldable pub along : {X : Type 0} → (Bool → ℕ → X → X) → (ℤ → Bool) → List Number → X → X
+along f t [] x = x
+along f t (z ∷ zs) x = f (t (z .what)) (z .place) (along f t zs x)
+
 -- the place of the first number that fails by the test, or else x
-unfoldable pub found : (ℤ → Bool) → List Number → Option ℕ → Option ℕ
-found t [] x = x
-found t (z ∷ zs) x = let rest = found t zs x in if t (z .what) then some (z .place) else rest
+abbrev pub firstPlace : Bool → ℕ → Option ℕ → Option ℕ
+firstPlace b p y = if b then some p else y
+
+abbrev pub found : (ℤ → Bool) → List Number → Option ℕ → Option ℕ
+found t zs x = along firstPlace t zs x
 
 pub head-numbers : (n : Rule) (t : ℤ → Bool) (zs : List Number) (r : List Refusal) → headOf (atNumbers n t zs ++ r) ≡ pick (found t zs none) (numberOf n) (headOf r)
-unfolding atNumbers those found
+unfolding atNumbers those along
 head-numbers n t [] r = refl
 head-numbers n t (z ∷ zs) r = go (t (z .what)) (head-numbers n t zs r)
   where

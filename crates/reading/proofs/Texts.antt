@@ -9,6 +9,7 @@ use Rattle.grammar.specs.Tables.{kinds, table}
 use Rattle.grammar.specs.Steps.{kindOf, entryOf, nextOf, modeAfter, markOf, roleOf, marked}
 use Rattle.definition.specs.Words.{bytesOf}
 use Rattle.definition.specs.Commands.{worth}
+use Rattle.definition.specs.Standing.{nearest}
 use Rattle.pieces.specs.Pieces.{capped, pieces}
 use Rattle.rules.specs.Written.{Written, itemsOf, stops, written, letters, lastOf, packedBy}
 use Rattle.rules.specs.Rules.{shapely, distance}
@@ -24,5 +25,5 @@ laid-out : spelled 50 2 (written (pieces 0 0 (marked 0 0 (bytesOf "DS7;LCM;B4 2 
     ∷ (pos (66 + 256 * 6) ∷ pos 8 ∷ pos 100 ∷ pos 50 ∷ negsuc 24 ∷ pos 0 ∷ pos 1 ∷ pos 0 ∷ [])
     ∷ (pos (67 + 256 * 8) ∷ pos 18 ∷ pos 7 ∷ pos 88 ∷ pos 84 ∷ pos 225 ∷ pos 200 ∷ pos 82 ∷ pos 0 ∷ pos 4 ∷ [])
     ∷ []
-unfolding spelled bytesOf dec kinds table kindOf entryOf nextOf modeAfter markOf roleOf marked worth capped pieces itemsOf stops written letters lastOf packedBy shapely distance held word letterWords bodyOf closing tally wordsOf
+unfolding spelled nearest bytesOf dec kinds table kindOf entryOf nextOf modeAfter markOf roleOf marked worth capped pieces itemsOf stops written letters lastOf packedBy shapely distance held word letterWords bodyOf closing tally wordsOf
 laid-out = refl

@@ -14,18 +14,19 @@ use Rattle.definition.specs.declared.Refusal.{Refusal}
 use Rattle.definition.specs.Rules.{notInGrammar, refuse}
 use Rattle.definition.specs.Commands.{commands}
 use Rattle.definition.specs.Faults.{firstFault}
+use Rattle.definition.specs.Rounded.{rounded}
 use Rattle.checking.specs.Account.{faultOf}
 use Rattle.checking.specs.declared.Fault.{Fault}
 use Rattle.checking.specs.declared.Fault.the-variants.{Clear, Refused}
 
--- the definition's first of refusals 3 to 9, as the code says it
-abbrev pub faultSaid : Option Refusal → Fault
-faultSaid none = Clear
-faultSaid (some r) = Refused r
+-- the definition's first of refusals 3 to 9, or else its rounded distances, as the code says it
+abbrev pub faultSaid : Option Refusal → (rounded : ℕ) → Fault
+faultSaid none k = Clear k
+faultSaid (some r) k = Refused r
 
--- of a text in the grammar, r is the definition's first fault
+-- of a text in the grammar, r is the definition's first fault, or else how many of its distances are rounded
 abbrev pub Faulted : List ℕ → Fault → Type 0
-Faulted t r = (m : List Letter) → Marked t m → r ≡ faultSaid (firstFault (commands 0 m))
+Faulted t r = (m : List Letter) → Marked t m → r ≡ faultSaid (firstFault (commands 0 m)) (rounded (commands 0 m))
 
 -- the contract of `check_by`: the definition's first fault; and on every text, the account of its letters as far as the recogniser goes
 pub record Checked (t : List ℕ) (r : Fault) : Type 0 where
