@@ -24,9 +24,11 @@ const CALLS: usize = 4;
 
 const REDEFINITIONS: usize = 5;
 
+const ROUNDED: usize = 6;
+
 // A refusal gives zero for the length and for every count, whatever has been counted by then.
 pub fn refused(refusal: Refusal, counted: Counts) -> Answer
-    ensures { λ r. ⌜ r ≡ answer (refusal .number) (refusal .place) 0 (counts 0 0 0) ⌝ }
+    ensures { λ r. ⌜ r ≡ answer (refusal .number) (refusal .place) 0 (counts 0 0 0) 0 ⌝ }
 {
     let none = counts::cleared(counted);
     Answer {
@@ -36,12 +38,13 @@ pub fn refused(refusal: Refusal, counted: Counts) -> Answer
         shapes: none.shapes,
         calls: none.calls,
         redefinitions: none.redefinitions,
+        rounded: 0,
     }
 }
 
-// A success tells how long the flat file is and what was counted.
-pub fn accepted(length: usize, counted: Counts) -> Answer
-    ensures { λ r. ⌜ r ≡ answer 0 0 length (tally counted) ⌝ }
+// A success tells how long the flat file is, what was counted, and how many distances of the text were rounded.
+pub fn accepted(length: usize, counted: Counts, rounded: usize) -> Answer
+    ensures { λ r. ⌜ r ≡ answer 0 0 length (tally counted) rounded ⌝ }
 {
     Answer {
         number: 0,
@@ -50,6 +53,7 @@ pub fn accepted(length: usize, counted: Counts) -> Answer
         shapes: counted.shapes,
         calls: counted.calls,
         redefinitions: counted.redefinitions,
+        rounded,
     }
 }
 
@@ -64,6 +68,7 @@ pub fn words(answer: Answer) -> [u64; WORDS]
     told[SHAPES] = answer.shapes as u64;
     told[CALLS] = answer.calls as u64;
     told[REDEFINITIONS] = answer.redefinitions as u64;
+    told[ROUNDED] = answer.rounded as u64;
     told
 }
 
@@ -78,5 +83,6 @@ pub fn by_words(told: &[u64; WORDS]) -> Answer
         shapes: told[SHAPES] as usize,
         calls: told[CALLS] as usize,
         redefinitions: told[REDEFINITIONS] as usize,
+        rounded: told[ROUNDED] as usize,
     }
 }

@@ -15,12 +15,12 @@ use Rattle.reading.specs.Refusal.{Refuses}
 use Rattle.answer.specs.Words.{answerWords, answerBy}
 use Rattle.listing.specs.Listed.{Listed}
 
--- the answer where nothing is drawn: a refusal's number and place, or 0 and 0; no length and no counts
+-- the answer where nothing is drawn: a refusal's number and place, or 0 and 0; no length, no counts, and no rounded distances
 abbrev pub undrawn : (number place : ℕ) → Answer
-undrawn n p = answer n p 0 (counts 0 0 0)
+undrawn n p = answer n p 0 (counts 0 0 0) 0
 
 abbrev pub faultAnswer : Fault → Answer
-faultAnswer Clear = undrawn 0 0
+faultAnswer (Clear k) = undrawn 0 0
 faultAnswer (Refused r) = undrawn (r .number) (r .place)
 
 abbrev pub verdictAnswer : Verdict → Answer  -- 01, refusal 2: "not in the grammar"

@@ -12,7 +12,7 @@ fn fault_answer(fault: Fault) -> Answer
     ensures { λ r. ⌜ r ≡ faultAnswer fault ⌝ }
 {
     match fault {
-        Fault::Clear => answer::accepted(0, counts::no_counts()),
+        Fault::Clear(_) => answer::accepted(0, counts::no_counts(), 0),
         Fault::Refused(refusal) => answer::refused(refusal, counts::no_counts()),
     }
 }
@@ -21,7 +21,7 @@ fn verdict_answer(verdict: Verdict) -> Answer
     ensures { λ r. ⌜ r ≡ verdictAnswer verdict ⌝ }
 {
     match verdict {
-        Verdict::InGrammar => fault_answer(Fault::Clear),
+        Verdict::InGrammar => fault_answer(Fault::Clear(0)),
         Verdict::StuckAt(place) => fault_answer(Fault::Refused(Refusal { number: 2, place })),
     }
 }

@@ -80,7 +80,7 @@ printed {t} {room} {left} {a = a} {r} h n m p l =
 
 -- ---- a text that is longer than the program takes
 
-refusal-is : account (answer 1 0 0 (counts 0 0 0)) [] ≡ listing (rejected (refuse textTooLong 0) [])
+refusal-is : account (answer 1 0 0 (counts 0 0 0) 0) [] ≡ listing (rejected (refuse textTooLong 0) [])
 unfolding account listing refusedLine
 refusal-is = refl
 
@@ -88,7 +88,7 @@ refusal-length : length (listing (rejected (refuse textTooLong 0) [])) ≡ 12
 unfolding listing fields bytesOf decimal digits
 refusal-length = refl
 
-pub refusal-laid : {old new : List ℕ} {r : ℕ} {a : Answer} → length old ≡ listingLength → a ≡ answer 1 0 0 (counts 0 0 0) → Listed a [] old new r
+pub refusal-laid : {old new : List ℕ} {r : ℕ} {a : Answer} → length old ≡ listingLength → a ≡ answer 1 0 0 (counts 0 0 0) 0 → Listed a [] old new r
     → Lays old new r (listing (rejected (refuse textTooLong 0) []))
 refusal-laid {old} {new} {r} m is l =
     let w : Writes old new 0 r (listing (rejected (refuse textTooLong 0) [])) = subst (Writes old new 0 r) (ap (λ (a : Answer). account a []) is ∙ refusal-is) (l .along) in

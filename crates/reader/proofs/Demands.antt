@@ -20,7 +20,7 @@ use Rattle.definition.specs.Counts.{Counts, shapesOf}
 use Rattle.definition.specs.Flat.{flat}
 use Rattle.definition.specs.Answer.{Outcome, accepted, rejected, Answers, Promised}
 use Rattle.definition.proofs.Right.{unique}
-use Rattle.laws.proofs.Rules.Order.{ByCommand, ByDrawing, number-from-1}
+use Rattle.laws.proofs.Rules.Order.{ByCommand, ByDrawing, number-from-1, number-not-5}
 use Rattle.laws.proofs.Rules.Outcomes.{Accepting}
 use Rattle.laws.proofs.Demands.Demand1.{Located, RefusalHolds, refusal-holds, SuccessHolds, success-holds}
 use Rattle.laws.proofs.Demands.Demand2.{Refused, CommandsBreak, DrawingStopped, FileTooLong, refused-by-length, refused-by-grammar, refused-by-command, refused-by-drawing}
@@ -42,6 +42,7 @@ pub record SameAgain (r : Answer) (left room′ : List ℕ) (r′ : Answer) (lef
   pub same-shapes : r′ .shapes ≡ r .shapes
   pub no-calls : r′ .calls ≡ 0
   pub no-redefinitions : r′ .redefinitions ≡ 0
+  pub none-rounded : r′ .rounded ≡ 0
   pub same-bytes : take (r .length) left′ ≡ take (r .length) left
   pub rest-kept : drop (r .length) left′ ≡ drop (r .length) room′
 
@@ -118,8 +119,8 @@ module _ {t room left : List ℕ} {r : Answer} (h : Promised t room r left) wher
     λ a. success-holds h (outcome-is (accepted-exactly .1 (a .3))) .no-number,
   )
 
-  -- and then the counts are the drawing's, the first bytes of the room are the flat file of its shapes, and the rest is unchanged
-  pub accepted-gives : {cs : List (Placed Command)} {c : Counts} {es : List Event} → Accepting t (length room) cs c es → SuccessHolds room r left c (flat (shapesOf es))
+  -- and then the counts are the drawing's, the rounded distances those of the text, the first bytes of the room are the flat file of its shapes, and the rest is unchanged
+  pub accepted-gives : {cs : List (Placed Command)} {c : Counts} {es : List Event} → Accepting t (length room) cs c es → SuccessHolds room r left cs c (flat (shapesOf es))
   accepted-gives a = success-holds h (outcome-is (accepted-exactly .1 a))
 
   refused-when : (by : Rule) {p : ℕ} → Says r (numberOf by) p ↔ Refused t (length room) by p
@@ -141,6 +142,12 @@ module _ {t room left : List ℕ} {r : Answer} (h : Promised t room r left) wher
   -- 3 to 9, the first command that breaks a rule, the foremost of its rules, the nearest place
   pub refused-by-command-when : {by : Rule} {p : ℕ} → ByCommand by → Says r (numberOf by) p ↔ CommandsBreak t by p
   refused-by-command-when {by} i = Iff·trans (refused-when by) (refused-by-command i)
+
+  -- 5 never occurs, whatever the text and the room: since request 2 no rule has this number
+  pub never-5 : r .number ≡ 5 → ⊥
+  never-5 e =
+      let k = refusals-hold (λ z. omega (arith, e, z)) .1 .1 in
+      number-not-5 (k .rule) (sym (ap (λ (x : Refusal). x .number) (k .is)) ∙ e)
 
   -- 10 to 17, the first moment of the drawing that breaks a rule, the foremost of its rules; under the calls open there
   pub refused-by-drawing-when : {by : Rule} {p : ℕ} → ByDrawing by → Says r (numberOf by) p ↔ ((chain : Chain) × DrawingStopped t by p chain)
@@ -170,6 +177,7 @@ module _ {t room left : List ℕ} {r : Answer} (h : Promised t room r left) wher
           same-shapes = ap (λ (a : Answer). a .shapes) g ∙ sym (k .shapes-are);
           no-calls = ap (λ (a : Answer). a .calls) g;
           no-redefinitions = ap (λ (a : Answer). a .redefinitions) g;
+          none-rounded = ap (λ (a : Answer). a .rounded) g;
           same-bytes = same .0;
           rest-kept = same .1;
         };
@@ -178,7 +186,7 @@ module _ {t room left : List ℕ} {r : Answer} (h : Promised t room r left) wher
       d : Drew
       d = drew e
 
-      k : SuccessHolds room r left (d .counted) (flat (shapesOf (d .events)))
+      k : SuccessHolds room r left (d .commands) (d .counted) (flat (shapesOf (d .events)))
       k = success-holds h (d .is)
 
       answers : Answers t (length room) (accepted (d .commands) (d .counted) (d .events))

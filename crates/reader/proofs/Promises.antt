@@ -1,6 +1,6 @@
 -- From what reading and drawing promise to what the reader promises: one law for each way through the code, in the order of refusals.
 -- Assumes nothing.
-use mathlib.Core.Path.{_≡_, refl, sym, ap, _∙_, subst}
+use mathlib.Core.Path.{_≡_, refl, sym, ap, ap₂, _∙_, subst}
 use mathlib.Core.List.{List, [], _∷_}
 use mathlib.Core.Option.{Option, none, some}
 use Prim.Native.Nat.{ℕ, _+_, _≤_, _^_}
@@ -16,6 +16,7 @@ use Rattle.definition.specs.Rules.{flatFileTooLong}
 use Rattle.definition.specs.Commands.{commands}
 use Rattle.definition.specs.Standing.{outside}
 use Rattle.definition.specs.Faults.{firstFault}
+use Rattle.definition.specs.Rounded.{rounded}
 use Rattle.definition.specs.Drawing.{Chain, Event, deeds}
 use Rattle.definition.specs.Counts.{counts, stopped, ending, shapesOf}
 use Rattle.definition.specs.Flat.{lines, flat}
@@ -38,28 +39,28 @@ use Rattle.shapes.specs.declared.Drawn.the-variants as drawing
 use Rattle.shapes.specs.Painting.{bytesOf, Goes, Answered, Painted}
 use Rattle.drawing.specs.Passed.{Passed, toDraw, dry}
 use Rattle.shapes.proofs.Painting.{until-all}
-use Rattle.reader.specs.Screened.{Screened, over, within}
+use Rattle.reader.specs.Screened.{Screened, over, within, Rounds}
 
 -- a refusal leaves the room as it was
 refusing : {t room : List ℕ} {r : Answer} {why : Refusal} (chain : Chain) → Answers t (length room) (rejected why chain)
-    → r ≡ answer (why .number) (why .place) 0 (counts 0 0 0) → Promised t room r room
+    → r ≡ answer (why .number) (why .place) 0 (counts 0 0 0) 0 → Promised t room r room
 unfolding given-back flatFile
 refusing {why = why} chain a e = record { outcome = rejected why chain; answers = a; given = e; kept = refl }
 
 -- ---- 1 to 9
 
-never-clear : {why : Refusal} → Clear ≡ Refused why → ⊥
+never-clear : {k : ℕ} {why : Refusal} → Clear k ≡ Refused why → ⊥
 never-clear e = let z : _≡_ {A = ℕ} 0 1 = cc in omega arith
 
 -- how a text with this fault comes out; one without is not asked
 abbrev outcomeBy : Fault → Outcome
-outcomeBy Clear = rejected (record { number = 0; place = 0 }) []
+outcomeBy (Clear k) = rejected (record { number = 0; place = 0 }) []
 outcomeBy (Refused why) = rejected why []
 
 judged-answers : {t : List ℕ} {room : ℕ} {why : Refusal} → length t ≤ 16777216 → (v : Verdict) → Judged t v → byVerdict t v (Refused why) → Answers t room (rejected why [])
 judged-answers {t} {room} {why} h InGrammar g e = go (firstFault (commands 0 (g .0))) refl (e (g .0) (g .1))
   where
-    go : (f : Option Refusal) → firstFault (commands 0 (g .0)) ≡ f → Refused why ≡ faultSaid f → Answers t room (rejected why [])
+    go : (f : Option Refusal) → firstFault (commands 0 (g .0)) ≡ f → Refused why ≡ faultSaid f (rounded (commands 0 (g .0))) → Answers t room (rejected why [])
     go none q x = absurd (never-clear (sym x))
     go (some r) q x = unfold outcomeOf drawn in
         subst (Answers t room) (ap (λ (f : Option Refusal). drawn f (commands 0 (g .0)) room) q ∙ ap outcomeBy (sym x)) (read {m = g .0} h (g .1))
@@ -69,19 +70,24 @@ fault-answers : {t : List ℕ} {room : ℕ} {d : Fault} {why : Refusal} → Scre
 fault-answers {t} {room} (over h) is = subst (Answers t room) (ap outcomeBy is) (too-long h)
 fault-answers {t} (within h f) is = judged-answers h (f .verdict) (f .judged) (subst (byVerdict t (f .verdict)) is (f .is))
 
-pub fault-told : {t room : List ℕ} {r : Answer} {d : Fault} {why : Refusal} → Screened t d → d ≡ Refused why → r ≡ answer (why .number) (why .place) 0 (counts 0 0 0)
+pub fault-told : {t room : List ℕ} {r : Answer} {d : Fault} {why : Refusal} → Screened t d → d ≡ Refused why → r ≡ answer (why .number) (why .place) 0 (counts 0 0 0) 0
     → Promised t room r room
 fault-told s is e = refusing [] (fault-answers s is) e
 
-clear-passes : {t : List ℕ} → length t ≤ 16777216 → (v : Verdict) → Judged t v → byVerdict t v Clear → Passed t
-clear-passes {t} h InGrammar g e = go (firstFault (commands 0 (g .0))) refl (e (g .0) (g .1))
+-- how many distances a text without a fault has rounded
+abbrev roundedBy : Fault → ℕ
+roundedBy (Clear k) = k
+roundedBy (Refused why) = 0
+
+clear-passes : {t : List ℕ} {k : ℕ} → length t ≤ 16777216 → (v : Verdict) → Judged t v → byVerdict t v (Clear k) → Rounds t k
+clear-passes {t} {k} h InGrammar g e = go (firstFault (commands 0 (g .0))) refl (e (g .0) (g .1))
   where
-    go : (f : Option Refusal) → firstFault (commands 0 (g .0)) ≡ f → Clear ≡ faultSaid f → Passed t
-    go none q x = record { letters = g .0; marked = g .1; short = h; clear = q }
+    go : (f : Option Refusal) → firstFault (commands 0 (g .0)) ≡ f → Clear k ≡ faultSaid f (rounded (commands 0 (g .0))) → Rounds t k
+    go none q x = record { passed = record { letters = g .0; marked = g .1; short = h; clear = q }; is = ap roundedBy x }
     go (some r) q x = absurd (never-clear x)
 clear-passes h (StuckAt i) g e = absurd (never-clear e)
 
-pub passes : {t : List ℕ} {d : Fault} → Screened t d → d ≡ Clear → Passed t
+pub passes : {t : List ℕ} {d : Fault} {k : ℕ} → Screened t d → d ≡ Clear k → Rounds t k
 passes (over h) is = absurd (never-clear (sym is))
 passes {t} (within h f) is = clear-passes h (f .verdict) (f .judged) (subst (byVerdict t (f .verdict)) is (f .is))
 
@@ -99,7 +105,7 @@ module _ {t : List ℕ} (p : Passed t) where
       (refusal rule (why .place) chain .1 (by-drawing let-pass (e ∙ ap (λ (x : Refusal). stopped x chain) by)))
 
   pub stopped-told : {scrap scrap′ room : List ℕ} {r : Answer} {d : Drawn} {why : Refusal} → Painted dry (toDraw p) scrap d scrap′ → d ≡ drawing.Refused why
-      → r ≡ answer (why .number) (why .place) 0 (counts 0 0 0) → Promised t room r room
+      → r ≡ answer (why .number) (why .place) 0 (counts 0 0 0) 0 → Promised t room r room
   unfolding Answered
   stopped-told x is e = let y = subst (Answered dry (toDraw p)) is (x .answer) in refusing (y .0) (stopped-answers (y .1)) e
 
@@ -120,7 +126,7 @@ module _ {t : List ℕ} (p : Passed t) where
     unfolding flat
     file-length = omega (arith, goes .next, ap length first-lines, length-append (lines [] (shapesOf (toDraw p))) (69 ∷ 10 ∷ []))
 
-    pub over-told : {room : List ℕ} {r : Answer} → TooLong (ink .pen .at + 2) (length room) → r ≡ answer 18 0 0 (counts 0 0 0) → Promised t room r room
+    pub over-told : {room : List ℕ} {r : Answer} → TooLong (ink .pen .at + 2) (length room) → r ≡ answer 18 0 0 (counts 0 0 0) 0 → Promised t room r room
     over-told {room} h e =
         refusing [] (refusal flatFileTooLong 0 [] .1 (by-flat-file let-pass (goes .ends) (subst (λ (n : ℕ). TooLong n (length room)) (sym file-length) h))) e
 
@@ -146,12 +152,12 @@ module _ {t : List ℕ} (p : Passed t) where
     file-in {room} {left} e =
         both {a = lines [] (shapesOf (toDraw p))} (written (ap (sets room 0) all-lines) (goes .next ∙ ap (λ (l : List ℕ). 0 + length l) first-lines)) (written {bytes = 69 ∷ 10 ∷ []} e refl)
 
-    pub written-told : {room left : List ℕ} {r : Answer} → ink .pen .at + 2 ≤ length room → ink .pen .at + 2 ≤ 16777216
-        → left ≡ sets (sets room 0 (bytesOf dry (toDraw p))) (ink .pen .at) (69 ∷ 10 ∷ []) → r ≡ answer 0 0 (ink .pen .at + 2) (tally (ink .counts)) → Promised t room r left
+    pub written-told : {room left : List ℕ} {r : Answer} {k : ℕ} → k ≡ rounded (commands 0 (p .letters)) → ink .pen .at + 2 ≤ length room → ink .pen .at + 2 ≤ 16777216
+        → left ≡ sets (sets room 0 (bytesOf dry (toDraw p))) (ink .pen .at) (69 ∷ 10 ∷ []) → r ≡ answer 0 0 (ink .pen .at + 2) (tally (ink .counts)) k → Promised t room r left
     unfolding given-back flatFile
-    written-told h k e g = record {
+    written-told {k = j} ej h k e g = record {
       outcome = accepted (commands 0 (p .letters)) (tally (ink .counts)) (toDraw p);
       answers = acceptance .1 (accepting h k);
-      given = g ∙ ap (λ (n : ℕ). answer 0 0 n (tally (ink .counts))) (sym file-length);
+      given = g ∙ ap₂ {C = Answer} (λ (n i : ℕ). answer 0 0 n (tally (ink .counts)) i) (sym file-length) ej;
       kept = begins (file-in e) (omega (arith, h, file-length));
     }

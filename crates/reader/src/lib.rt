@@ -13,7 +13,7 @@ ghost use Rattle.definition.specs.Counts.{counts};
 ghost use Rattle.definition.specs.Answer.{answer, Promised};
 ghost use Rattle.shapes.specs.Painting.{bytesOf};
 ghost use Rattle.drawing.specs.Passed.{Passed, toDraw, dry};
-ghost use Rattle.reader.specs.Screened.{Screened};
+ghost use Rattle.reader.specs.Screened.{Screened, Rounds};
 
 // How long the flat file's last line is: `E` and byte 10.
 const LAST_LINE: usize = 2;
@@ -29,14 +29,14 @@ fn write_file(text: &[u8], room: &mut [u8], end: usize)
 
 // Refusals 1 to 17: nothing is counted.
 fn refused(refusal: Refusal) -> Answer
-    ensures { λ r. ⌜ r ≡ answer (refusal .number) (refusal .place) 0 (counts 0 0 0) ⌝ }
+    ensures { λ r. ⌜ r ≡ answer (refusal .number) (refusal .place) 0 (counts 0 0 0) 0 ⌝ }
 {
     answer::refused(refusal, counts::no_counts())
 }
 
 // Refusal 18: the flat file is too long, whatever was counted in drawing it.
 fn too_long(counted: Counts) -> Answer
-    ensures { λ r. ⌜ r ≡ answer 18 0 0 (counts 0 0 0) ⌝ }
+    ensures { λ r. ⌜ r ≡ answer 18 0 0 (counts 0 0 0) 0 ⌝ }
 {
     let over = Refusal {
         number: 18,
@@ -45,10 +45,10 @@ fn too_long(counted: Counts) -> Answer
     answer::refused(over, counted)
 }
 
-// A text that refusals 1 to 9 let pass. It is drawn twice, since no byte of the room may change before all is known: onto `scrap`, which tells how the
+// A text that refusals 1 to 9 let pass, with so many rounded distances. It is drawn twice, since no byte of the room may change before all is known: onto `scrap`, which tells how the
 // drawing ends and how long the flat file is, whatever its length, and then onto the room.
-fn flatten_passed(text: &[u8], scrap: &mut [u8], room: &mut [u8]) -> Answer
-    requires { ⌜ Passed (now text) ⌝ }
+fn flatten_passed(text: &[u8], scrap: &mut [u8], room: &mut [u8], rounded: usize) -> Answer
+    requires { ⌜ Rounds (now text) rounded ⌝ }
     ensures { λ r. ⌜ Promised (now (text .entry)) (now (room .entry)) r (now (room .exit)) ⌝ }
 {
     match drawing::draw(text, scrap) {
@@ -64,7 +64,7 @@ fn flatten_passed(text: &[u8], scrap: &mut [u8], room: &mut [u8]) -> Answer
                 return too_long(counted);
             }
             write_file(text, room, end);
-            answer::accepted(length, counted)
+            answer::accepted(length, counted, rounded)
         }
     }
 }
@@ -89,9 +89,9 @@ pub fn flatten(text: &[u8], room: &mut [u8]) -> Answer
 {
     match first_fault(text) {
         Fault::Refused(refusal) => refused(refusal),
-        Fault::Clear => {
+        Fault::Clear(rounded) => {
             let mut nothing: [u8; 0] = [];
-            flatten_passed(text, &mut nothing, room)
+            flatten_passed(text, &mut nothing, room, rounded)
         }
     }
 }

@@ -29,7 +29,7 @@ refused-requires : tie.Need-refused-requires
 refused-requires c κs = search needs
 
 returns : tie.Need-returns
-returns c = c .accepted .ensures ∙ ap (λ (k : Counts). answer 0 0 0 (tally k)) (c .before .no-counts .ensures) ∙ ap (λ (f : Fault). faultAnswer f) (sym (c .before .before .enum-told .given .1))
+returns c = c .accepted .ensures ∙ ap (λ (k : Counts). answer 0 0 0 (tally k) 0) (c .before .no-counts .ensures) ∙ ap (λ (f : Fault). faultAnswer f) (sym (c .before .before .enum-told .given .1))
 
 returns-2 : tie.Need-returns-2
 returns-2 c = c .refused .ensures ∙ ap (λ (f : Fault). faultAnswer f) (sym (c .before .before .before .fault .given .1))

@@ -14,14 +14,14 @@ enum-known-refusal c = search needs
 refused-requires : tie.Need-refused-requires
 refused-requires c κs = search needs
 
-enum-told : tie.Need-enum-told
-enum-told c = search needs
+enum-known-rounded : tie.Need-enum-known-rounded
+enum-known-rounded c = search needs
 
 slice-aggregate-flatten-passed : tie.Need-slice-aggregate-flatten-passed
 slice-aggregate-flatten-passed c = search needs
 
 flatten-passed-requires : tie.Need-flatten-passed-requires
-flatten-passed-requires c κs = passes (c .before .before .before .before .first-fault .ensures) (c .before .before .enum-told .given .1)
+flatten-passed-requires c κs = passes (c .before .before .before .before .before .first-fault .ensures) (c .before .before .before .rounded .given .1)
 
 returns : tie.Need-returns
 returns c = fault-told (c .before .before .before .before .first-fault .ensures) (c .before .before .refusal .given .1) (c .refused .ensures)
@@ -39,7 +39,7 @@ flatten-spec =
     first-fault-requires
     enum-known-refusal
     refused-requires
-    enum-told
+    enum-known-rounded
     slice-aggregate-flatten-passed
     flatten-passed-requires
     returns
