@@ -34,10 +34,13 @@ fn put_counts(r: Answer) -> bool {
     if !put_field(r.calls) {
         return false;
     }
-    streams::write_number(r.redefinitions, b"\t0\t0\t0\n")
+    if !put_field(r.redefinitions) {
+        return false;
+    }
+    streams::write_number(r.rounded, b"\t0\t0\n")
 }
 
-// The line of an answer. Its last three fields, the rounded distances, the line and the column, are 0 until they are counted.
+// The line of an answer. Its last two fields, the line and the column, are 0 until they are counted.
 fn put_answer(r: Answer) -> bool {
     if !put_field(r.number) {
         return false;

@@ -56,9 +56,10 @@ commands =
     -- decision 1: DS, each command in a definition, and DF are commands of their own
     refused-at "DS1;R0 0 0;R99999999 0 0;DF;E" 7 4
     -- decision 14: within a command by refusal number, whatever the places
-    ∷ refused-at "DS1 3 2;C1T16777214 1;DF;E" 5 20
-    -- decision 15: a distance that is neither whole nor within the range is 5
-    ∷ refused-at "DS1 3 2;LA;R2 16777213 1;DF;E" 5 14
+    ∷ refused-at "DS1 2 1;C1T8388608 16777216;DF;E" 3 19
+    ∷ refused-at "DS1 3 2;C1T16777214 1;DF;E" 6 11
+    -- decision 103: the range is looked at after rounding
+    ∷ refused-at "DS1 3 2;LA;R2 16777213 1;DF;E" 6 14
     -- decision 16: 3 is for every number, drawn or not
     ∷ refused-at "DD16777216;E" 3 2
     ∷ refused-at "DS16777216;DF;E" 3 2
