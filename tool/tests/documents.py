@@ -1,4 +1,4 @@
-"""What the documents show is what happens: the example host, the texts of REFUSALS.md and HINTS.md, the sessions, the picture."""
+"""What the documents show is what happens: the example host, the texts of RULES.md, REFUSALS.md and HINTS.md, the sessions, the picture."""
 import os
 import re
 import subprocess
@@ -20,17 +20,26 @@ def test_host():
     expect(document("examples/host.c").count("\n") <= 40, "the example host has at most forty lines")
 
 
-def test_refusals():
-    """Every text of docs/REFUSALS.md, written as `text`: number at place, or `text`: accepted."""
-    page = document("docs/REFUSALS.md")
-    found = re.findall(r"`([^`\n]+)`: (accepted|(\d+) at (\d+))", page)
+def expect_answers(name):
+    """Every text of a document that is written as `text`: number at place, or `text`: accepted. Answers the numbers found, with None for accepted."""
+    found = re.findall(r"`([^`\n]+)`: (accepted|(\d+) at (\d+))", document(name))
     for text, verdict, number, place in found:
         done = cif("list", "-", text=text.encode())
         told = done.returncode == 0 if verdict == "accepted" else done.stdout == f"refused\t{number}\t{place}\n".encode()
-        expect(told, "a text of REFUSALS.md", text, verdict, done)
+        expect(told, f"a text of {name}", text, verdict, done)
+    return [int(number) if number else None for _, _, number, _ in found]
+
+
+def test_rules():
+    expect(len(expect_answers("docs/RULES.md")) >= 85, "RULES.md has texts for its rules")
+
+
+def test_refusals():
+    page = document("docs/REFUSALS.md")
+    found = expect_answers("docs/REFUSALS.md")
     short = {2, 3, 4, 6, 7, 8, 9, 11, 12, 13, 16}
-    expect("5" not in {n for _, _, n, _ in found}, "5 never occurs")
-    expect({int(n) for _, _, n, _ in found if n} >= short, "REFUSALS.md has a text for each number that a short text can get")
+    expect(5 not in found, "5 never occurs")
+    expect(set(found) >= short, "REFUSALS.md has a text for each number that a short text can get")
     expect([int(n) for n in re.findall(r"^## (\d+):", page, re.M)] == list(range(1, 19)), "REFUSALS.md has a part for each number")
 
 
