@@ -1,4 +1,5 @@
 pub mod Base
 pub mod P02
+pub mod Scaling
 pub mod Limits
 pub mod Points
