@@ -1,8 +1,8 @@
 """A second opinion on the CIF reader: what document 01, sections 7.1.1 and 7.1.2 of Chapter 7 and the requests of document 02 say of a text, as plainly
 as can be.
 
-`flatten(text, room)` gives number, place, length, shapes, calls, redefinitions, rounded distances and the bytes of the flat file, where room is the room's
-length. Sentences in quotation marks are document 01's, those after "request" document 02's, and a rule stands under its sentence.
+`flatten(text, room, lent)` gives number, place, length, shapes, calls, redefinitions, rounded distances and the bytes of the flat file, where room is the
+room's length and lent how many words are lent for bodies; None, or left out, where there are always enough. Sentences in quotation marks are document 01's, those after "request" document 02's, and a rule stands under its sentence.
 """
 from typing import NamedTuple, Optional
 
@@ -236,7 +236,21 @@ def meaning(written):
         yield Meant(command, what, off_grid)
 
 
-# ---- Drawing: refusals 10 to 17
+# ---- Words: how many the live bodies need
+
+
+def words(command):
+    """Request 10: "Each body command takes two words and one per number, after defaults are filled in; a call one more per T, M or R letter; an L command
+    one more for its name; all else none." DS and DF are no commands of the body; comments, user extensions and empty commands are left out long before."""
+    if command.kind in SHAPES:
+        defaults = 2 if command.kind == "B" and not command.numbers[4:] else 0  # the direction of a box
+        return 2 + len(command.numbers) + defaults
+    if command.kind == "C":
+        return 2 + len(command.numbers) + sum(1 + len(t.point) for t in command.transformations)
+    return 2 + 1 if command.kind == "L" else 0
+
+
+# ---- Drawing: refusals 10 to 17, and 25
 
 
 def turned(letter, to_x, to_y, x, y):
@@ -265,37 +279,48 @@ def moved(transformations, x, y):
 
 
 class Drawing:
-    def __init__(self):
+    def __init__(self, lent):
+        self.lent = lent  # words, or None for as many as are needed
         self.table = {}  # the live definitions: each symbol number with the shapes and calls of its body
+        self.needs = {}  # and with the words that its body needs
+        self.most_needed = 0  # by all live bodies together, after some DF
         self.calls = self.shapes = self.redefinitions = 0
         self.flat, self.layer = bytearray(), None  # the flat file so far, and the layer name of its last L line
 
     def draw_text(self, meant):
         """"Commands outside definitions act in text order." """
-        start, body = None, []
+        start, body, need = None, [], 0
         for command, what, _ in meant:
+            if start is not None:
+                need += words(command)
             if command.kind == "DS":
-                start, body = command, []
+                start, body, need = command, [], 0
             elif command.kind == "DF":
-                self.enter(start, body)
+                self.enter(start, body, need)
                 start = None
             elif command.kind == "DD":
                 # "DD n removes every entry numbered n or more"
                 self.table = {n: kept for n, kept in self.table.items() if n < command.numbers[0].value}
+                self.needs = {n: need for n, need in self.needs.items() if n in self.table}
             elif what is not None and start is not None:
                 body.append(what)
             elif what is not None:
                 self.draw_body([what], [], [])
         self.flat += b"E\n"  # "The last line is `E` and byte 10, without a semicolon."
 
-    def enter(self, start, body):
+    def enter(self, start, body, need):
         """"DF enters the definition under its number; an entry of that number is replaced, which counts as one redefinition." """
         symbol = start.numbers[0].value
         if symbol in self.table:
             self.redefinitions += 1
-        self.table[symbol] = body
+        self.table[symbol], self.needs[symbol] = body, need
         if len(self.table) > MOST_DEFINITIONS:
             raise Refused(10, start.place)
+        # request 10: "25, exactly when the live bodies after some DF need more words than were lent, directly after 10, at the DS": what is replaced or
+        # deleted needs none
+        self.most_needed = max(self.most_needed, sum(self.needs.values()))
+        if self.lent is not None and sum(self.needs.values()) > self.lent:
+            raise Refused(25, start.place)
 
     def draw_body(self, body, transformations, open_symbols):
         """"A body draws its calls and a call draws its body: depth first, in written order." """
@@ -351,19 +376,29 @@ class Drawing:
 # ---- The answer
 
 
-def draw(text):
+def draw(text, lent=None):
     """The answer to a text in a room that holds whatever it is. "Order: 1; then 2 [..]; then 3 to 9 [..]; then 10 to 17 in the order of drawing" """
     try:
         if len(text) > LONGEST:
             raise Refused(1, 0)
         meant = list(meaning(commands(text)))
-        drawing = Drawing()
+        drawing = Drawing(lent)
         drawing.draw_text(meant)
     except Refused as refused:
         # "On refusal the length and all counts are 0"
         return Answer(refused.number, refused.place, 0, 0, 0, 0, 0, b"")
     off_grid = sum(one.rounded for one in meant)
     return Answer(0, 0, len(drawing.flat), drawing.shapes, drawing.calls, drawing.redefinitions, off_grid, bytes(drawing.flat))
+
+
+def most_needed(text):
+    """The least number of words with which a text is not refused with 25; 0 for one that is refused before anything is defined."""
+    drawing = Drawing(None)
+    try:
+        drawing.draw_text(list(meaning(commands(text))))
+    except Refused:
+        pass
+    return drawing.most_needed
 
 
 def put(answer, room):
@@ -373,5 +408,5 @@ def put(answer, room):
     return answer
 
 
-def flatten(text, room):
-    return put(draw(text), room)
+def flatten(text, room, lent=None):
+    return put(draw(text, lent), room)

@@ -10,7 +10,8 @@ REQUESTS = os.path.join(os.path.dirname(os.path.dirname(os.path.abspath(__file__
 
 LONGEST = 1_048_576  # bytes of a text, of a second text and of a room
 MOST_OPEN = 64  # records lent for open calls
-LARGEST = 4_294_967_295  # that four bytes hold; as the number of words: as many as the texts need
+MOST_WORDS = 1_048_576  # lent for bodies
+LARGEST = 4_294_967_295  # that four bytes hold; as the number of words: as many as the texts have bytes, which always suffice
 
 FLATTEN, LIST = 0, 2
 TO_COME = (1, 3, 4, 5, 6, 7, 8, 9)  # tasks whose requests have not landed
@@ -41,10 +42,10 @@ def listed(lines):
 NOTHING = line(0, 0, 0)
 
 
-def told(task, text, room):
-    """What the second opinion tells."""
+def told(task, text, room, words=LARGEST):
+    """What the second opinion tells. The list program lends enough words, whatever the number says."""
     if task == FLATTEN:
-        return flattened(reader.flatten(text, room))
+        return flattened(reader.flatten(text, room, None if words == LARGEST else words))
     return listed(listing.listing(text)) if task == LIST else NOTHING
 
 
@@ -53,6 +54,7 @@ class Written(NamedTuple):
     label: str
     task: int
     room: int
+    words: int
     text: bytes
     record: bytes
     told: bytes
@@ -68,7 +70,7 @@ def written():
                 text, second = bytes.fromhex(text), bytes.fromhex(second)
                 asked = record(task, text, room, second, words=words, records=lent, argument=argument)
                 label = "%s:%d (%s)" % (os.path.basename(path), at, name)
-                yield Written(label, task, room, text, asked, line(*map(int, fields.split(" "))) + bytes.fromhex(found))
+                yield Written(label, task, room, words, text, asked, line(*map(int, fields.split(" "))) + bytes.fromhex(found))
 
 
 def parted(said, fields):
