@@ -1,6 +1,7 @@
-"""An account of refusals 2 to 9 and of rounded distances that knows neither the project's tables nor how they are made: `agree` holds a written answer to it.
+"""An account of refusals 2 to 9, of rounded distances and of words that knows neither the project's tables nor how they are made: `agree` holds a written answer to it.
 
-It follows the printed rules of section 7.1.1 over sets of places, and finds refusals 3 to 9 by document 01's table and document 02's request 2.
+It follows the printed rules of section 7.1.1 over sets of places, and finds refusals 3 to 9 by document 01's table and document 02's request 2. What the live
+bodies need by request 10 it adds up without drawing anything.
 """
 import sys
 
@@ -227,9 +228,38 @@ def fault(text):
     return None, rounded
 
 
-def agree(text, stuck, answer):
-    """Holds an answer to what is found here of refusals 2 to 9 and of rounded distances; `stuck` is the place of 2, or IN_GRAMMAR."""
+def words_of(kind, what):
+    """What a command of a body needs by request 10."""
+    if kind == "C":
+        return 3 + sum(1 if turn == "M" else 3 for turn, _ in what[1])
+    return {"L": 3, "B": 8, "R": 5}.get(kind) or 2 + len(what)
+
+
+def needed(text):
+    """Of a text in the grammar: for each DF the place of its DS, and the words of all bodies that are live after it."""
+    live, inside = {}, None
+    for at, kind, what in commands(text):
+        if kind == "DS":
+            inside, symbol, need = at, what[0][1], 0
+        elif kind == "DF":
+            live[symbol] = need
+            yield inside, sum(live.values())
+            inside = None
+        elif kind == "DD":
+            for gone in [n for n in live if n >= what[0][1]]:
+                del live[gone]
+        elif inside is not None:
+            need += words_of(kind, what)
+
+
+def agree(text, stuck, answer, words=None):
+    """Holds an answer to what is found here of refusals 2 to 9, of rounded distances and, where words are lent, of 25; `stuck` is the place of 2, or
+    IN_GRAMMAR. What else is refused in drawing is not known here, so a text that is refused with 10 to 17 is not held to its words."""
     found, rounded = ((2, stuck), 0) if stuck is not IN_GRAMMAR else fault(text)
     given = (answer.number, answer.place) if 2 <= answer.number <= 9 else None
     if found != given or answer.rounded != (rounded if answer.number == 0 else 0):
         sys.exit(f"no agreement on {text!r}: {answer} is written, the account says {found} and {rounded} rounded")
+    if answer.number == 25 or words is not None and answer.number in (0, 18):
+        over = next((place for place, need in needed(text) if need > words), None)
+        if over != (answer.place if answer.number == 25 else None):
+            sys.exit(f"no agreement on {text!r} with {words} words: {answer} is written, the account says {over}")

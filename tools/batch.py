@@ -71,8 +71,11 @@ def listed(asked):
 def requests():
     """The records of tests/requests, on which the second opinion has to agree."""
     for one in records.written():
-        if one.told != records.told(one.task, one.text, one.room):
+        if one.told != records.told(one.task, one.text, one.room, one.words):
             sys.exit(f"no agreement on {one.label}: {one.told!r} is written")
+        if one.task == records.FLATTEN:
+            answer = reader.flatten(one.text, one.room, None if one.words == records.LARGEST else one.words)
+            account.agree(one.text, account.place(one.text), answer, None if one.words == records.LARGEST else one.words)
         yield one.record, one.told
 
 
@@ -82,10 +85,29 @@ def empty_answers():
         yield records.record(task, b"LA;R1 0 0;E", 64, b"E"), records.NOTHING
 
 
+def words_lent():
+    """Words that just suffice for each text of the rows, and one too few: the second opinion says what they need, but for the texts that take it long."""
+    for room, text, answer in each_once(rows()):
+        quick = answer.number not in (2, 15, 17) and answer.calls < 1_000 and answer.shapes < 1_000 and len(text) < 10_000
+        need = reader.most_needed(text) if quick else 0
+        if need:
+            for words in (need, need - 1):
+                answer = reader.flatten(text, room, words)
+                account.agree(text, account.IN_GRAMMAR, answer, words)
+                yield records.record(records.FLATTEN, text, room, words=words), records.flattened(answer)
+    # the list program lends enough; a second text lends task 0 what it has bytes; and nothing is left of the words of the record before
+    body, end = b"DS1;LA;R1 0 0;DF;E", records.flattened(reader.flatten(b"E", 2))
+    short = records.flattened(reader.flatten(body, 2, 7))
+    for words, told in ((8, end), (7, short), (records.MOST_WORDS, end), (0, short), (records.LARGEST, end)):
+        for second in (b"", b"E", b"LA;R1 0 0;E"):
+            yield records.record(records.FLATTEN, body, 2, second, words=words), told
+            yield records.record(records.LIST, body, 2, second, words=words), records.listed(listing.listing(body))
+
+
 def ignored_numbers():
-    """What a task does not look at: a second text, words, records and the argument."""
+    """What a task does not look at: a second text, records and the argument; and words where nothing is defined."""
     answer = reader.flatten(b"LA;R1 0 0;E", 64)
-    for words in (0, 1, records.LONGEST, records.LONGEST + 1, records.LARGEST):
+    for words in (0, 1, records.MOST_WORDS, records.LARGEST):
         for others in (dict(records=0), dict(argument=1), dict(argument=records.LARGEST), dict(second=b"E"), dict(second=b"\n" * 5_000)):
             yield records.record(records.FLATTEN, b"LA;R1 0 0;E", 64, words=words, **others), records.flattened(answer)
             yield records.record(records.LIST, b" E", words=words, **others), records.listed(listing.listing(b" E"))
@@ -98,6 +120,7 @@ def cases():
     yield from flattened(each_once([*written, *texts()]))
     yield from listed(to_list)
     yield from requests()
+    yield from words_lent()
     yield from empty_answers()
     yield from ignored_numbers()
     yield records.head(records.FLATTEN, 2, room=2) + b"E", b"cut short\n"
