@@ -5,7 +5,7 @@
 
 #include "cif.h"
 
-static int flatten(unsigned char *text, unsigned char *room) {
+static int flatten(unsigned char *text, int32_t *words, unsigned char *room) {
   /* One byte more than the reader takes, so that a text which is too long gets refusal 1 and is not cut. */
   size_t length = fread(text, 1, CIF_MOST_BYTES + 1, stdin);
   if (ferror(stdin)) {
@@ -13,7 +13,8 @@ static int flatten(unsigned char *text, unsigned char *room) {
     return 2;
   }
   uint64_t answer[CIF_WORDS];
-  cif_flatten(text, length, room, CIF_MOST_BYTES, answer);
+  /* As many words as the text has bytes always suffice. */
+  cif_flatten(text, length, words, length, room, CIF_MOST_BYTES, answer);
   if (answer[CIF_NUMBER] != 0) {
     fprintf(stderr, "host: refused %zu at byte %zu\n", (size_t)answer[CIF_NUMBER], (size_t)answer[CIF_PLACE]);
     return 1;
@@ -28,8 +29,10 @@ static int flatten(unsigned char *text, unsigned char *room) {
 
 int main(void) {
   unsigned char *text = malloc(CIF_MOST_BYTES + 1), *room = malloc(CIF_MOST_BYTES);
-  int status = text == NULL || room == NULL ? 2 : flatten(text, room);
+  int32_t *words = calloc(CIF_MOST_BYTES + 1, sizeof *words);
+  int status = text == NULL || room == NULL || words == NULL ? 2 : flatten(text, words, room);
   free(text);
+  free(words);
   free(room);
   return status;
 }

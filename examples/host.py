@@ -12,7 +12,8 @@ MOST_BYTES, WORDS, NUMBER, PLACE, LENGTH = 16777216, 64, 0, 1, 2  # as in includ
 
 def load(path):
     library = ctypes.CDLL(path)
-    library.cif_flatten.argtypes = [ctypes.c_char_p, ctypes.c_size_t, ctypes.c_char_p, ctypes.c_size_t, ctypes.POINTER(ctypes.c_uint64)]
+    word, number = ctypes.POINTER(ctypes.c_int32), ctypes.POINTER(ctypes.c_uint64)
+    library.cif_flatten.argtypes = [ctypes.c_char_p, ctypes.c_size_t, word, ctypes.c_size_t, ctypes.c_char_p, ctypes.c_size_t, number]
     library.cif_flatten.restype = None
     return library
 
@@ -20,7 +21,8 @@ def load(path):
 def flatten(library, text):
     """The answer's words, and the flat file; that is empty for a text that is refused."""
     room, answer = ctypes.create_string_buffer(MOST_BYTES), (ctypes.c_uint64 * WORDS)()
-    library.cif_flatten(text, len(text), room, len(room), answer)
+    words = (ctypes.c_int32 * max(len(text), 1))()  # as many as the text has bytes always suffice
+    library.cif_flatten(text, len(text), words, len(text), room, len(room), answer)
     return list(answer), ctypes.string_at(room, answer[LENGTH])
 
 

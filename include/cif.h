@@ -2,8 +2,8 @@
    shared library libcif.so, which `tool/build` makes of it. Both are x86-64. What each function answers is settled, word for word and byte for byte, by its
    contract and proved; docs/BELIEVE.md leads through the definitions.
 
-   Any bytes at all may stand in a text, a flat file or a room, and any numbers in an answer that is given. The places in memory that a call is lent must
-   not overlap, and the pointers must be good also where a length is 0. Nothing is allocated and nothing kept from one call to the next, so several threads
+   Any bytes at all may stand in a text, a flat file or a room, and any numbers in words that are lent or an answer that is given. The places in memory that
+   a call is lent must not overlap, and the pointers must be good also where a length is 0. Nothing is allocated and nothing kept from one call to the next, so several threads
    may call at once, each with its own memory. */
 #ifndef CIF_H
 #define CIF_H
@@ -38,6 +38,20 @@ enum cif_word {
 
 /* Reads the text and writes its flat file into the room: layer commands, shapes and the End, with every call drawn.
 
+   The words are lent for the bodies of definitions, which are kept there as numbers so that none is decoded at each call. Whatever stood in them, they are all
+   0 afterwards, refused or not. Lend as many words as the text has bytes (four times its bytes of memory), and 25 never comes: no command of a body needs more
+   words than it has bytes, its semicolon counted. Exactly needed is, after each DF, what the definitions take that are defined then; one that was replaced or
+   deleted takes nothing any more. With words_length 0 texts without definitions are still read, and those whose definitions are empty.
+
+      command in a definition     words
+      box                         8, whether or not its direction is written
+      flash                       5
+      wire                        3, and 2 for each point
+      polygon                     2 for each point, and 2
+      layer                       3
+      call                        3, and 3 for each T, 3 for each R, 1 for each M
+      all else                    0: comments, user extensions, empty commands, the DS and the DF
+
    Accepted: answer[CIF_NUMBER] and answer[CIF_PLACE] are 0, the first answer[CIF_LENGTH] bytes of the room are the flat file and the rest of the room
    is unchanged; the four words after them are the counts. A distance in a definition is multiplied by a and divided by b and goes to the nearest whole
    number, a half away from zero.
@@ -56,6 +70,7 @@ enum cif_word {
          8    a shape with no layer set                                         the command
          9    more than 1,024 points or 32 transformations                      the command
         10    513 definitions alive at once                                     the DS
+        25    the definitions alive at once need more words than words_length   the DS
         11    a drawn call that turns by other than a right angle               the call
         12    a drawn call of a symbol that is not defined                      the call
         13    a drawn call of a symbol that is being drawn                      the call
@@ -65,8 +80,10 @@ enum cif_word {
         17    the 1,048,577th shape                                             the shape
         18    a flat file longer than the room, or than CIF_MOST_BYTES          0
 
-   Of several faults the first counts: 1, then 2, then 3 to 9 command by command in the text's order, then 10 to 17 in the order of drawing, then 18. */
-void cif_flatten(const unsigned char *text, size_t text_length, unsigned char *room, size_t room_length, uint64_t answer[CIF_WORDS]);
+   Of several faults the first counts: 1, then 2, then 3 to 9 command by command in the text's order, then 10 to 17 and 25 in the order of drawing, at one DF
+   10 before 25, then 18. */
+void cif_flatten(const unsigned char *text, size_t text_length, int32_t *words, size_t words_length, unsigned char *room, size_t room_length,
+                 uint64_t answer[CIF_WORDS]);
 
 /* Lists what was drawn, from an answer of cif_flatten and the flat file that goes with it (of a refusal: no bytes): a line for each shape, with its count,
    layer, kind and numbers, then the totals and the window; or of a refusal one line with its number and place. Fields are separated by tabs.

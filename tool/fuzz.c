@@ -89,14 +89,15 @@ static void try_text(void) {
   struct bytes text = {copy, count};
   for (int i = 0; i < 8; i++) {
     size_t place = below((unsigned)text.count + 1);
-    uint64_t number = 2 + below(16);
+    uint64_t number = 2 + below(17);
     if (number == 5) continue; /* which never comes */
+    if (number == 18) number = 25;
     out = (struct output){.file = DROPPED};
     tell_refusal(&out, &(struct reading){"f", text, {text.at, 0}, {number, place}}, true);
     look_at_telling(&out, text, place);
   }
   for (uint64_t number = 0; number < 30; number++) {
-    demand((sentence_for(number, text, text.count) != NULL) == (number >= 1 && number <= 18 && number != 5), "a sentence for each number but 5", &out);
+    demand((sentence_for(number, text, text.count) != NULL) == ((number >= 1 && number <= 18 && number != 5) || number == 25), "a sentence for each number but 5", &out);
     tell_refusal(&out, &(struct reading){"f", text, {text.at, 0}, {number, (uint64_t)below(1u << 30) << 33}}, below(2) == 0);
   }
   look_at_hints(text);

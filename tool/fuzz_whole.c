@@ -1,6 +1,6 @@
 /* The whole tool, from its words to its files: main.c and input.c and all that they lead to, over a stand-in for the archive whose answers are random and fit
    the tool's part of the bargain only. Reads and writes come in pieces, are interrupted and fail, and memory is short now and then: tool/fuzz compiles the tool
-   with `main`, `read`, `write`, `malloc`, `fsync` and `rename` under the names that stand here. */
+   with `main`, `read`, `write`, `malloc`, `calloc`, `fsync` and `rename` under the names that stand here. */
 #include <dirent.h>
 #include <errno.h>
 #include <fcntl.h>
@@ -16,6 +16,7 @@ int cif_main(int count, char **words);
 ssize_t fuzzed_read(int file, void *bytes, size_t count);
 ssize_t fuzzed_write(int file, const void *bytes, size_t count);
 void *fuzzed_malloc(size_t count);
+void *fuzzed_calloc(size_t count, size_t size);
 int fuzzed_fsync(int file);
 int fuzzed_rename(const char *from, const char *to);
 
@@ -58,6 +59,8 @@ ssize_t fuzzed_write(int file, const void *bytes, size_t count) {
 
 void *fuzzed_malloc(size_t count) { return fails(ENOMEM) ? NULL : malloc(count); }
 
+void *fuzzed_calloc(size_t count, size_t size) { return fails(ENOMEM) ? NULL : calloc(count, size); }
+
 /* The disk is not waited for: nothing that is looked at here depends on it. */
 int fuzzed_fsync(int file) { return file < 0 || fails(EIO) ? -1 : 0; }
 
@@ -79,14 +82,17 @@ static uint64_t count_shapes(struct bytes flat) {
   return count;
 }
 
-void cif_flatten(const unsigned char *text, size_t text_length, unsigned char *room, size_t room_length, uint64_t answer[CIF_WORDS]) {
+void cif_flatten(const unsigned char *text, size_t text_length, int32_t *words, size_t words_length, unsigned char *room, size_t room_length, uint64_t answer[CIF_WORDS]) {
   static struct output flat;
   uint64_t kept = fuzz_state;
   fuzz_state = seed_of(text, text_length);
   memset(answer, 0, CIF_WORDS * sizeof *answer);
   flat = (struct output){.file = DROPPED};
+  demand(words != NULL && words_length >= text_length, "the words", &flat);
+  memset(words, 0, words_length * sizeof *words);
   if (below(3) == 0) {
-    answer[CIF_NUMBER] = 1 + below(18);
+    answer[CIF_NUMBER] = 1 + below(19);
+    if (answer[CIF_NUMBER] == 19) answer[CIF_NUMBER] = 25; /* the reader has it, though not for this tool */
     if (answer[CIF_NUMBER] != 1 && answer[CIF_NUMBER] != 18) answer[CIF_PLACE] = below((unsigned)text_length + 1);
   } else {
     put_random_flat(&flat);
@@ -218,8 +224,9 @@ static void look_at_told(int status, const struct output *told) {
 static void look_at_flat(int status, const struct output *text, const struct output *told) {
   static struct output out, want;
   static unsigned char room[CIF_MOST_BYTES];
+  static int32_t words[sizeof text->waiting];
   uint64_t answer[CIF_WORDS];
-  cif_flatten(text->waiting, text->used, room, sizeof room, answer);
+  cif_flatten(text->waiting, text->used, words, text->used, room, sizeof room, answer);
   want = (struct output){.file = DROPPED};
   if (status == 0) put(&want, room, (size_t)answer[CIF_LENGTH]);
   else put_text(&want, "as it was");

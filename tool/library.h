@@ -102,6 +102,7 @@ typedef int sig_atomic_t;
 
 /* stdlib.h, string.h */
 extern void *malloc(size_t count);
+extern void *calloc(size_t count, size_t size);
 extern void free(void *old);
 extern char *getenv(const char *name);
 extern char *realpath(const char *path, char *room);

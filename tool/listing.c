@@ -1,8 +1,16 @@
-/* The list of a text, and windows: asked of the proved archive, never worked out here. */
+/* The flat file of a text, its list, and windows: asked of the proved archive, never worked out here. */
 #include <stdlib.h>
 #include <string.h>
 
 #include "tool.h"
+
+bool flatten(struct bytes text, unsigned char *room, uint64_t answer[CIF_WORDS]) {
+  int32_t *words = calloc(text.count + 1, sizeof *words);
+  if (words == NULL) return false;
+  cif_flatten(text.at, text.count, words, text.count, room, CIF_MOST_BYTES, answer);
+  free(words);
+  return true;
+}
 
 /* Asked for with no room first, to learn how long the list is. NULL where there is no memory; else to be freed. */
 static unsigned char *listing_of(struct bytes flat, const uint64_t answer[CIF_WORDS], size_t *length) {

@@ -5,7 +5,7 @@
 
 #include "tool.h"
 
-#define VERSION "2.0"
+#define VERSION "3.0"
 
 static const char help[] =
     "cif reads layouts in CIF 2.0 (Caltech Intermediate Form) and answers exactly as the\n"
@@ -202,9 +202,9 @@ static bool flatten_file(const char *file, struct reading *reading) {
   if (!read_file(file, CIF_MOST_BYTES + 1, &text, &count)) return false;
   reading->text = (struct bytes){text, count};
   room = malloc(CIF_MOST_BYTES);
-  if (room == NULL) return complain("not enough memory to read", reading->name, 0) == ACCEPTED;
-  cif_flatten(text, count, room, CIF_MOST_BYTES, reading->answer);
-  reading->flat = (struct bytes){room, (size_t)reading->answer[CIF_LENGTH]};
+  reading->flat = (struct bytes){room, 0};
+  if (room == NULL || !flatten(reading->text, room, reading->answer)) return complain("not enough memory to read", reading->name, 0) == ACCEPTED;
+  reading->flat.count = (size_t)reading->answer[CIF_LENGTH];
   if (reading->answer[CIF_NUMBER] == 0 && !is_flat(reading->flat))
     return complain("this should not happen: the reader wrote something else than a flat file for", reading->name, 0) == ACCEPTED;
   return true;

@@ -98,8 +98,10 @@ static void read_marks(const struct reading *reading, struct bytes marked, struc
 static bool ask(const struct reading *reading, const struct copy *copy, struct place *places, size_t count) {
   uint64_t answer[CIF_WORDS];
   unsigned char *room = malloc(CIF_MOST_BYTES);
-  if (room == NULL) return false;
-  cif_flatten(copy->at, copy->used, room, CIF_MOST_BYTES, answer);
+  if (room == NULL || !flatten((struct bytes){copy->at, copy->used}, room, answer)) {
+    free(room);
+    return false;
+  }
   bool alike = answer[CIF_NUMBER] == 0 && answer[CIF_SHAPES] == reading->answer[CIF_SHAPES] && answer[CIF_CALLS] == reading->answer[CIF_CALLS];
   if (alike) read_marks(reading, (struct bytes){room, (size_t)answer[CIF_LENGTH]}, places, count);
   free(room);

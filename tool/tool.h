@@ -250,8 +250,11 @@ struct layer_walk {
 struct layer_walk walk_over_layer(struct bytes flat, const struct layers *layers, const struct layer *layer);
 bool next_on_layer(struct layer_walk *layer, struct shape *shape);
 
-/* ---- listing.c: the list, by the archive. */
+/* ---- listing.c: the flat file and the list, by the archive. */
 
+/* The answer to a text, in a room of CIF_MOST_BYTES bytes. As many words are lent as the text has bytes, and one more element is there, so that there are some for
+   an empty text too: 25 never comes. False where there is no memory. */
+bool flatten(struct bytes text, unsigned char *room, uint64_t answer[CIF_WORDS]);
 /* The list of a text, accepted or refused. False where there is no memory. */
 bool put_list(struct output *out, const struct reading *reading);
 /* The window of each layer and of all of them. False where there is no memory. */

@@ -107,6 +107,18 @@ def test_every_number():
     expect(numbers == set(range(1, 19)) - {5} and len(sentences) == 17, "each number but 5, which never comes, has its own sentences", sentences)
 
 
+def test_words():
+    """25 never comes, however dense the bodies are: the tool lends as many words as the text has bytes. Each command stands at its shortest."""
+    for body in (b"LA;", b"C1;", b"C1MX;", b"C1T0 0;", b"C1R0 1;", b"LA;" + b"B1 1 0 0;" * 9, b"LA;" + b"R1 0 0;" * 9, b"LA;" + b"W1 0 0;" * 9, b"LA;" + b"P0 0 0 0 0 0;" * 9):
+        for count in (1, 500):
+            text = b"".join(b"DS%d;" % n + body + b"DF;" for n in range(count)) + b"E"
+            done = cif("check", "-", text=text)
+            expect((done.returncode, b"refused" in done.stderr) == (0, False), "no 25", count, body, done)
+    text = b"DS1;" + b"LA;" * ((MOST - 8) // 3) + b"DF;E"
+    done = cif("check", "-q", "-", text=text.ljust(MOST))
+    expect(done.returncode == 0, "no 25 for the longest text", done)
+
+
 def test_cases():
     """Refusals whose sentence depends on what stands there."""
     for number, place, text, words in (

@@ -6,10 +6,12 @@
 
 static const char example[] = "DS 7 50 2; L CM; B 4 2 1 0; DF; C 7 MX T 100 0; E", flat[] = "LCM;\nB100 50 75 0 -1 0;\nE\n";
 
-void cif_flatten(const unsigned char *text, size_t text_length, unsigned char *room, size_t room_length, uint64_t answer[CIF_WORDS]) {
+void cif_flatten(const unsigned char *text, size_t text_length, int32_t *words, size_t words_length, unsigned char *room, size_t room_length, uint64_t answer[CIF_WORDS]) {
   memset(answer, 0, CIF_WORDS * sizeof *answer);
+  memset(words, 0, words_length * sizeof *words);
   if (text_length > CIF_MOST_BYTES) answer[CIF_NUMBER] = 1;
   else if (text_length != sizeof example - 1 || memcmp(text, example, text_length) != 0) answer[CIF_NUMBER] = 12;
+  else if (words_length < text_length) answer[CIF_NUMBER] = 25;
   else if (room_length != CIF_MOST_BYTES) answer[CIF_NUMBER] = 18;
   if (answer[CIF_NUMBER] != 0) return;
   memcpy(room, flat, sizeof flat - 1);

@@ -4,8 +4,9 @@ typedef unsigned long size;
 extern int open(const char *, int, ...);
 extern long read(int, void *, size);
 extern void *malloc(size);
+extern void *calloc(size, size);
 extern int printf(const char *, ...);
-extern void cif_flatten(const unsigned char *text, size length, unsigned char *room, size room_length, unsigned long answer[64]);
+extern void cif_flatten(const unsigned char *text, size length, int *words, size words_length, unsigned char *room, size room_length, unsigned long answer[64]);
 
 enum { PART = 1 << 20, PAINT = 0xA5 };
 
@@ -26,9 +27,10 @@ int main(int count, char **words) {
   long n = 0;
   int file = open(words[1], 0);
   for (long k; (k = read(file, text + n, (size)((1 << 24) - n))) > 0;) n += k;
+  int *lent = calloc((size)n + 1, sizeof *lent);
   unsigned long answer[64];
   paint();
-  cif_flatten(text, (size)n, room, 1 << 24, answer);
+  cif_flatten(text, (size)n, lent, (size)n, room, 1 << 24, answer);
   printf("%lu\t%lu\t%lu\t%ld\n", answer[0], answer[1], answer[4], gone());
   return count > 9;
 }
