@@ -100,20 +100,20 @@ module _ (c : Counts) (cs : List (Placed Command)) (es : List Event) (room : ℕ
       neither false = refl
 
 -- 1: a text of 16,777,216 bytes is still judged by the grammar, and a longer one has this refusal and no other
-pub text-reached : (t : List ℕ) (room : ℕ) → Bytes t → length t ≤ 16777216 → Answers t room (verdict (verdictOf 0 0 0 t) t room)
+pub text-reached : (t : List ℕ) (words room : ℕ) → Bytes t → length t ≤ 16777216 → Answers t words room (verdict (verdictOf 0 0 0 t) t words room)
 unfolding answerOf
-text-reached t room b h = subst (Answers t room) judged-so (right t room b)
+text-reached t words room b h = subst (Answers t words room) judged-so (right t words room b)
   where
-    judged-so : answerOf t room ≡ verdict (verdictOf 0 0 0 t) t room
+    judged-so : answerOf t words room ≡ verdict (verdictOf 0 0 0 t) t words room
     judged-so = rw (le-ltb 16777216 (length t) h)
 
-pub text-passed : (t : List ℕ) (room : ℕ) {o : Outcome} → 16777216 < length t → Answers t room o → o ≡ rejected (refuse textTooLong 0) []
-text-passed t room h (too-long g) = refl
-text-passed t room h (not-cif g x y) = absurd (omega (arith, h, g))
-text-passed t room h (read g m) = absurd (omega (arith, h, g))
+pub text-passed : (t : List ℕ) (words room : ℕ) {o : Outcome} → 16777216 < length t → Answers t words room o → o ≡ rejected (refuse textTooLong 0) []
+text-passed t words room h (too-long g) = refl
+text-passed t words room h (not-cif g x y) = absurd (omega (arith, h, g))
+text-passed t words room h (read g m) = absurd (omega (arith, h, g))
 
 -- and for the list program 32,768 bytes
-pub list-reached : (t : List ℕ) {o : Outcome} → length t ≤ 32768 → Answers t 32768 o → Lists t (listing o)
+pub list-reached : (t : List ℕ) {o : Outcome} → length t ≤ 32768 → Answers t 32768 32768 o → Lists t (listing o)
 list-reached t h a = within h a
 
 pub list-passed : (t : List ℕ) {p : List ℕ} → 32768 < length t → Lists t p → p ≡ listing (rejected (refuse textTooLong 0) [])

@@ -1,4 +1,4 @@
--- A row is a text, a room and what is answered; a row that computes is a row that is promised. So a text's answer is proved by computing it,
+-- A row is a text, the words lent, a room and what is answered; a row that computes is a row that is promised. So a text's answer is proved by computing it,
 -- over definitions that were not written to be computed. Its `use` lines and one `unfolding` line are written by tools/rows.py.
 -- Assumes nothing.
 use mathlib.Core.Path.{_≡_, refl, sym, subst}
@@ -30,6 +30,8 @@ use Rattle.definition.specs.Table.{find, enter, forget}
 use Rattle.definition.specs.Drawing.{stepOf, retained, deedOf, deeds, drawShape, drawStep, drawBody, passageTo, passageOf, through, drawCall, happens, tableAfter, story}
 use Rattle.definition.specs.Counts.{counted, goOn, ending, shapesOf}
 use Rattle.definition.specs.Flat.{digits, decimal, spaced, letterOf, said, lines, flat}
+use Rattle.definition.specs.Held.{wordsOfTurn, wordsOfStep, wordsOfBody, wordsIn, heldTo, wordsAfter, wordsNeeded}
+use Rattle.definition.specs.Lean.{lastThen, add, addAll, lean}
 use Rattle.definition.specs.Answer.{flatFile, given-back, fitted, drawn, outcomeOf}
 use Rattle.definition.specs.Listing.{fields, shapeLines, extreme, windowLine, listing}
 use Rattle.definition.specs.Computed.{verdict, answerOf}
@@ -38,6 +40,7 @@ use Rattle.definition.specs.Computed.{verdict, answerOf}
 
 pub record Row : Type 0 where
   pub text : List ℕ
+  pub words : ℕ
   pub room : ℕ
   pub number : ℕ
   pub place : ℕ
@@ -47,16 +50,31 @@ pub record Row : Type 0 where
   pub rounded-count : ℕ
   pub flat-file : List ℕ
 
--- a text that is accepted in a room of this size, with its shapes, calls, redefinitions, rounded distances and flat file; one in which nothing is rounded;
+-- a text that is accepted with as many words as it has bytes, which is always enough (02, P10), in a room of this size, with its shapes, calls, redefinitions, rounded distances and flat file; one in which nothing is rounded;
 -- and one that is refused, with number and place
 abbrev pub rounding : ℕ → List ℕ → ℕ → ℕ → ℕ → ℕ → List ℕ → Row
-rounding n t s c r k f = record { text = t; room = n; number = 0; place = 0; shapes = s; calls = c; redefinitions = r; rounded-count = k; flat-file = f }
+rounding n t s c r k f = record { text = t; words = length t; room = n; number = 0; place = 0; shapes = s; calls = c; redefinitions = r; rounded-count = k; flat-file = f }
 
 abbrev pub accepting : ℕ → List ℕ → ℕ → ℕ → ℕ → List ℕ → Row
 accepting n t s c r f = rounding n t s c r 0 f
 
 abbrev pub refusing : ℕ → List ℕ → ℕ → ℕ → Row
-refusing n t k p = record { text = t; room = n; number = k; place = p; shapes = 0; calls = 0; redefinitions = 0; rounded-count = 0; flat-file = [] }
+refusing n t k p = record { text = t; words = length t; room = n; number = k; place = p; shapes = 0; calls = 0; redefinitions = 0; rounded-count = 0; flat-file = [] }
+
+-- the same where so many words are lent
+abbrev pub lent : ℕ → Row → Row
+lent w r = record {
+  text = r .text;
+  words = w;
+  room = r .room;
+  number = r .number;
+  place = r .place;
+  shapes = r .shapes;
+  calls = r .calls;
+  redefinitions = r .redefinitions;
+  rounded-count = r .rounded-count;
+  flat-file = r .flat-file;
+}
 
 -- the same of texts that are written out, and in the list program's room
 abbrev pub accepted-in : ℕ → String → ℕ → ℕ → ℕ → String → Row
@@ -89,7 +107,7 @@ said-by o =
 -- an outcome that is promised says it
 pub record Holds (r : Row) : Type 0 where
   pub outcome : Outcome
-  pub answers : Answers (r .text) (r .room) outcome
+  pub answers : Answers (r .text) (r .words) (r .room) outcome
   pub says : said-by outcome ≡ said-of r
 
 -- a text, and the lines that the list program prints of it
@@ -129,11 +147,11 @@ same-eq (x ∷ a) (y ∷ b) t = go (eqb x y) refl (same-eq a b) t
     go false e f h = absurd h
 
 row-holds : Row → Bool
-row-holds r = small (r .text) && same (said-by (answerOf (r .text) (r .room))) (said-of r)
+row-holds r = small (r .text) && same (said-by (answerOf (r .text) (r .words) (r .room))) (said-of r)
 
 print-holds : Printout → Bool
 print-holds r =
-    small (bytesOf (r .text)) && (leb (length (bytesOf (r .text))) 32768 && same (listing (answerOf (bytesOf (r .text)) 32768)) (bytesOf (r .printed)))
+    small (bytesOf (r .text)) && (leb (length (bytesOf (r .text))) 32768 && same (listing (answerOf (bytesOf (r .text)) 32768 32768)) (bytesOf (r .printed)))
 
 every : {A : Type 0} → (A → Bool) → List A → Bool
 every test [] = true
@@ -141,7 +159,7 @@ every test (r ∷ rs) = test r && every test rs
 
 -- the test of rows, and that of printouts; what both compute through is named here once
 unfoldable pub all-hold : List Row → Bool
-unfolding row-holds print-holds every small flatMap has dec kinds table kindOf entryOf nextOf modeAfter markOf roleOf marked verdictOf any those first same bytesOf worth numbers paired next named turnAt turns commandAt commands after nearest scaled whole scaledShape scaledTurn beyond partsOf shifts bearings distances numbersOf zeroScale least emptyShape degenerate layerless tooMany atNumbers faults allFaults firstFault ragged roundedFrom rounded negative heading rotated act aim inOrder moved offAxes find enter forget stepOf retained deedOf deeds drawShape drawStep drawBody passageTo passageOf through drawCall happens tableAfter story counted goOn ending shapesOf digits decimal spaced letterOf said lines flat flatFile given-back fitted drawn outcomeOf fields shapeLines extreme windowLine listing verdict answerOf
+unfolding row-holds print-holds every small flatMap has dec kinds table kindOf entryOf nextOf modeAfter markOf roleOf marked verdictOf any those first same bytesOf worth numbers paired next named turnAt turns commandAt commands after nearest scaled whole scaledShape scaledTurn beyond partsOf shifts bearings distances numbersOf zeroScale least emptyShape degenerate layerless tooMany atNumbers faults allFaults firstFault ragged roundedFrom rounded negative heading rotated act aim inOrder moved offAxes find enter forget stepOf retained deedOf deeds drawShape drawStep drawBody passageTo passageOf through drawCall happens tableAfter story counted goOn ending shapesOf digits decimal spaced letterOf said lines flat wordsOfTurn wordsOfStep wordsOfBody wordsIn heldTo wordsAfter wordsNeeded lastThen add addAll lean flatFile given-back fitted drawn outcomeOf fields shapeLines extreme windowLine listing verdict answerOf
 all-hold rs = every row-holds rs
 
 unfoldable pub all-print : List Printout → Bool
@@ -151,8 +169,8 @@ all-print rs = every print-holds rs
 row-right : (r : Row) → T (row-holds r) → Holds r
 unfolding row-holds
 row-right r t = record {
-  outcome = answerOf (r .text) (r .room);
-  answers = right (r .text) (r .room) (small-bytes _ (and-left (small (r .text)) _ t));
+  outcome = answerOf (r .text) (r .words) (r .room);
+  answers = right (r .text) (r .words) (r .room) (small-bytes _ (and-left (small (r .text)) _ t));
   says = same-eq _ _ (and-right (small (r .text)) _ t);
 }
 
@@ -160,11 +178,11 @@ print-right : (r : Printout) → T (print-holds r) → Printed r
 unfolding print-holds
 print-right r h =
     let t : List ℕ = bytesOf (r .text) in
-    let rest : T (leb (length t) 32768 && same (listing (answerOf t 32768)) (bytesOf (r .printed))) = and-right (small t) _ h in
+    let rest : T (leb (length t) 32768 && same (listing (answerOf t 32768 32768)) (bytesOf (r .printed))) = and-right (small t) _ h in
     subst
     (Lists t)
     (same-eq _ _ (and-right (leb (length t) 32768) _ rest))
-    (within (leb→le (length t) 32768 (and-left (leb (length t) 32768) _ rest)) (right t 32768 (small-bytes t (and-left (small t) _ h))))
+    (within (leb→le (length t) 32768 (and-left (leb (length t) 32768) _ rest)) (right t 32768 32768 (small-bytes t (and-left (small t) _ h))))
 
 by-test : {A : Type 0} (test : A → Bool) (P : A → Type 0) → ((r : A) → T (test r) → P r) → (rs : List A) → T (every test rs) → Each P rs
 unfolding every

@@ -1,12 +1,13 @@
--- What the reader answers of a text and a room: the order of refusals, what is given back, and what is left in the room. The exported contract is
--- `Promised`, at the end.
+-- What the reader answers of a text, the words lent and a room: the order of refusals, what is given back, and what is left in the words and in the
+-- room. The exported contract is `Promised`, at the end.
 use mathlib.Core.Path.{_≡_}
 use mathlib.Core.Bool.{Bool, true, false, _&&_}
-use mathlib.Core.List.{List, [], _∷_, _++_}
+use mathlib.Core.List.{List, [], _∷_, _++_, map}
 use mathlib.Core.Option.{Option, none, some}
 use Prim.Native.Nat.{ℕ, _≤_, _<_}
 use lib.Dec.{leb}
-use lib.ListN.{length, drop}
+use lib.IntN.{ℤ, pos}
+use lib.ListN.{length, drop, replicate}
 use Rattle.grammar.specs.Notation.{Letter}
 use Rattle.grammar.specs.Viable.{Marked}
 use Rattle.grammar.specs.Viable.{Grammatical, LongestViable}
@@ -22,6 +23,7 @@ use Rattle.definition.specs.Rounded.{rounded}
 use Rattle.definition.specs.Drawing.{Chain, Event, deeds, story}
 use Rattle.definition.specs.Counts.{Counts, counts, End, finished, stopped, ending, shapesOf}
 use Rattle.definition.specs.Flat.{flat}
+use Rattle.definition.specs.Held.{heldTo}
 
 pub data Outcome : Type 0 where  -- a text's commands are drawn, with the counts and all that happened; or it is refused, with the calls open there
   accepted : List (Placed Command) → Counts → List Event → Outcome
@@ -46,28 +48,35 @@ roomAfter o room = flatFile o ++ drop (length (flatFile o)) room
 abbrev pub drawingOf : List (Placed Command) → List Event  -- the drawing of commands
 drawingOf cs = story [] (deeds (outside []) cs)
 
+abbrev pub heldDrawing : (words : ℕ) → List (Placed Command) → List Event  -- 02, P10: the same, held to the words lent
+heldDrawing words cs = map (heldTo words) (drawingOf cs)
+
 unfoldable pub fitted : End → List (Placed Command) → List Event → ℕ → Outcome  -- 01, refusal 18: flat file longer than the room or than 16,777,216
 fitted (stopped r chain) cs es room = rejected r chain
 fitted (finished c) cs es room =
     if leb (length (flat (shapesOf es))) room && leb (length (flat (shapesOf es))) mostBytes then accepted cs c es else rejected (refuse flatFileTooLong 0) []
 
--- 01, order: 3 to 9 for all commands, then 10 to 17 in the order of drawing, then 18
-unfoldable pub drawn : Option Refusal → List (Placed Command) → ℕ → Outcome
-drawn (some r) cs room = rejected r []
-drawn none cs room = fitted (ending (counts 0 0 0) (drawingOf cs)) cs (drawingOf cs) room
+-- 01, order: 3 to 9 for all commands, then 10 to 17 in the order of drawing, 25 directly after 10 by 02, then 18
+unfoldable pub drawn : Option Refusal → List (Placed Command) → (words room : ℕ) → Outcome
+drawn (some r) cs words room = rejected r []
+drawn none cs words room = fitted (ending (counts 0 0 0) (heldDrawing words cs)) cs (drawingOf cs) room
 
-unfoldable pub outcomeOf : List Letter → ℕ → Outcome
-outcomeOf m room = drawn (firstFault (commands 0 m)) (commands 0 m) room
+unfoldable pub outcomeOf : List Letter → (words room : ℕ) → Outcome
+outcomeOf m words room = drawn (firstFault (commands 0 m)) (commands 0 m) words room
 
--- what may come of a text t and a room of the length said: 1; then 2, which knows grammar only; then what the text's commands say
-pub data Answers (t : List ℕ) (room : ℕ) : Outcome → Type 0 where
-  too-long : mostBytes < length t → Answers t room (rejected (refuse textTooLong 0) [])
-  not-cif : {n : ℕ} → length t ≤ mostBytes → (Grammatical t → ⊥) → LongestViable t n → Answers t room (rejected (refuse notInGrammar n) [])
-  read : {m : List Letter} → length t ≤ mostBytes → Marked t m → Answers t room (outcomeOf m room)
+-- what may come of a text t, so many words and a room of the length said: 1; then 2, which knows grammar only; then what the text's commands say
+pub data Answers (t : List ℕ) (words room : ℕ) : Outcome → Type 0 where
+  too-long : mostBytes < length t → Answers t words room (rejected (refuse textTooLong 0) [])
+  not-cif : {n : ℕ} → length t ≤ mostBytes → (Grammatical t → ⊥) → LongestViable t n → Answers t words room (rejected (refuse notInGrammar n) [])
+  read : {m : List Letter} → length t ≤ mostBytes → Marked t m → Answers t words room (outcomeOf m words room)
 
--- the contract of a reader that gives back r of the text t, and leaves the room so
-pub record Promised (t room : List ℕ) (r : Answer) (left : List ℕ) : Type 0 where
+abbrev pub zeros : List ℤ → List ℤ  -- 02, P10: the words are all zero afterwards, refused or not
+zeros words = replicate (length words) (pos 0)
+
+-- the contract of a reader that gives back r of the text t, and leaves the words and the room so
+pub record Promised (t : List ℕ) (words : List ℤ) (room : List ℕ) (r : Answer) (words′ : List ℤ) (left : List ℕ) : Type 0 where
   pub outcome : Outcome
-  pub answers : Answers t (length room) outcome
+  pub answers : Answers t (length words) (length room) outcome
   pub given : r ≡ given-back outcome
   pub kept : left ≡ roomAfter outcome room
+  pub cleared : words′ ≡ zeros words

@@ -12,9 +12,9 @@ use Rattle.definition.specs.Words.{if_then_else_}
 use Rattle.definition.specs.Rules.{textTooLong, notInGrammar, refuse}
 use Rattle.definition.specs.Answer.{Outcome, rejected, outcomeOf}
 
-unfoldable pub verdict : Verdict → List ℕ → ℕ → Outcome
-verdict InGrammar t room = outcomeOf (marked 0 0 t) room
-verdict (StuckAt n) t room = rejected (refuse notInGrammar n) []
+unfoldable pub verdict : Verdict → List ℕ → (words room : ℕ) → Outcome
+verdict InGrammar t words room = outcomeOf (marked 0 0 t) words room
+verdict (StuckAt n) t words room = rejected (refuse notInGrammar n) []
 
-unfoldable pub answerOf : List ℕ → ℕ → Outcome
-answerOf t room = if ltb mostBytes (length t) then rejected (refuse textTooLong 0) [] else verdict (verdictOf 0 0 0 t) t room
+unfoldable pub answerOf : List ℕ → (words room : ℕ) → Outcome
+answerOf t words room = if ltb mostBytes (length t) then rejected (refuse textTooLong 0) [] else verdict (verdictOf 0 0 0 t) t words room

@@ -10,6 +10,8 @@ pub mod Table
 pub mod Drawing
 pub mod Counts
 pub mod Flat
+pub mod Held
+pub mod Lean
 pub mod Answer
 pub mod Listing
 pub mod Computed

@@ -42,6 +42,6 @@ listing (accepted cs c es) =
     ++ windowLine (flatMap (λ d. d .itself .points) (shapesOf es))))
 listing (rejected r chain) = bytesOf "refused" ++ fields (decimal (pos (r .number)) ∷ decimal (pos (r .place)) ∷ [])
 
-pub data Lists (t : List ℕ) : List ℕ → Type 0 where  -- it takes at most 32,768 bytes, a longer text is refusal 1, and its room is 32,768 bytes
+pub data Lists (t : List ℕ) : List ℕ → Type 0 where  -- it takes at most 32,768 bytes, a longer text is refusal 1, its room is 32,768 bytes, and it lends 32,768 words
   over : 32768 < length t → Lists t (listing (rejected (refuse textTooLong 0) []))
-  within : {o : Outcome} → length t ≤ 32768 → Answers t 32768 o → Lists t (listing o)
+  within : {o : Outcome} → length t ≤ 32768 → Answers t 32768 32768 o → Lists t (listing o)
