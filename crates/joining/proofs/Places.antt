@@ -23,6 +23,7 @@ use Rattle.definition.specs.Faults.{Parts, parts, partsOf, shifts, bearings, bo
 use Rattle.definition.specs.Table.{shape, instance}
 use Rattle.definition.specs.Drawing.{stepOf}
 use Rattle.laws.proofs.Lists.Joined.{standing}
+use Rattle.laws.proofs.Story.Tables.{chosen}
 
 -- ---- all places in a thing k more
 
@@ -60,11 +61,6 @@ drop-map : {A B : Type 0} (f : A → B) (n : ℕ) (l : List A) → drop n (map f
 drop-map f zero l = refl
 drop-map f (suc n) [] = refl
 drop-map f (suc n) (a ∷ l) = drop-map f n l
-
--- a function of one of two is one of the two functions
-pub chosen : {A B : Type 0} (f : A → B) (b : Bool) {x y : A} {x′ y′ : B} → x′ ≡ f x → y′ ≡ f y → (if b then x′ else y′) ≡ f (if b then x else y)
-chosen f true e g = e
-chosen f false e g = g
 
 -- a list is another one with the function done to each, and so are two that are joined
 pub record Maps {A : Type 0} (f : A → A) (a b : List A) : Type 0 where

@@ -12,7 +12,7 @@ use lib.ListN.{length, length-map}
 use Rattle.definition.specs.declared.Refusal.{Refusal}
 use Rattle.definition.specs.Limits.{mostDefinitions, deepest, mostCalls, mostShapes}
 use Rattle.definition.specs.Rules.{tooManyDefinitions, offTheAxes, beingDrawn, tooDeep, refuse}
-use Rattle.definition.specs.Words.{if_then_else_, Placed, at, any, none?, those}
+use Rattle.definition.specs.Words.{if_then_else_, Placed, at, any, none?}
 use Rattle.definition.specs.Commands.{Shape, Turn, Command, draw, layer, call, start, finish, delete, nothing}
 use Rattle.definition.specs.Standing.{Standing, after}
 use Rattle.definition.specs.Faults.{beyond, both}
@@ -23,7 +23,8 @@ use Rattle.definition.specs.Drawing.{drawShape, drawStep, drawBody, Passage, ba
 use Rattle.definition.specs.Counts.{Counts, End, finished, stopped, counted, goOn, ending, shapesOf}
 use Rattle.definition.specs.Flat.{said, lines}
 use Rattle.laws.proofs.Lists.Joined.{tableThen}
-use Rattle.joining.proofs.Places.{shift, shiftCommand, shifted, chosen, any-map, after-shift, stepOf-shift}
+use Rattle.laws.proofs.Story.Tables.{chosen, find-map, enter-map, forget-map}
+use Rattle.joining.proofs.Places.{shift, shiftCommand, shifted, any-map, after-shift, stepOf-shift}
 
 module _ (f : ℕ → ℕ) where
   abbrev pub relocate : {A : Type 0} → Placed A → Placed A
@@ -53,22 +54,13 @@ module _ (f : ℕ → ℕ) where
   -- ---- the table
 
   find-relocated : (n : ℕ) (t : Table) → find n (map relocateDefinition t) ≡ Option·map relocateDefinition (find n t)
-  unfolding find
-  find-relocated n [] = refl
-  find-relocated n (d ∷ t) = chosen (Option·map relocateDefinition) (eqb (d .symbol) n) refl (find-relocated n t)
+  find-relocated n t = find-map relocateDefinition (λ d. refl) n t
 
   enter-relocated : (d : Definition) (t : Table) → enter (relocateDefinition d) (map relocateDefinition t) ≡ map relocateDefinition (enter d t)
-  unfolding enter
-  enter-relocated d [] = refl
-  enter-relocated d (e ∷ t) =
-      chosen (map relocateDefinition) (ltb (d .symbol) (e .symbol)) refl
-      (chosen (map relocateDefinition) (eqb (d .symbol) (e .symbol)) refl (ap (λ (x : Table). relocateDefinition e ∷ x) (enter-relocated d t)))
+  enter-relocated d t = enter-map relocateDefinition (λ d. refl) d t
 
   forget-relocated : (n : ℕ) (t : Table) → forget n (map relocateDefinition t) ≡ map relocateDefinition (forget n t)
-  unfolding forget those
-  forget-relocated n [] = refl
-  forget-relocated n (d ∷ t) =
-      chosen (map relocateDefinition) (ltb (d .symbol) n) (ap (λ (x : Table). relocateDefinition d ∷ x) (forget-relocated n t)) (forget-relocated n t)
+  forget-relocated n t = forget-map relocateDefinition (λ d. refl) n t
 
   pub tableAfter-relocated : (t : Table) (d : Deed) → tableAfter (map relocateDefinition t) (relocateDeed d) ≡ map relocateDefinition (tableAfter t d)
   unfolding tableAfter relocateDeed

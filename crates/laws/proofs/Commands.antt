@@ -4,4 +4,5 @@ pub mod Made
 pub mod Ordered
 pub mod NumberPlaces
 pub mod Wires
+pub mod WordsWithin
 pub mod Sizes

@@ -1,4 +1,4 @@
--- What holds of all that happens in a drawing: of its shapes, its places, its counts, the calls that are open.
+-- What holds of all that happens in a drawing: of its shapes, its places, its counts, the calls that are open, the table, and the words that bodies need.
 pub mod Kept
 pub mod EventPlaces
 pub mod Moments
@@ -8,3 +8,10 @@ pub mod Depth
 pub mod Reached
 pub mod CountLimits
 pub mod Callees
+pub mod Outputs
+pub mod Tables
+pub mod Held
+pub mod HeldStory
+pub mod Lean
+pub mod WordSums
+pub mod WordsHeld

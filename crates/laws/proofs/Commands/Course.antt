@@ -1,5 +1,6 @@
--- Numbers to which the productions give no sign have none, and a layer's name has one to four characters. The recogniser's states say so: each has
--- a count of what is still to come, found by search and tested here at each entry of its table, so not believed.
+-- Numbers to which the productions give no sign have none, a layer's name has one to four characters, and commands and transformations have at least
+-- so many letters. The recogniser's states say so: each has a count of what is still to come, found by search and tested here at each entry of its
+-- table, so not believed.
 -- Assumes nothing.
 use mathlib.Core.Path.{_≡_, refl, sym, ap, _∙_, subst}
 use mathlib.Core.Bool.{Bool, true, false, not, _&&_, _||_}
@@ -11,7 +12,7 @@ use lib.Dec.{T, ltb, leb, eqb, leb→le, eqb→eq, eqb·suc-zero}
 use lib.IntN.{pos, negℤ}
 use lib.ListN.{length, getD}
 use borrow.Author.Tests.{eq-eqb}
-use Rattle.grammar.specs.Notation.{Class, Role, Role-discrete, Letter, Match, has, dec, 'B', 'C', 'D', 'L', 'R', 'S', 'W'}
+use Rattle.grammar.specs.Notation.{Class, Role, Role-discrete, Letter, Match, has, dec, 'B', 'C', 'D', 'L', 'R', 'S', 'T', 'W'}
 use Rattle.grammar.specs.Notation.{skip, head, second, turn, sign, lead, name, stop}
 use Rattle.grammar.specs.Productions.{cifFile}
 use Rattle.grammar.specs.Tables.{stateCount, kindCount, roleUnit, stuck, deep, accepting, lparKind, rparKind, foreignKind, samples, table, roles, letter}
@@ -45,25 +46,36 @@ room : ℕ → ℕ
 room =
     counted ((0, 5) ∷ (2, 5) ∷ (3, 5) ∷ (8, 4) ∷ (13, 5) ∷ (18, 3) ∷ (29, 2) ∷ (38, 5) ∷ (40, 1) ∷ (49, 5) ∷ (53, 4) ∷ (66, 3) ∷ (78, 2) ∷ (88, 1) ∷ [])
 
+-- how many letters at least come before the next transformation or semicolon, as far as what a letter brings depends on it
+ahead : ℕ → ℕ
+ahead =
+    counted ((4, 6) ∷ (5, 1) ∷ (8, 1) ∷ (10, 3) ∷ (11, 1) ∷ (14, 5) ∷ (21, 2) ∷ (23, 4) ∷ (26, 2) ∷ (32, 1) ∷ (33, 3) ∷ (35, 1) ∷ (36, 1)
+    ∷ (45, 2) ∷ (50, 6) ∷ (51, 1) ∷ (53, 1) ∷ (55, 3) ∷ (56, 1) ∷ (59, 1) ∷ (60, 1) ∷ (64, 5) ∷ (69, 2) ∷ (74, 4) ∷ (77, 2) ∷ (81, 1)
+    ∷ (84, 3) ∷ (86, 1) ∷ (87, 1) ∷ (94, 2) ∷ (98, 1) ∷ (99, 1) ∷ [])
+
 -- behind the D of a command, where the second letter is still to tell what the numbers are
 awaits : ℕ → Bool
 awaits q = eqb q 6 || eqb q 52
 
--- a letter of this role and class comes before so many numbers without a sign
-pub data Brings : Role → Class → ℕ → Type 0 where
-  box-brings : Brings head 'B' 2
-  flash-brings : Brings head 'R' 1
-  wire-brings : Brings head 'W' 1
-  call-brings : Brings head 'C' 1
-  start-brings : Brings second 'S' 3
-  delete-brings : Brings second 'D' 1
+-- a letter of this role and class comes before so many numbers without a sign, and before so many letters at least that stand before the next
+-- transformation or semicolon
+pub data Brings : Role → Class → (signless letters : ℕ) → Type 0 where
+  box-brings : Brings head 'B' 2 6
+  flash-brings : Brings head 'R' 1 3
+  wire-brings : Brings head 'W' 1 1
+  call-brings : Brings head 'C' 1 1
+  layer-brings : Brings head 'L' 0 1
+  translate-brings : Brings turn 'T' 0 2
+  rotate-brings : Brings turn 'R' 0 2
+  start-brings : Brings second 'S' 3 0
+  delete-brings : Brings second 'D' 1 0
 
 -- the counts agree where a letter of role ρ and of the classes h leads from state q to state to. Bytes come in by their classes only, so that a
 -- byte of each kind stands for all
 unfoldable checks : ℕ → Role → (Class → Bool) → ℕ → List Bool
 checks q ρ h to =
     let for : Role → Bool = λ σ. dec (Role-discrete ρ σ) in
-    let brings : Role → Class → ℕ → Bool = λ σ c k. not (for σ && h c) || leb k (owed to) in
+    let brings : Role → Class → ℕ → ℕ → Bool = λ σ c k j. not (for σ && h c) || (leb k (owed to) && leb j (ahead to)) in
     (not (for sign) || eqb (owed q) 0)
     ∷ ((for turn || for stop) || leb (owed q) (if for lead then suc (owed to) else owed to))
     ∷ (for stop || leb (if for name then suc (room to) else room to) (room q))
@@ -71,12 +83,16 @@ checks q ρ h to =
     ∷ (not (awaits q) || (for second || (for skip && awaits to)))
     ∷ (not (for head && h 'L') || eqb (room to) 4)
     ∷ (not (for head && h 'D') || awaits to)
-    ∷ brings head 'B' 2
-    ∷ brings head 'R' 1
-    ∷ brings head 'W' 1
-    ∷ brings head 'C' 1
-    ∷ brings second 'S' 3
-    ∷ brings second 'D' 1
+    ∷ leb (ahead q) (if for turn || for stop then 0 else suc (ahead to))
+    ∷ brings head 'B' 2 6
+    ∷ brings head 'R' 1 3
+    ∷ brings head 'W' 1 1
+    ∷ brings head 'C' 1 1
+    ∷ brings head 'L' 0 1
+    ∷ brings turn 'T' 0 2
+    ∷ brings turn 'R' 0 2
+    ∷ brings second 'S' 3 0
+    ∷ brings second 'D' 1 0
     ∷ []
 
 abbrev allTrue : List Bool → Bool
@@ -100,7 +116,8 @@ record Checked (q : ℕ) (l : Letter) (to : ℕ) : Type 0 where
   tells : T (awaits q) → T (l plays second || (l plays skip && awaits to))
   names : T (l plays head && l is 'L') → room to ≡ 4
   defines : T (l plays head && l is 'D') → T (awaits to)
-  brings : {ρ : Role} {c : Class} {k : ℕ} → Brings ρ c k → T (l plays ρ && l is c) → k ≤ owed to
+  spaces : ahead q ≤ (if l plays turn || l plays stop then 0 else suc (ahead to))
+  brings : {ρ : Role} {c : Class} {k j : ℕ} → Brings ρ c k j → T (l plays ρ && l is c) → (k ≤ owed to) × (j ≤ ahead to)
 
 T-of : {b : Bool} → b ≡ true → T b
 T-of e = subst T (sym e) tt
@@ -115,19 +132,28 @@ checked q l to t = record {
   tells = follows (awaits q) _ (pick 4);
   names = λ h. eqb→eq (room to) 4 (follows (l plays head && l is 'L') _ (pick 5) h);
   defines = follows (l plays head && l is 'D') _ (pick 6);
+  spaces = leb→le (ahead q) _ (pick 7);
   brings = brought;
 }
   where
     pick : (i : ℕ) → T (getD (checks q (l .role) (λ c. l is c) to) i true)
     pick = all-at (checks q (l .role) (λ c. l is c) to) t
 
-    brought : {ρ : Role} {c : Class} {k : ℕ} → Brings ρ c k → T (l plays ρ && l is c) → k ≤ owed to
-    brought box-brings h = leb→le 2 (owed to) (follows (l plays head && l is 'B') _ (pick 7) h)
-    brought flash-brings h = leb→le 1 (owed to) (follows (l plays head && l is 'R') _ (pick 8) h)
-    brought wire-brings h = leb→le 1 (owed to) (follows (l plays head && l is 'W') _ (pick 9) h)
-    brought call-brings h = leb→le 1 (owed to) (follows (l plays head && l is 'C') _ (pick 10) h)
-    brought start-brings h = leb→le 3 (owed to) (follows (l plays second && l is 'S') _ (pick 11) h)
-    brought delete-brings h = leb→le 1 (owed to) (follows (l plays second && l is 'D') _ (pick 12) h)
+    least : (ρ : Role) (c : Class) (k j : ℕ) → T (not (l plays ρ && l is c) || (leb k (owed to) && leb j (ahead to))) → T (l plays ρ && l is c) → (k ≤ owed to) × (j ≤ ahead to)
+    least ρ c k j t h =
+        let x = follows (l plays ρ && l is c) _ t h in
+        (leb→le k (owed to) (and-left (leb k (owed to)) _ x), leb→le j (ahead to) (and-right (leb k (owed to)) _ x))
+
+    brought : {ρ : Role} {c : Class} {k j : ℕ} → Brings ρ c k j → T (l plays ρ && l is c) → (k ≤ owed to) × (j ≤ ahead to)
+    brought box-brings h = least head 'B' 2 6 (pick 8) h
+    brought flash-brings h = least head 'R' 1 3 (pick 9) h
+    brought wire-brings h = least head 'W' 1 1 (pick 10) h
+    brought call-brings h = least head 'C' 1 1 (pick 11) h
+    brought layer-brings h = least head 'L' 0 1 (pick 12) h
+    brought translate-brings h = least turn 'T' 0 2 (pick 13) h
+    brought rotate-brings h = least turn 'R' 0 2 (pick 14) h
+    brought start-brings h = least second 'S' 3 0 (pick 15) h
+    brought delete-brings h = least second 'D' 1 0 (pick 16) h
 
 -- entry x of the table, at state q and kind k
 unfoldable passes : ℕ → ℕ → ℕ → Bool
@@ -136,7 +162,7 @@ passes q k x =
     eqb to stuck || allTrue (checks q (getD roles (x / roleUnit) skip) (λ c. has c (stand k)) (choose (ltb to deep) to (to - deep)))
 
 table-passes : T (everyEntry passes table)
-unfolding passes checks owed room awaits counted dec has stand samples table
+unfolding passes checks owed room ahead awaits counted dec has stand samples table
 table-passes = tt
 
 -- a letter within a comment, which leaves the state as it is
@@ -144,7 +170,7 @@ skipPasses : ℕ → Bool
 skipPasses q = allTrue (checks q skip (λ c. false) q)
 
 skips-pass : T (upto skipPasses stateCount)
-unfolding upto skipPasses checks owed room awaits counted dec
+unfolding upto skipPasses checks owed room ahead awaits counted dec
 skips-pass = tt
 
 skip-passes : (q : ℕ) (h : Class → Bool) → q < stateCount → Passes q skip h q
@@ -181,19 +207,14 @@ module _ (q b : ℕ) (hq : q < stateCount) (hb : b < 256) where
       subst (λ (t : Bool). (choose t A B .state ≡ stuck → ⊥) → Passes q (getD roles (choose t (entryOf q k / roleUnit) 0) skip) h (choose t A B .state)) (sym (eqb·suc-zero e))
       (λ m. within-at (Passes q skip h) q (suc e) (eqb k lparKind) (eqb k rparKind) (eqb k foreignKind) m (skip-passes q h hq)) n
 
--- the letters m lead from state q on, to an end that lacks no name
+-- the letters m lead from state q on to the state in which a text may end
 data Course : ℕ → List Letter → Type 0 where
-  done : {q : ℕ} → (room q ≡ 4 → ⊥) → Course q []
+  done : {q : ℕ} → q ≡ accepting → Course q []
   step : {q to : ℕ} {l : Letter} {m : List Letter} → Checked q l to → Course to m → Course q (l ∷ m)
 
-end-course : (q d : ℕ) → q < stateCount → Lang q d [] → room q ≡ 4 → ⊥
-end-course q zero h k e =
-    let a : q ≡ accepting = eqb→eq q accepting (subst T (accepts q h) (final-complete (subst (λ (js : Choice). Items js []) (deepen-zero (label q)) k))) in
-    full (ap room (sym a) ∙ e)
-  where
-    full : room accepting ≡ 4 → ⊥
-    full z = let w : _≡_ {A = ℕ} 0 4 = unfold room counted in z in omega arith
-end-course q (suc d) h k e = final-deep d (label q) (final-complete k)
+end-course : (q d : ℕ) → q < stateCount → Lang q d [] → q ≡ accepting
+end-course q zero h k = eqb→eq q accepting (subst T (accepts q h) (final-complete (subst (λ (js : Choice). Items js []) (deepen-zero (label q)) k)))
+end-course q (suc d) h k = absurd (final-deep d (label q) (final-complete k))
 
 course : (m : List Letter) (q d : ℕ) → q < stateCount → Below 256 m → Lang q d m → Course q m
 course [] q d h b k = done (end-course q d h k)
@@ -251,7 +272,7 @@ false-only : {A : Type 0} → false ≡ true → A
 false-only e = absurd (subst T (sym e) tt)
 
 -- of a D command the second letter tells how many
-seconds : {c : Class} {k : ℕ} → Brings second c k → has c 59 ≡ false → (n : ℕ) (minus : Bool) {q : ℕ} {m : List Letter} → Course q m → T (awaits q)
+seconds : {c : Class} {k j : ℕ} → Brings second c k j → has c 59 ≡ false → (n : ℕ) (minus : Bool) {q : ℕ} {m : List Letter} → Course q m → T (awaits q)
     → (next second m is c) ≡ true → Firsts k (numbers n minus m)
 unfolding next
 seconds b none n minus (done f) a e = false-only (sym none ∙ e)
@@ -264,7 +285,7 @@ seconds {c} {k} b none n minus (step {q} {to} {l} {m} t f) a e =
     go : T (l plays second) ⊎ T (l plays skip && awaits to) → (T (awaits to) → (next second m is c) ≡ true → Firsts k (numbers (n + 1) false m)) → P (l .role)
     go (inl s) rest =
         subst P (sym (dec-sound (Role-discrete (l .role) second) s))
-        (unfold numbers dec in λ e. firsts k (n + 1) false f (t .brings b (and-both (l plays second) (l is c) s (T-of e))) false-only)
+        (unfold numbers dec in λ e. firsts k (n + 1) false f (t .brings b (and-both (l plays second) (l is c) s (T-of e)) .0) false-only)
     go (inr s) rest =
         subst P (sym (dec-sound (Role-discrete (l .role) skip) (and-left (l plays skip) _ s)))
         (unfold numbers dec in rest (and-right (l plays skip) _ s))
@@ -283,7 +304,10 @@ few-named (step {q} {to} {l} {m} t c) = go (l plays stop) (l plays name) (t .hol
 
 some-named : {q : ℕ} {m : List Letter} → Course q m → room q ≡ 4 → 0 < length (named m)
 unfolding named
-some-named (done f) e = absurd (f e)
+some-named (done f) e = absurd (full (ap room (sym f) ∙ e))
+  where
+    full : room accepting ≡ 4 → ⊥
+    full z = let w : _≡_ {A = ℕ} 0 4 = unfold room counted in z in omega arith
 some-named (step {q} {to} {l} {m} t c) e = go (l plays stop) (l plays name) (t .lacks e) (some-named c)
   where
     go : (s b : Bool) → T (not s && (b || eqb (room to) 4)) → (room to ≡ 4 → 0 < length (named m)) → 0 < length (if s then [] else if b then l .byte ∷ named m else named m)
@@ -291,11 +315,45 @@ some-named (step {q} {to} {l} {m} t c) e = go (l plays stop) (l plays name) (t .
     go false true t h = omega arith
     go false false t h = h (eqb→eq (room to) 4 t)
 
+-- ---- letters before the next transformation or semicolon
+
+unfoldable pub apart : List Letter → ℕ
+apart [] = 0
+apart (l ∷ m) = let rest = apart m in if l plays turn || l plays stop then 0 else suc rest
+
+ahead-apart : {q : ℕ} {m : List Letter} → Course q m → ahead q ≤ apart m
+unfolding apart
+ahead-apart (done f) = let w : ahead accepting ≡ 0 = unfold ahead counted in refl in let z = ap ahead f in omega arith
+ahead-apart (step {q} {to} {l} {m} t c) = go (l plays turn || l plays stop) (t .spaces) (ahead-apart c)
+  where
+    go : (b : Bool) → ahead q ≤ (if b then 0 else suc (ahead to)) → ahead to ≤ apart m → ahead q ≤ (if b then 0 else suc (apart m))
+    go true h i = h
+    go false h i = omega arith
+
+-- each letter is before as many letters as it brings
+pub record Space (l : Letter) (m : List Letter) : Type 0 where
+  pub least : {ρ : Role} {c : Class} {k j : ℕ} → Brings ρ c k j → (l plays ρ) ≡ true → (l is c) ≡ true → j ≤ apart m
+
+unfoldable pub Spaced : List Letter → Type 0
+Spaced [] = Unit {0}
+Spaced (l ∷ m) = Space l m × Spaced m
+
+spaced : {q : ℕ} {m : List Letter} → Course q m → Spaced m
+unfolding Spaced
+spaced (done f) = tt
+spaced (step {q} {to} {l} {m} t c) = (record { least = least }, spaced c)
+  where
+    least : {ρ : Role} {e : Class} {k j : ℕ} → Brings ρ e k j → (l plays ρ) ≡ true → (l is e) ≡ true → j ≤ apart m
+    least {ρ} {e} b p i = omega (arith, t .brings b (and-both (l plays ρ) (l is e) (T-of p) (T-of i)) .1, ahead-apart c)
+
+pub matched-spaced : {m : List Letter} → Match cifFile m → Spaced m
+matched-spaced k = spaced (matched-course k)
+
 -- ---- so much is known of a command that the letter l begins before the letters m
 
 pub record Begun (l : Letter) (m : List Letter) : Type 0 where
-  pub sized : {c : Class} {k : ℕ} → Brings head c k → (l is c) ≡ true → (n : ℕ) → Firsts k (numbers n false m)
-  pub defined : {c : Class} {k : ℕ} → Brings second c k → (l is 'D') ≡ true → (next second m is c) ≡ true → (n : ℕ) → Firsts k (numbers n false m)
+  pub sized : {c : Class} {k j : ℕ} → Brings head c k j → (l is c) ≡ true → (n : ℕ) → Firsts k (numbers n false m)
+  pub defined : {c : Class} {k j : ℕ} → Brings second c k j → (l is 'D') ≡ true → (next second m is c) ≡ true → (n : ℕ) → Firsts k (numbers n false m)
   pub some-name : (l is 'L') ≡ true → 0 < length (named m)
   pub short-name : (l is 'L') ≡ true → length (named m) ≤ 4
 
@@ -303,14 +361,14 @@ unfoldable pub Heads : List Letter → Type 0
 Heads [] = Unit {0}
 Heads (l ∷ m) = ((l plays head) ≡ true → Begun l m) × Heads m
 
-no-stop : {c : Class} {k : ℕ} → Brings second c k → has c 59 ≡ false
+no-stop : {c : Class} {k j : ℕ} → Brings second c k j → has c 59 ≡ false
 unfolding has
 no-stop start-brings = refl
 no-stop delete-brings = refl
 
 begun : {q to : ℕ} {l : Letter} {m : List Letter} → Checked q l to → Course to m → T (l plays head) → Begun l m
 begun {q} {to} {l} {m} t c h = record {
-  sized = λ b i n. firsts _ n false c (t .brings b (both i)) false-only;
+  sized = λ b i n. firsts _ n false c (t .brings b (both i) .0) false-only;
   defined = λ b i j n. seconds b (no-stop b) n false c (t .defines (both i)) j;
   some-name = λ i. some-named c (t .names (both i));
   short-name = λ i. let f = t .names (both i) in let g = few-named c in omega arith;

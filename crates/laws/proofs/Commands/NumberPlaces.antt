@@ -1,7 +1,7 @@
 -- Where the commands of a text and their numbers stand: within the text, and the numbers of one command in ascending places. Refusals 3 to 9 go
 -- by place within a number, and every refusal's place has to lie in the text.
 -- Assumes nothing.
-use mathlib.Core.Path.{_≡_, refl, sym, ap, subst}
+use mathlib.Core.Path.{_≡_, refl, sym, ap, _∙_, subst}
 use mathlib.Core.Bool.{Bool, true, false, _||_}
 use mathlib.Core.List.{List, [], _∷_, _++_, flatMap}
 use Prim.Native.Nat.{ℕ, zero, suc, _+_, _-_, _≤_, _<_}
@@ -10,6 +10,7 @@ use lib.Dec.{T}
 use lib.IntN.{ℤ, pos, negℤ, natAbs}
 use lib.ListN.{length, getD, drop}
 use Rattle.grammar.specs.Notation.{Role, Role-discrete, Letter, dec, second, turn, axis, sign, lead, stop, head, 'B', 'C', 'D', 'L', 'P', 'R', 'S', 'T', 'W', 'X'}
+use Rattle.grammar.specs.Viable.{bytes, Marked}
 use Rattle.grammar.proofs.Items.{dec-sound}
 use Rattle.definition.specs.Words.{if_then_else_, Placed, at}
 use Rattle.definition.specs.Commands.{Number, Turn}
@@ -246,6 +247,14 @@ pub record Stands (high : ℕ) (c : Placed Command) : Type 0 where
   pub within : c .place < high
   pub numbers-rise : Rising Small (c .place) high (numbersOf (c .what))
   pub distances-rise : Rising Null (c .place) high (distances (c .what))
+
+-- a text has as many letters as bytes
+pub as-long : {t : List ℕ} {m : List Letter} → Marked t m → length m ≡ length t
+as-long {m = m} k = sym (go m) ∙ ap (λ (x : List ℕ). length x) (k .reads)
+  where
+    go : (m : List Letter) → length (bytes m) ≡ length m
+    go [] = refl
+    go (l ∷ m) = ap suc (go m)
 
 pub commands-stand : (n high : ℕ) (m : List Letter) → n + length m ≤ high → All (Stands high) (commands n m)
 unfolding commands All

@@ -337,11 +337,11 @@ module _ (n : ℕ) (l : Letter) (m : List Letter) where
   unfolding next
   quiet-next h = rw (quiet-not (l .role) h .1, quiet-not (l .role) h .2)
 
-  stop-commands : l .role ≡ stop → commands n (l ∷ m) ≡ commands (n + 1) m
+  pub stop-commands : l .role ≡ stop → commands n (l ∷ m) ≡ commands (n + 1) m
   unfolding commands dec
   stop-commands e = rw e
 
-  second-commands : l .role ≡ second → commands n (l ∷ m) ≡ commands (n + 1) m
+  pub second-commands : l .role ≡ second → commands n (l ∷ m) ≡ commands (n + 1) m
   unfolding commands dec
   second-commands e = rw e
 

@@ -1,10 +1,11 @@
--- Demand 1: every text has an outcome, with any room; a refusal holds its number and place and nothing else, and leaves the room unchanged; and the
--- place lies within the text.
+-- Demand 1: every text has an outcome, with any words and any room; a refusal holds its number and place and nothing else, and leaves the room
+-- unchanged; the place lies within the text; and the words are all zero afterwards.
 -- Assumes nothing.
 use mathlib.Core.Path.{_≡_, refl, sym, ap, _∙_, subst}
 use mathlib.Core.List.{List, _++_}
 use Prim.Native.Nat.{ℕ, _≤_, _<_}
 use native.Mathlib.Omega.{arith}
+use lib.IntN.{ℤ}
 use lib.ListN.{length, drop}
 use Rattle.grammar.specs.Notation.{Letter}
 use Rattle.grammar.specs.Viable.{Marked}
@@ -18,7 +19,7 @@ use Rattle.definition.specs.Counts.{Counts, shapesOf, stopped}
 use Rattle.definition.specs.Flat.{flat}
 use Rattle.definition.specs.Rounded.{rounded}
 use Rattle.definition.specs.declared.Answer.{Answer}
-use Rattle.definition.specs.Answer.{Outcome, accepted, rejected, flatFile, given-back, roomAfter, Answers, Promised}
+use Rattle.definition.specs.Answer.{Outcome, accepted, rejected, flatFile, given-back, roomAfter, Answers, zeros, Promised}
 use Rattle.definition.specs.Computed.{answerOf}
 use Rattle.laws.proofs.Lists.Range.{All}
 use Rattle.definition.proofs.Right.{right}
@@ -27,14 +28,14 @@ use Rattle.laws.proofs.Rules.FaultRules.{Written, all-so, commands-writ
 use Rattle.laws.proofs.Rules.Outcomes.{Way, by-length, by-grammar, by-command, by-drawing, by-flat-file, endOf, refusal-rule, acceptance}
 use Rattle.laws.proofs.Rules.Order.{number-from-1}
 
--- every text of bytes comes out in some way, whatever the room's length; so a promise can be kept for it
-pub some-outcome : (t : List ℕ) (room : ℕ) → Bytes t → (outcome : Outcome) × Answers t room outcome
-some-outcome t room b = (answerOf t room, right t room b)
+-- every text of bytes comes out in some way, whatever the words and the room; so a promise can be kept for it
+pub some-outcome : (t : List ℕ) (words room : ℕ) → Bytes t → (outcome : Outcome) × Answers t words room outcome
+some-outcome t words room b = (answerOf t words room, right t words room b)
 
-pub some-answer : (t room : List ℕ) → Bytes t → (r : Answer) × (left : List ℕ) × Promised t room r left
-some-answer t room b =
-    let o = some-outcome t (length room) b in
-    (given-back (o .0), roomAfter (o .0) room, record { outcome = o .0; answers = o .1; given = refl; kept = refl })
+pub some-answer : (t : List ℕ) (words : List ℤ) (room : List ℕ) → Bytes t → (r : Answer) × (words′ : List ℤ) × (left : List ℕ) × Promised t words room r words′ left
+some-answer t words room b =
+    let o = some-outcome t (length words) (length room) b in
+    (given-back (o .0), zeros words, roomAfter (o .0) room, record { outcome = o .0; answers = o .1; given = refl; kept = refl; cleared = refl })
 
 -- ---- where a refusal stands
 
@@ -47,10 +48,11 @@ pub record Located (t : List ℕ) (r : Refusal) (chain : Chain) : Type 0 where
   pub inside : (rule ≡ textTooLong → ⊥) → (rule ≡ notInGrammar → ⊥) → (rule ≡ flatFileTooLong → ⊥) → r .place < length t
   pub calls-inside : All (λ (c : Placed ℕ). c .place < length t) chain
 
--- a drawing is stopped by a rule of 10 to 17, at a place in the text, under calls in the text
-pub stopped-within : {t : List ℕ} {m : List Letter} → Marked t m → {r : Refusal} {chain : Chain} → endOf m ≡ stopped r chain → Refuses (λ (q : ℕ). q < length t) r chain
-stopped-within {t} {m} k e =
-    stopped-at (λ (q : ℕ). q < length t) (commands 0 m)
+-- a drawing is stopped by a rule of 10 to 17 or by 25, at a place in the text, under calls in the text
+pub stopped-within : {t : List ℕ} {m : List Letter} → Marked t m → (words : ℕ) {r : Refusal} {chain : Chain} → endOf words m ≡ stopped r chain
+    → Refuses (λ (q : ℕ). q < length t) r chain
+stopped-within {t} {m} k words e =
+    stopped-at (λ (q : ℕ). q < length t) words (commands 0 m)
     (all-so (Written (length t)) (λ (c : Placed Command). c .place < length t) (λ c w. w .stand .within) (commands 0 m) (commands-written k)) e
 
 record Reaches (t : List ℕ) (rule : Rule) (p : ℕ) (chain : Chain) : Type 0 where
@@ -58,18 +60,18 @@ record Reaches (t : List ℕ) (rule : Rule) (p : ℕ) (chain : Chain) : Type 0 w
   inside : (rule ≡ textTooLong → ⊥) → (rule ≡ notInGrammar → ⊥) → (rule ≡ flatFileTooLong → ⊥) → p < length t
   calls-inside : All (λ (c : Placed ℕ). c .place < length t) chain
 
-way-reaches : {t : List ℕ} {room : ℕ} {r : Rule} {p : ℕ} {chain : Chain} → Way t room r p chain → Reaches t r p chain
+way-reaches : {t : List ℕ} {words room : ℕ} {r : Rule} {p : ℕ} {chain : Chain} → Way t words room r p chain → Reaches t r p chain
 unfolding All
 way-reaches (by-length h) = record { reached = omega arith; inside = λ a b c. absurd (a refl); calls-inside = tt }
 way-reaches (by-grammar h g l) = record { reached = l .within; inside = λ a b c. absurd (b refl); calls-inside = tt }
 way-reaches (by-command h k b) = let p = break-place k b in record { reached = omega arith; inside = λ x y z. p; calls-inside = tt }
-way-reaches (by-drawing q e) =
-    let r = stopped-within (q .marked) e in
+way-reaches {words = words} (by-drawing q e) =
+    let r = stopped-within (q .marked) words e in
     let p = r .place in
     record { reached = omega arith; inside = λ x y z. p; calls-inside = r .open-calls }
 way-reaches (by-flat-file q e l) = record { reached = omega arith; inside = λ a b c. absurd (c refl); calls-inside = tt }
 
-pub located : {t : List ℕ} {room : ℕ} {r : Refusal} {chain : Chain} → Answers t room (rejected r chain) → Located t r chain
+pub located : {t : List ℕ} {words room : ℕ} {r : Refusal} {chain : Chain} → Answers t words room (rejected r chain) → Located t r chain
 located {r = r} a =
     let (q, e, w) = refusal-rule a in
     let there = way-reaches w in
@@ -95,10 +97,10 @@ pub record RefusalHolds (room : List ℕ) (r : Answer) (left : List ℕ) (by : R
   pub none-rounded : r .rounded ≡ 0
   pub room-kept : left ≡ room
 
-pub refusal-holds : {t room : List ℕ} {r : Answer} {left : List ℕ} (h : Promised t room r left) {by : Refusal} {chain : Chain} → h .outcome ≡ rejected by chain
+pub refusal-holds : {t : List ℕ} {words : List ℤ} {room : List ℕ} {r : Answer} {words′ : List ℤ} {left : List ℕ} (h : Promised t words room r words′ left) {by : Refusal} {chain : Chain} → h .outcome ≡ rejected by chain
     → RefusalHolds room r left by × Located t by chain
 unfolding given-back flatFile
-refusal-holds {t} {room} {r} {left} h {by} {chain} e =
+refusal-holds {t} {words} {room} {r} {words′} {left} h {by} {chain} e =
     let g : r ≡ given-back (rejected by chain) = h .given ∙ ap (λ (o : Outcome). given-back o) e in (
       record {
         number = ap (λ (a : Answer). a .number) g;
@@ -110,7 +112,7 @@ refusal-holds {t} {room} {r} {left} h {by} {chain} e =
         none-rounded = ap (λ (a : Answer). a .rounded) g;
         room-kept = h .kept ∙ ap (λ (o : Outcome). roomAfter o room) e;
       },
-      located (subst (Answers t (length room)) e (h .answers)),
+      located (subst (Answers t (length words) (length room)) e (h .answers)),
     )
 
 -- 01: on success the number and place are 0, the first bytes of the room hold the flat file and the rest of the room is unchanged
@@ -125,12 +127,12 @@ pub record SuccessHolds (room : List ℕ) (r : Answer) (left : List ℕ) (cs : L
   pub room-holds : left ≡ flat-file ++ drop (length flat-file) room
   pub fits : length flat-file ≤ length room
 
-pub success-holds : {t room : List ℕ} {r : Answer} {left : List ℕ} (h : Promised t room r left) {cs : List (Placed Command)} {c : Counts} {es : List Event} → h .outcome ≡ accepted cs c es
+pub success-holds : {t : List ℕ} {words : List ℤ} {room : List ℕ} {r : Answer} {words′ : List ℤ} {left : List ℕ} (h : Promised t words room r words′ left) {cs : List (Placed Command)} {c : Counts} {es : List Event} → h .outcome ≡ accepted cs c es
     → SuccessHolds room r left cs c (flat (shapesOf es))
 unfolding given-back flatFile
-success-holds {t} {room} {r} {left} h {cs} {c} {es} e =
+success-holds {t} {words} {room} {r} {words′} {left} h {cs} {c} {es} e =
     let g : r ≡ given-back (accepted cs c es) = h .given ∙ ap (λ (o : Outcome). given-back o) e in
-    let a = acceptance .0 (subst (Answers t (length room)) e (h .answers)) in
+    let a = acceptance .0 (subst (Answers t (length words) (length room)) e (h .answers)) in
     record {
       no-number = ap (λ (x : Answer). x .number) g;
       no-place = ap (λ (x : Answer). x .place) g;

@@ -12,7 +12,7 @@ use lib.IntN.{ℤ, natAbs}
 use lib.ListN.{length, take, drop, length-append}
 use lib.Seq.{take-at, drop-at}
 use Rattle.grammar.specs.Notation.{Letter, dec, has, head, skip, stop}
-use Rattle.grammar.specs.Viable.{bytes, Marked}
+use Rattle.grammar.specs.Viable.{Marked}
 use Rattle.grammar.specs.Tables.{letter}
 use Rattle.grammar.proofs.Markings.{one-marking}
 use Rattle.definition.specs.declared.Answer.{Answer}
@@ -25,7 +25,8 @@ use Rattle.definition.specs.Commands.{Number, Kind, box, flash, wire, polygon, 
 use Rattle.definition.specs.Drawing.{Drawn, Event, drew}
 use Rattle.definition.specs.Counts.{Counts, counts, shapesOf}
 use Rattle.definition.specs.Flat.{letterOf, numbersOfShape, flat}
-use Rattle.definition.specs.Answer.{Outcome, accepted, flatFile, answer, given-back, roomAfter, Answers, Promised}
+use Rattle.definition.specs.Answer.{Outcome, accepted, flatFile, answer, given-back, roomAfter, Answers, zeros, Promised}
+use Rattle.laws.proofs.Commands.NumberPlaces.{as-long}
 use Rattle.laws.proofs.Lists.Range.{All, all-++, all-to}
 use Rattle.laws.proofs.FlatFile.Again.{spacedLetters}
 use Rattle.laws.proofs.FlatFile.Reread.{plain, names, ended, lineLetters, lastLetters, saidLetters, linesLetters, flatLetters, Headless, names-headless, spaced-headless}
@@ -140,10 +141,6 @@ opening-commands n (l ∷ b) m h = go (l plays head) refl (h .0) (opening-comman
       each = r .each;
     }
 
-bytes-length : (m : List Letter) → length (bytes m) ≡ length m
-bytes-length [] = refl
-bytes-length (l ∷ m) = ap suc (bytes-length m)
-
 only-shapes-of : {t : List ℕ} {f : List Letter} → Marked t f → OnlyOpenings f → OnlyShapes (length t) (commands 0 f)
 only-shapes-of {t} {f} k o =
     let r = opening-commands 0 (o .before) lastLetters (o .each) in
@@ -153,9 +150,8 @@ only-shapes-of {t} {f} k o =
       is = ap (commands 0) (o .is) ∙ r .is ∙ ap (λ (x : List (Placed Command)). r .those-before ++ x) (the-end (0 + length (o .before)));
       each = r .each;
       last-line =
-          let a : length (bytes f) ≡ length t = ap (λ (x : List ℕ). length x) (k .reads) in
           let b : length f ≡ length (o .before ++ lastLetters) = ap (λ (x : List Letter). length x) (o .is) in
-          omega (arith, a, b, bytes-length f, length-append (o .before) lastLetters);
+          omega (arith, as-long k, b, length-append (o .before) lastLetters);
     }
   where
     the-end : (n : ℕ) → commands n lastLetters ≡ at n nothing ∷ []
@@ -214,9 +210,9 @@ pub record Demand3 (room : ℕ) (c : Counts) (ds : List Drawn) : Type 0 where
   -- the room held it
   pub short : length (flat ds) ≤ mostBytes
   pub fitted : length (flat ds) ≤ room
-  -- every room that holds it accepts it: no calls, no redefinitions and nothing rounded, and as many shapes as were drawn
+  -- every room that holds it accepts it, however few words are lent: no calls, no redefinitions and nothing rounded, and as many shapes as were drawn
   pub events : List Event
-  pub accepts : (room′ : ℕ) → length (flat ds) ≤ room′ → Answers (flat ds) room′ (accepted (commands 0 letters) (counts 0 (c .shapes) 0) events)
+  pub accepts : (words room′ : ℕ) → length (flat ds) ≤ room′ → Answers (flat ds) words room′ (accepted (commands 0 letters) (counts 0 (c .shapes) 0) events)
   pub all-counted : c .shapes ≡ length ds
   -- nothing but shapes is drawn: the same, on the same layers, with the same numbers, in the same order
   pub nothing-else : events ≡ map drew (shapesOf events)
@@ -224,13 +220,13 @@ pub record Demand3 (room : ℕ) (c : Counts) (ds : List Drawn) : Type 0 where
   -- flattened again it is the same bytes
   pub same-bytes : flat (shapesOf events) ≡ flat ds
   -- so a reader may leave it at the start of a room that holds it, with the rest of the room unchanged; and none may do otherwise
-  pub promised : (before : List ℕ) → length (flat ds) ≤ length before
-      → Promised (flat ds) before (answer 0 0 (length (flat ds)) (counts 0 (c .shapes) 0) 0) (flat ds ++ drop (length (flat ds)) before)
-  pub settled : (before left : List ℕ) (r : Answer) → length (flat ds) ≤ length before → Promised (flat ds) before r left
+  pub promised : (words : List ℤ) (before : List ℕ) → length (flat ds) ≤ length before
+      → Promised (flat ds) words before (answer 0 0 (length (flat ds)) (counts 0 (c .shapes) 0) 0) (zeros words) (flat ds ++ drop (length (flat ds)) before)
+  pub settled : (words words′ : List ℤ) (before left : List ℕ) (r : Answer) → length (flat ds) ≤ length before → Promised (flat ds) words before r words′ left
       → (r ≡ answer 0 0 (length (flat ds)) (counts 0 (c .shapes) 0) 0) × (left ≡ flat ds ++ drop (length (flat ds)) before)
 
-pub demand3 : {t : List ℕ} {room : ℕ} {cs : List (Placed Command)} {c : Counts} {es : List Event} → Answers t room (accepted cs c es) → Demand3 room c (shapesOf es)
-demand3 {t} {room} {cs} {c} {es} k = record {
+pub demand3 : {t : List ℕ} {words room : ℕ} {cs : List (Placed Command)} {c : Counts} {es : List Event} → Answers t words room (accepted cs c es) → Demand3 room c (shapesOf es)
+demand3 {t} {words} {room} {cs} {c} {es} k = record {
   letters = flatLetters (shapesOf es);
   grammatical = again .grammatical;
   one-way = λ m h. one-marking h (again .grammatical);
@@ -245,7 +241,7 @@ demand3 {t} {room} {cs} {c} {es} k = record {
   same-shapes = again .same-shapes;
   same-bytes = again .same-bytes;
   promised = promised;
-  settled = λ before left r h p. one-answer p (promised before h);
+  settled = λ words words′ before left r h p. let one = one-answer p (promised words before h) in (one .0, one .1);
 }
   where
     text : Reading t room c es
@@ -257,36 +253,37 @@ demand3 {t} {room} {cs} {c} {es} k = record {
     counted : c .shapes ≡ length (shapesOf es)
     counted = let n = shapes-counted (counts 0 0 0) es c (omega arith) (text .as-read .ended) in omega (arith, n .is)
 
-    accepts : (room′ : ℕ) → length (flat (shapesOf es)) ≤ room′ → Answers (flat (shapesOf es)) room′ (accepted (commands 0 (flatLetters (shapesOf es))) (counts 0 (c .shapes) 0) (again .events))
-    accepts room′ h = subst (λ (n : ℕ). Answers (flat (shapesOf es)) room′ (accepted (commands 0 (flatLetters (shapesOf es))) (counts 0 n 0) (again .events))) (sym counted) (again .answers room′ h)
+    accepts : (words′ room′ : ℕ) → length (flat (shapesOf es)) ≤ room′ → Answers (flat (shapesOf es)) words′ room′ (accepted (commands 0 (flatLetters (shapesOf es))) (counts 0 (c .shapes) 0) (again .events))
+    accepts words′ room′ h = subst (λ (n : ℕ). Answers (flat (shapesOf es)) words′ room′ (accepted (commands 0 (flatLetters (shapesOf es))) (counts 0 n 0) (again .events))) (sym counted) (again .answers words′ room′ h)
 
-    promised : (before : List ℕ) → length (flat (shapesOf es)) ≤ length before
-        → Promised (flat (shapesOf es)) before (answer 0 0 (length (flat (shapesOf es))) (counts 0 (c .shapes) 0) 0) (flat (shapesOf es) ++ drop (length (flat (shapesOf es))) before)
-    promised before h = record {
+    promised : (lent : List ℤ) (before : List ℕ) → length (flat (shapesOf es)) ≤ length before
+        → Promised (flat (shapesOf es)) lent before (answer 0 0 (length (flat (shapesOf es))) (counts 0 (c .shapes) 0) 0) (zeros lent) (flat (shapesOf es) ++ drop (length (flat (shapesOf es))) before)
+    promised lent before h = record {
       outcome = accepted (commands 0 (flatLetters (shapesOf es))) (counts 0 (c .shapes) 0) (again .events);
-      answers = accepts (length before) h;
+      answers = accepts (length lent) (length before) h;
       given =
           unfold given-back in (
           ap (λ (w : List ℕ). answer 0 0 (length w) (counts 0 (c .shapes) 0) 0) (sym (again .same-bytes))
           ∙ ap (λ (k : ℕ). answer 0 0 (length (flat (shapesOf (again .events)))) (counts 0 (c .shapes) 0) k)
           (sym (none-rounded (only-shapes-of (again .grammatical) (flat-openings (shapesOf es))))));
       kept = unfold flatFile in ap (λ (w : List ℕ). w ++ drop (length w) before) (sym (again .same-bytes));
+      cleared = refl;
     }
 
 -- two readings in a row: what the first leaves at the start of its room, if it accepts, the second leaves at the start of its own, and the rest of that
 -- room unchanged
-pub twice : {t room left room′ left′ : List ℕ} {r r′ : Answer} {cs : List (Placed Command)} {c : Counts} {es : List Event} (p : Promised t room r left) → p .outcome ≡ accepted cs c es
-    → r .length ≤ length room′ → Promised (take (r .length) left) room′ r′ left′
+pub twice : {t room left room′ left′ : List ℕ} {lent lent′ again again′ : List ℤ} {r r′ : Answer} {cs : List (Placed Command)} {c : Counts} {es : List Event} (p : Promised t lent room r lent′ left) → p .outcome ≡ accepted cs c es
+    → r .length ≤ length room′ → Promised (take (r .length) left) again room′ r′ again′ left′
     → (take (r .length) left′ ≡ take (r .length) left) × (drop (r .length) left′ ≡ drop (r .length) room′)
-twice {t} {room} {left} {room′} {left′} {r} {r′} {cs} {c} {es} p e h q =
+twice {t} {room} {left} {room′} {left′} {lent} {lent′} {again} {again′} {r} {r′} {cs} {c} {es} p e h q =
     let F = flat (shapesOf es) in
-    let d : Demand3 (length room) c (shapesOf es) = demand3 (subst (Answers t (length room)) e (p .answers)) in
+    let d : Demand3 (length room) c (shapesOf es) = demand3 (subst (Answers t (length lent) (length room)) e (p .answers)) in
     let back : r ≡ answer 0 0 (length F) c (rounded cs) = unfold given-back in (p .given ∙ ap given-back e) in
     let size : length F ≡ r .length = sym (ap (λ (x : Answer). x .length) back) in
     let leaves : left ≡ F ++ drop (length F) room = unfold flatFile in (p .kept ∙ ap (λ (o : Outcome). roomAfter o room) e) in
     let first : take (r .length) left ≡ F = ap (take (r .length)) leaves ∙ take-at F (drop (length F) room) (r .length) size in
     let second : left′ ≡ F ++ drop (length F) room′ =
-    d .settled room′ left′ r′ (omega (arith, size, h)) (subst (λ (w : List ℕ). Promised w room′ r′ left′) first q) .1 in (
+    d .settled again again′ room′ left′ r′ (omega (arith, size, h)) (subst (λ (w : List ℕ). Promised w again room′ r′ again′ left′) first q) .1 in (
       ap (take (r .length)) second ∙ take-at F (drop (length F) room′) (r .length) size ∙ sym first,
       ap (drop (r .length)) second ∙ drop-at F (drop (length F) room′) (r .length) size ∙ ap (λ (n : ℕ). drop n room′) size,
     )

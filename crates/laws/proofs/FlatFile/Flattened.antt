@@ -22,13 +22,15 @@ use Rattle.definition.specs.Faults.{firstFault}
 use Rattle.definition.specs.Drawing.{Chain, Drawn, Event, called, drew, entered, removed, refused, deeds}
 use Rattle.definition.specs.Counts.{Counts, counts, End, finished, stopped, counted, goOn, ending, shapesOf}
 use Rattle.definition.specs.Flat.{flat}
-use Rattle.definition.specs.Answer.{Outcome, accepted, rejected, drawingOf, fitted, drawn, outcomeOf, Answers, too-long, not-cif, read}
+use Rattle.definition.specs.Answer.{Outcome, accepted, rejected, drawingOf, heldDrawing, fitted, drawn, outcomeOf, Answers, too-long, not-cif, read}
+use Rattle.definition.specs.Held.{heldTo}
 use Rattle.laws.proofs.Lists.Range.{All, all-to, Within}
 use Rattle.laws.proofs.Story.Kept.{shapes-within}
 use Rattle.laws.proofs.FlatFile.Reread.{plain, Redrawn, Sayable, flatLetters, flat-redrawn, flat-plain, drawn-shapes, drawn-ending}
 use Rattle.laws.proofs.FlatFile.Spelling.{flat-marked}
 use Rattle.laws.proofs.FlatFile.Said.{Good, all-good, all-both, sayable, spelt, length-map}
 use Rattle.laws.proofs.FlatFile.Faultless.{flat-clear}
+use Rattle.laws.proofs.Story.Held.{held-finished}
 
 stopped≢finished : {r : Refusal} {chain : Chain} {c : Counts} → stopped r chain ≡ finished c → ⊥
 stopped≢finished e = subst ended? e tt
@@ -79,9 +81,9 @@ Yes : Outcome → Type 0
 Yes (accepted cs c es) = Unit {0}
 Yes (rejected r chain) = ⊥
 
-pub accepted-by : (m : List Letter) (room : ℕ) (cs : List (Placed Command)) (c : Counts) (es : List Event) → outcomeOf m room ≡ accepted cs c es → Accepted m room c es
+pub accepted-by : (m : List Letter) (words room : ℕ) (cs : List (Placed Command)) (c : Counts) (es : List Event) → outcomeOf m words room ≡ accepted cs c es → Accepted m room c es
 unfolding outcomeOf
-accepted-by m room cs c es e = by-fault (firstFault (commands 0 m)) refl e
+accepted-by m words room cs c es e = by-fault (firstFault (commands 0 m)) refl e
   where
     story-of : List Event
     story-of = drawingOf (commands 0 m)
@@ -94,13 +96,13 @@ accepted-by m room cs c es e = by-fault (firstFault (commands 0 m)) refl e
         subst (λ (y : List Event). Accepted m room c y) ee (record { no-fault = n; is-story = refl; ended = q ∙ ap (λ (y : Counts). finished y) ex; fits = f })
     by-fit false x q f n h = absurd (unfold Yes in (subst Yes (sym h) tt))
 
-    by-end : (x : End) → ending (counts 0 0 0) story-of ≡ x → firstFault (commands 0 m) ≡ none → fitted x (commands 0 m) story-of room ≡ accepted cs c es → Accepted m room c es
+    by-end : (x : End) → ending (counts 0 0 0) (heldDrawing words (commands 0 m)) ≡ x → firstFault (commands 0 m) ≡ none → fitted x (commands 0 m) story-of room ≡ accepted cs c es → Accepted m room c es
     by-end (stopped r chain) q f h = absurd (unfold Yes fitted in (subst Yes (sym h) tt))
-    by-end (finished x) q f h = by-fit _ x q refl f (unfold fitted in h)
+    by-end (finished x) q f h = by-fit _ x (held-finished words (counts 0 0 0) story-of x .0 q .0) refl f (unfold fitted in h)
 
-    by-fault : (f : Option Refusal) → firstFault (commands 0 m) ≡ f → drawn f (commands 0 m) room ≡ accepted cs c es → Accepted m room c es
+    by-fault : (f : Option Refusal) → firstFault (commands 0 m) ≡ f → drawn f (commands 0 m) words room ≡ accepted cs c es → Accepted m room c es
     by-fault (some r) q h = absurd (unfold Yes drawn in (subst Yes (sym h) tt))
-    by-fault none q h = by-end (ending (counts 0 0 0) story-of) refl q (unfold drawn in h)
+    by-fault none q h = by-end (ending (counts 0 0 0) (heldDrawing words (commands 0 m))) refl q (unfold drawn in h)
 
 and-first : (x y : Bool) → (x && y) ≡ true → x ≡ true
 and-first true y e = refl
@@ -116,13 +118,13 @@ pub record Reading (t : List ℕ) (room : ℕ) (c : Counts) (es : List Event) : 
   pub marked : Marked t letters
   pub as-read : Accepted letters room c es
 
-pub reading : {t : List ℕ} {room : ℕ} {cs : List (Placed Command)} {c : Counts} {es : List Event} → Answers t room (accepted cs c es) → Reading t room c es
-reading {t} {room} {cs} {c} {es} k = of k refl
+pub reading : {t : List ℕ} {words room : ℕ} {cs : List (Placed Command)} {c : Counts} {es : List Event} → Answers t words room (accepted cs c es) → Reading t room c es
+reading {t} {words} {room} {cs} {c} {es} k = of k refl
   where
-    of : {o : Outcome} → Answers t room o → o ≡ accepted cs c es → Reading t room c es
+    of : {o : Outcome} → Answers t words room o → o ≡ accepted cs c es → Reading t room c es
     of (too-long h) e = absurd (unfold Yes in (subst Yes (sym e) tt))
     of (not-cif h g l) e = absurd (unfold Yes in (subst Yes (sym e) tt))
-    of (read {m} h k) e = record { letters = m; marked = k; as-read = accepted-by m room cs c es e }
+    of (read {m} h k) e = record { letters = m; marked = k; as-read = accepted-by m words room cs c es e }
 
 pub within-room : {m : List Letter} {room : ℕ} {c : Counts} {es : List Event} → Accepted m room c es → length (flat (shapesOf es)) ≤ room
 within-room {m} {room} {c} {es} a = leb-true (length (flat (shapesOf es))) room (and-first (leb (length (flat (shapesOf es))) room) _ (a .fits))
@@ -138,13 +140,19 @@ pub all-sayable : {t : List ℕ} {m : List Letter} → Marked t m → firstFault
 all-sayable {t} {m} k e =
     all-both _ _ Fine (λ d g w. (g, w)) (shapesOf (drawingOf (commands 0 m))) (all-good m (k .rule) e) (shapes-within [] (deeds (outside []) (commands 0 m)))
 
--- the heart of demand 3, of the shapes ds that an accepted text draws: in every room that holds it their flat file is accepted, with the same shapes,
+-- a story of shapes alone needs no words
+held-drew : (words : ℕ) (ds : List Drawn) → map (heldTo words) (map drew ds) ≡ map drew ds
+unfolding heldTo
+held-drew words [] = refl
+held-drew words (d ∷ ds) = ap (λ (x : List Event). drew d ∷ x) (held-drew words ds)
+
+-- the heart of demand 3, of the shapes ds that an accepted text draws: with any words, in every room that holds it their flat file is accepted, with the same shapes,
 -- and its own flat file is itself
 pub record Again (ds : List Drawn) : Type 0 where
   pub grammatical : Marked (flat ds) (flatLetters ds)
   pub events : List Event
   pub only-shapes : events ≡ map drew (shapesOf events)
-  pub answers : (room : ℕ) → length (flat ds) ≤ room → Answers (flat ds) room (accepted (commands 0 (flatLetters ds)) (counts 0 (length ds) 0) events)
+  pub answers : (words room : ℕ) → length (flat ds) ≤ room → Answers (flat ds) words room (accepted (commands 0 (flatLetters ds)) (counts 0 (length ds) 0) events)
   pub same-shapes : map plain (shapesOf events) ≡ map plain ds
   pub same-bytes : flat (shapesOf events) ≡ flat ds
 
@@ -153,7 +161,7 @@ flattened t m room c es k a = record {
   grammatical = marked;
   events = map drew (r .shapes);
   only-shapes = ap (λ (y : List Drawn). map drew y) (sym (drawn-shapes (r .shapes)));
-  answers = λ room′ h. subst (Answers (flat (shapesOf es)) room′) (is-outcome room′ h) (read (within-limit a) marked);
+  answers = λ words room′ h. subst (Answers (flat (shapesOf es)) words room′) (is-outcome words room′ h) (read (within-limit a) marked);
   same-shapes = shapes-same;
   same-bytes = bytes-same;
 }
@@ -196,13 +204,15 @@ flattened t m room c es k a = record {
     fit-again room′ h =
         unfold fitted in rw (bytes-same, le-leb (length (flat (shapesOf es))) room′ h, le-leb (length (flat (shapesOf es))) mostBytes (within-limit a))
 
-    is-outcome : (room′ : ℕ) → length (flat (shapesOf es)) ≤ room′
-        → outcomeOf (flatLetters (shapesOf es)) room′ ≡ accepted redrawn (counts 0 (length (shapesOf es)) 0) (map drew (r .shapes))
-    is-outcome room′ h =
-        let start : outcomeOf (flatLetters (shapesOf es)) room′ ≡ drawn none redrawn room′ = unfold outcomeOf in ap (λ (f : Option Refusal). drawn f redrawn room′) clear in
-        let drew-it : drawn none redrawn room′ ≡ fitted (ending (counts 0 0 0) (map drew (r .shapes))) redrawn (map drew (r .shapes)) room′ =
-        unfold drawn in ap (λ (y : List Event). fitted (ending (counts 0 0 0) y) redrawn y room′) (r .only) in
+    is-outcome : (words room′ : ℕ) → length (flat (shapesOf es)) ≤ room′
+        → outcomeOf (flatLetters (shapesOf es)) words room′ ≡ accepted redrawn (counts 0 (length (shapesOf es)) 0) (map drew (r .shapes))
+    is-outcome words room′ h =
+        let start : outcomeOf (flatLetters (shapesOf es)) words room′ ≡ drawn none redrawn words room′ =
+        unfold outcomeOf in ap (λ (f : Option Refusal). drawn f redrawn words room′) clear in
+        let drew-it : drawn none redrawn words room′ ≡ fitted (ending (counts 0 0 0) (map (heldTo words) (map drew (r .shapes)))) redrawn (map drew (r .shapes)) room′ =
+        unfold drawn in ap (λ (y : List Event). fitted (ending (counts 0 0 0) (map (heldTo words) y)) redrawn y room′) (r .only) in
         start ∙ drew-it
+        ∙ ap (λ (y : List Event). fitted (ending (counts 0 0 0) y) redrawn (map drew (r .shapes)) room′) (held-drew words (r .shapes))
         ∙ ap (λ (x : End). fitted x redrawn (map drew (r .shapes)) room′) (drawn-ending 0 (r .shapes) bound)
         ∙ fit-again room′ h
         ∙ ap (λ (n : ℕ). accepted redrawn (counts 0 n 0) (map drew (r .shapes))) (omega (arith, as-many))

@@ -121,6 +121,6 @@ pub sound-drawing : {t : List ℕ} {m : List Letter} → Marked t m → firstFau
 sound-drawing {t} {m} k e = all-to _ Sound sound-by (shapesOf (drawingOf (commands 0 m))) (all-sayable k e)
 
 -- every shape that an accepted text draws is sound
-pub all-sound : {t : List ℕ} {room : ℕ} {cs : List (Placed Command)} {c : Counts} {es : List Event} → Answers t room (accepted cs c es) → All Sound (shapesOf es)
+pub all-sound : {t : List ℕ} {words room : ℕ} {cs : List (Placed Command)} {c : Counts} {es : List Event} → Answers t words room (accepted cs c es) → All Sound (shapesOf es)
 all-sound k =
     let r = reading k in subst (λ (y : List Event). All Sound (shapesOf y)) (sym (r .as-read .is-story)) (sound-drawing (r .marked) (r .as-read .no-fault))

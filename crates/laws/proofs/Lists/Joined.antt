@@ -52,7 +52,7 @@ unfolding goOn
 goOn-goOn (finished c) f g = refl
 goOn-goOn (stopped r chain) f g = refl
 
-goOn-ap : (e : End) (f g : Counts → End) → ((c : Counts) → f c ≡ g c) → goOn e f ≡ goOn e g
+pub goOn-ap : (e : End) (f g : Counts → End) → ((c : Counts) → f c ≡ g c) → goOn e f ≡ goOn e g
 unfolding goOn
 goOn-ap (finished c) f g h = h c
 goOn-ap (stopped r chain) f g h = refl

@@ -14,7 +14,7 @@ use lib.Dec.{T, ltb, eqb}
 use lib.IntN.{ℤ, pos, negsuc, natAbs}
 use lib.ListN.{length}
 use Rattle.grammar.specs.Notation.{Letter}
-use Rattle.grammar.specs.Viable.{bytes, Marked}
+use Rattle.grammar.specs.Viable.{Marked}
 use Rattle.definition.specs.declared.Refusal.{Refusal}
 use Rattle.definition.specs.Limits.{largest, mostPoints, mostTurns}
 use Rattle.definition.specs.Rules.{Rule, numberTooLarge, zeroFactor, scaledTooLarge, degenerateCommand, noLayer, tooManyParts, refuse, order}
@@ -29,7 +29,7 @@ use Rattle.laws.proofs.Lists.Range.{All, all-++}
 use Rattle.laws.proofs.Rules.Order.{rankIn, rank, Earlier, ByCommand, one-rank, one-rule}
 use Rattle.laws.proofs.Commands.Sizes.{abs-neg, nil-left, nil-right, all-right, no-fault, all-left}
 use Rattle.laws.proofs.FlatFile.Said.{length-map, all-both}
-use Rattle.laws.proofs.Commands.NumberPlaces.{Rising, done, idle, stands, Small, Null, Stands, commands-stand}
+use Rattle.laws.proofs.Commands.NumberPlaces.{Rising, done, idle, stands, Small, Null, Stands, as-long, commands-stand}
 use Rattle.laws.proofs.Commands.Wires.{Pathed, commands-pathed}
 
 -- ---- the rules
@@ -554,11 +554,7 @@ pub record Written (high : ℕ) (c : Placed Command) : Type 0 where
 pub commands-written : {t : List ℕ} {m : List Letter} → Marked t m → All (Written (length t)) (commands 0 m)
 commands-written {t} {m} k =
     all-both (Stands (length t)) (λ (c : Placed Command). Pathed (c .what)) (Written (length t)) (λ c x y. record { stand = x; path = y }) (commands 0 m)
-    (commands-stand 0 (length t) m (omega (arith, as-long m, ap length (k .reads)))) (commands-pathed (k .rule))
-  where
-    as-long : (m : List Letter) → length (bytes m) ≡ length m
-    as-long [] = refl
-    as-long (l ∷ m) = ap suc (as-long m)
+    (commands-stand 0 (length t) m (omega (arith, as-long k))) (commands-pathed (k .rule))
 
 nothing-listed : {A : Type 0} {r : Refusal} {l : List Refusal} → r ∈ l → l ≡ [] → A
 nothing-listed {r = r} m e = absurd (List·Memᴰ·not-nil (subst (List·Memᴰ r) e m))

@@ -10,7 +10,7 @@ use lib.Dec.{eqb}
 use lib.ListN.{getD}
 use Rattle.definition.specs.declared.Refusal.{Refusal}
 use Rattle.definition.specs.Rules.{Rule, textTooLong, notInGrammar, numberTooLarge, zeroFactor, scaledTooLarge, degenerateCommand, noLayer}
-use Rattle.definition.specs.Rules.{tooManyParts, tooManyDefinitions, offTheAxes, undefinedSymbol, beingDrawn, tooDeep, tooManyCalls, outOfRange}
+use Rattle.definition.specs.Rules.{tooManyParts, tooManyDefinitions, tooFewWords, offTheAxes, undefinedSymbol, beingDrawn, tooDeep, tooManyCalls, outOfRange}
 use Rattle.definition.specs.Rules.{tooManyShapes, flatFileTooLong, numberOf, refuse, order}
 use Rattle.definition.specs.Words.{if_then_else_}
 
@@ -32,7 +32,7 @@ pub record Between (a b r : Rule) : Type 0 where
 abbrev pub ByCommand : Rule → Type 0  -- 01, refusals 3 to 9
 ByCommand r = Between numberTooLarge tooManyParts r
 
-abbrev pub ByDrawing : Rule → Type 0  -- 01, refusals 10 to 17
+abbrev pub ByDrawing : Rule → Type 0  -- 01, refusals 10 to 17; 02, 25
 ByDrawing r = Between tooManyDefinitions tooManyShapes r
 
 -- every rule stands in the order
@@ -46,6 +46,7 @@ standing-there degenerateCommand = refl
 standing-there noLayer = refl
 standing-there tooManyParts = refl
 standing-there tooManyDefinitions = refl
+standing-there tooFewWords = refl
 standing-there offTheAxes = refl
 standing-there undefinedSymbol = refl
 standing-there beingDrawn = refl
@@ -75,6 +76,7 @@ number-from-1 degenerateCommand = omega arith
 number-from-1 noLayer = omega arith
 number-from-1 tooManyParts = omega arith
 number-from-1 tooManyDefinitions = omega arith
+number-from-1 tooFewWords = omega arith
 number-from-1 offTheAxes = omega arith
 number-from-1 undefinedSymbol = omega arith
 number-from-1 beingDrawn = omega arith
@@ -95,6 +97,7 @@ number-not-5 degenerateCommand e = omega arith
 number-not-5 noLayer e = omega arith
 number-not-5 tooManyParts e = omega arith
 number-not-5 tooManyDefinitions e = omega arith
+number-not-5 tooFewWords e = omega arith
 number-not-5 offTheAxes e = omega arith
 number-not-5 undefinedSymbol e = omega arith
 number-not-5 beingDrawn e = omega arith

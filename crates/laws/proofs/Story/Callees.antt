@@ -25,21 +25,21 @@ use Rattle.laws.proofs.Story.Counting.{not-finished}
 use Rattle.laws.proofs.Story.Depth.{made-unbroken}
 
 -- the rules 11 to 14 do not count
-uncounted : (a b : Counts) (t : Table) (chain : Chain) (net : List (Turn ℤ)) (n : ℕ) (ts : List (Turn ℤ)) (k : Rule) → Earlier k tooManyCalls
-    → Broken a t chain net (calling n ts) k → Broken b t chain net (calling n ts) k
-uncounted a b t chain net n ts k h (off-axes x) = off-axes x
-uncounted a b t chain net n ts k h (undefined x) = undefined x
-uncounted a b t chain net n ts k h (being-drawn x) = being-drawn x
-uncounted a b t chain net n ts k h (deep x) = deep x
-uncounted a b t chain net n ts k h (many-calls x) = absurd (go h)
+uncounted : (words : ℕ) (a b : Counts) (t : Table) (chain : Chain) (net : List (Turn ℤ)) (n : ℕ) (ts : List (Turn ℤ)) (k : Rule) → Earlier k tooManyCalls
+    → Broken words a t chain net (calling n ts) k → Broken words b t chain net (calling n ts) k
+uncounted words a b t chain net n ts k h (off-axes x) = off-axes x
+uncounted words a b t chain net n ts k h (undefined x) = undefined x
+uncounted words a b t chain net n ts k h (being-drawn x) = being-drawn x
+uncounted words a b t chain net n ts k h (deep x) = deep x
+uncounted words a b t chain net n ts k h (many-calls x) = absurd (go h)
   where
     go : Earlier tooManyCalls tooManyCalls → ⊥
     go l = omega arith
 
-kept-finishes : (c : Counts) (m : Moment) → ((k : Rule) → Breaks c m k → ⊥) → counted c (eventAt m) ≡ finished (tallied c m)
-kept-finishes c m h = go (met c m)
+kept-finishes : (words : ℕ) (c : Counts) (m : Moment) → ((k : Rule) → Breaks words c m k → ⊥) → counted c (eventAt words m) ≡ finished (tallied c m)
+kept-finishes words c m h = go (met words c m)
   where
-    go : {e : End} → Met c m e → e ≡ finished (tallied c m)
+    go : {e : End} → Met words c m e → e ≡ finished (tallied c m)
     go (goes-on x) = refl
     go (stops l) = absurd (h _ (l .breaks))
 
@@ -71,30 +71,30 @@ none-follow (entered d before) go h = refl
 none-follow (removed n before) go h = refl
 none-follow (refused r chain) go h = refl
 
-module _ (c : Counts) (left : ℕ) (t : Table) (chain : Chain) (net : List (Turn ℤ)) (p n : ℕ) (ts : List (Turn ℤ)) where
+module _ (words : ℕ) (c : Counts) (left : ℕ) (t : Table) (chain : Chain) (net : List (Turn ℤ)) (p n : ℕ) (ts : List (Turn ℤ)) where
   abbrev it : Moment
   it = moment t chain net p (calling n ts)
 
-  call-made : (d : Definition) → find n t ≡ some d → ((k : Rule) → Earlier k tooManyCalls → Breaks c it k → ⊥) → eventAt it ≡ called p chain d
+  call-made : (d : Definition) → find n t ≡ some d → ((k : Rule) → Earlier k tooManyCalls → Breaks words c it k → ⊥) → eventAt words it ≡ called p chain d
   unfolding eventOf passageOf
   call-made d e h =
-      called-found (deepest - length chain) chain n ts (find n t) p d (tallied (counts 0 0 0) it) e (kept-finishes (counts 0 0 0) it kept)
+      called-found (deepest - length chain) chain n ts (find n t) p d (tallied (counts 0 0 0) it) e (kept-finishes words (counts 0 0 0) it kept)
     where
-      kept : (k : Rule) → Broken (counts 0 0 0) t chain net (calling n ts) k → ⊥
+      kept : (k : Rule) → Broken words (counts 0 0 0) t chain net (calling n ts) k → ⊥
       kept k (off-axes x) = h offTheAxes (omega arith) (off-axes x)
       kept k (undefined x) = h undefinedSymbol (omega arith) (undefined x)
       kept k (being-drawn x) = h beingDrawn (omega arith) (being-drawn x)
       kept k (deep x) = h tooDeep (omega arith) (deep x)
       kept k (many-calls x) = omega arith
 
-  pub call-draws-body : (d : Definition) → find n t ≡ some d → ((k : Rule) → Earlier k tooManyCalls → Breaks c it k → ⊥)
+  pub call-draws-body : (d : Definition) → find n t ≡ some d → ((k : Rule) → Earlier k tooManyCalls → Breaks words c it k → ⊥)
       → callMoments (suc left) t chain net p n ts
       ≡ it ∷ bodyMoments (callMoments left t (chain ++ (at p n ∷ [])) (ts ++ net)) t (chain ++ (at p n ∷ [])) (ts ++ net) (d .body)
-  unfolding callMoments followed
+  unfolding callMoments followed eventOf
   call-draws-body d e h = rw (call-made d e h)
 
-  pub call-draws-nothing : (k : Rule) → Earlier k tooManyCalls → Breaks c it k → callMoments (suc left) t chain net p n ts ≡ it ∷ []
-  unfolding callMoments
+  pub call-draws-nothing : (k : Rule) → Earlier k tooManyCalls → Breaks words c it k → callMoments (suc left) t chain net p n ts ≡ it ∷ []
+  unfolding callMoments eventOf
   call-draws-nothing k h x =
       ap (λ (ms : List Moment). it ∷ ms)
-      (none-follow (eventAt it) _ (λ q ch d e. made-unbroken it q ch d e k (uncounted c (counts 0 0 0) t chain net n ts k h x)))
+      (none-follow (eventAt words it) _ (λ q ch d e. made-unbroken words it q ch d e k (uncounted words c (counts 0 0 0) t chain net n ts k h x)))

@@ -41,11 +41,11 @@ pub record OpenedAt (t : Table) (m : Moment) : Type 0 where
   pub opened : Opened t (m .chain)
 
 -- a call that is made breaks no rule that does not count
-pub made-unbroken : (m : Moment) (q : ℕ) (chain : Chain) (d : Definition) → eventAt m ≡ called q chain d → (k : Rule) → Breaks (counts 0 0 0) m k → ⊥
+pub made-unbroken : (words : ℕ) (m : Moment) (q : ℕ) (chain : Chain) (d : Definition) → eventAt words m ≡ called q chain d → (k : Rule) → Breaks words (counts 0 0 0) m k → ⊥
 unfolding counted
-made-unbroken m q chain d e = go (met (counts 0 0 0) m) (ap (counted (counts 0 0 0)) e)
+made-unbroken words m q chain d e = go (met words (counts 0 0 0) m) (ap (counted (counts 0 0 0)) e)
   where
-    go : {x : End} → Met (counts 0 0 0) m x → x ≡ finished (counts 1 0 0) → (k : Rule) → Breaks (counts 0 0 0) m k → ⊥
+    go : {x : End} → Met words (counts 0 0 0) m x → x ≡ finished (counts 1 0 0) → (k : Rule) → Breaks words (counts 0 0 0) m k → ⊥
     go (goes-on h) f = h
     go (stops l) f = absurd (not-finished f)
 
@@ -113,14 +113,14 @@ module _ (t : Table) (chain : Chain) (net : List (Turn ℤ)) (x : Opened t chain
 
 open-call : (left : ℕ) (t : Table) (chain : Chain) (net : List (Turn ℤ)) (p n : ℕ) (ts : List (Turn ℤ)) → left + length chain ≡ deepest → Opened t chain
     → All (OpenedAt t) (callMoments left t chain net p n ts)
-unfolding callMoments All
+unfolding callMoments eventOf All
 open-call zero t chain net p n ts h x = (record { table-is = refl; opened = x }, tt)
 open-call (suc left) t chain net p n ts h x =
     let deeper : Chain = chain ++ (at p n ∷ []) in
     let one-more : left + length deeper ≡ deepest = rw length-append (omega arith) in (
       record { table-is = refl; opened = x },
-      all-followed (OpenedAt t) (eventOf t chain net p (calling n ts)) (λ d. bodyMoments (callMoments left t deeper (ts ++ net)) t deeper (ts ++ net) (d .body))
-          (λ q ch d e. let u = made-unbroken (moment t chain net p (calling n ts)) q ch d e in
+      all-followed (OpenedAt t) (eventOf 0 t chain net p (calling n ts)) (λ d. bodyMoments (callMoments left t deeper (ts ++ net)) t deeper (ts ++ net) (d .body))
+          (λ q ch d e. let u = made-unbroken 0 (moment t chain net p (calling n ts)) q ch d e in
           let wider : Opened t deeper = opened-more t chain (at p n) x (omega arith) (λ y. u beingDrawn (being-drawn y)) (defined-when t n (λ y. u undefinedSymbol (undefined y))) in
           open-body t deeper (ts ++ net) wider (callMoments left t deeper (ts ++ net)) (λ q m us. open-call left t deeper (ts ++ net) q m us one-more wider) (d .body)),
     )

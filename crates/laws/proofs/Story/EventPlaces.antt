@@ -13,7 +13,7 @@ use lib.ListN.{length}
 use Rattle.definition.specs.declared.Refusal.{Refusal}
 use Rattle.definition.specs.Limits.{mostDefinitions, deepest, mostCalls, mostShapes}
 use Rattle.definition.specs.Words.{if_then_else_, Placed, at, any, those}
-use Rattle.definition.specs.Rules.{Rule, tooManyDefinitions, offTheAxes, beingDrawn, tooDeep, tooManyCalls, outOfRange, tooManyShapes, refuse}
+use Rattle.definition.specs.Rules.{Rule, tooManyDefinitions, tooFewWords, offTheAxes, beingDrawn, tooDeep, tooManyCalls, outOfRange, tooManyShapes, refuse}
 use Rattle.definition.specs.Commands.{Shape, Turn, Command, draw, layer, call, start, finish, delete, nothing}
 use Rattle.definition.specs.Standing.{Standing, outside, after}
 use Rattle.definition.specs.Faults.{beyond, both}
@@ -21,8 +21,9 @@ use Rattle.definition.specs.Turns.{moved, offAxes}
 use Rattle.definition.specs.Table.{Step, shape, instance, setting, Definition, Table, find, enter, forget}
 use Rattle.definition.specs.Drawing.{stepOf, retained, Deed, output, define, remove, deedOf, deeds, Chain, Event, called, drew, entered, removed, refused}
 use Rattle.definition.specs.Drawing.{drawShape, drawStep, drawBody, Passage, barred, leads, passageTo, passageOf, through, drawCall, happens, tableAfter, story}
+use Rattle.definition.specs.Held.{wordsIn, heldTo}
 use Rattle.definition.specs.Counts.{Counts, counts, End, finished, stopped, counted, goOn, ending}
-use Rattle.definition.specs.Answer.{drawingOf}
+use Rattle.definition.specs.Answer.{drawingOf, heldDrawing}
 use Rattle.laws.proofs.Lists.Range.{All, all-++}
 use Rattle.laws.proofs.Rules.Order.{ByDrawing}
 
@@ -41,7 +42,7 @@ module _ (P : Definition → Type 0) where
       go true y = x .0
       go false y = y
 
-  entries-entered : (d : Definition) (t : Table) → P d → All P t → All P (enter d t)
+  pub entries-entered : (d : Definition) (t : Table) → P d → All P t → All P (enter d t)
   unfolding enter All
   entries-entered d [] h x = (h, tt)
   entries-entered d (e ∷ t) h x = go (ltb (d .symbol) (e .symbol)) (eqb (d .symbol) (e .symbol)) (entries-entered d t h (x .1))
@@ -51,7 +52,7 @@ module _ (P : Definition → Type 0) where
       go false true y = (h, x .1)
       go false false y = (x .0, y)
 
-  entries-left : (f : Definition → Bool) (t : Table) → All P t → All P (those f t)
+  pub entries-left : (f : Definition → Bool) (t : Table) → All P t → All P (those f t)
   unfolding those All
   entries-left f [] x = tt
   entries-left f (d ∷ t) x = go (f d) (entries-left f t (x .1))
@@ -87,7 +88,7 @@ module _ (P : ℕ → Type 0) where
   abbrev pub AtEvent : Event → Type 0
   AtEvent (called p chain d) = P p × AtChain chain
   AtEvent (drew d) = P (d .place) × AtChain (d .chain)
-  AtEvent (entered d before) = Unit {0}
+  AtEvent (entered d before) = P (d .place)
   AtEvent (removed n before) = Unit {0}
   AtEvent (refused r chain) = Refuses r chain
 
@@ -198,7 +199,7 @@ module _ (P : ℕ → Type 0) where
     where
       go : (b : Bool) → AtEvent (if b then refused (refuse tooManyDefinitions (d .place)) [] else entered d t)
       go true = refuses tooManyDefinitions (record { least = omega arith; most = omega arith }) (h .own) tt
-      go false = tt
+      go false = h .own
   happens-at t (remove n) x h = (tt, tt)
 
   table-at : (t : Table) (d : Deed) → All AtEntry t → AtDeed d → All AtEntry (tableAfter t d)
@@ -216,6 +217,24 @@ module _ (P : ℕ → Type 0) where
   pub drawing-at : (cs : List (Placed Command)) → All At cs → All AtEvent (drawingOf cs)
   unfolding All
   drawing-at cs x = story-at [] (deeds (outside []) cs) tt (deeds-at (outside []) cs x)
+
+  -- and held to the words lent, which refuse a definition at its place
+  held-one-at : (words : ℕ) (e : Event) → AtEvent e → AtEvent (heldTo words e)
+  unfolding heldTo All
+  held-one-at words (entered d before) x = go (ltb words (wordsIn (enter d before)))
+    where
+      go : (b : Bool) → AtEvent (if b then refused (refuse tooFewWords (d .place)) [] else entered d before)
+      go true = refuses tooFewWords (record { least = omega arith; most = omega arith }) x tt
+      go false = x
+  held-one-at words (called p chain d) x = x
+  held-one-at words (drew d) x = x
+  held-one-at words (removed n before) x = x
+  held-one-at words (refused r chain) x = x
+
+  held-at : (words : ℕ) (es : List Event) → All AtEvent es → All AtEvent (map (heldTo words) es)
+  unfolding All
+  held-at words [] x = tt
+  held-at words (e ∷ es) x = (held-one-at words e (x .0), held-at words es (x .1))
 
   -- ---- how it ends
 
@@ -248,5 +267,6 @@ module _ (P : ℕ → Type 0) where
       go (finished c′) y f = f c′
       go (stopped r chain) y f = y
 
-  pub stopped-at : (cs : List (Placed Command)) → All At cs → {r : Refusal} {chain : Chain} → ending (counts 0 0 0) (drawingOf cs) ≡ stopped r chain → Refuses r chain
-  stopped-at cs x e = subst AtEnd e (ending-at (counts 0 0 0) (drawingOf cs) (drawing-at cs x))
+  pub stopped-at : (words : ℕ) (cs : List (Placed Command)) → All At cs → {r : Refusal} {chain : Chain}
+      → ending (counts 0 0 0) (heldDrawing words cs) ≡ stopped r chain → Refuses r chain
+  stopped-at words cs x e = subst AtEnd e (ending-at (counts 0 0 0) (heldDrawing words cs) (held-at words (drawingOf cs) (drawing-at cs x)))

@@ -17,7 +17,7 @@ use Rattle.definition.specs.Drawing.{Deed, output, define, remove, Chain, table
 use Rattle.definition.specs.Counts.{Counts, counts, shapesOf}
 use Rattle.laws.proofs.Lists.Range.{All}
 use Rattle.laws.proofs.Story.Moments.{Act, entering, Moment, events, deedMoments, moments}
-use Rattle.laws.proofs.Rules.DrawingRules.{Broken, live, off-axes, undefined, being-drawn, deep, many-calls, far, many-shapes, tallied, tally, Unbroken, FirstStop, unbroken-first, unbroken-rest, passed}
+use Rattle.laws.proofs.Rules.DrawingRules.{Broken, live, few-words, off-axes, undefined, being-drawn, deep, many-calls, far, many-shapes, tallied, tally, Unbroken, FirstStop, unbroken-first, unbroken-rest, passed}
 use Rattle.laws.proofs.Story.Counting.{callsOf, redefinitionsOf, drawing-counts, drawing-few}
 use Rattle.laws.proofs.Story.Depth.{OpenedAt, OpenCalls, open-deed, moments-opened}
 
@@ -67,15 +67,15 @@ small t (define d ∷ ds) h = (h, λ kept. small (enter d t) ds (kept d refl))
 small t (remove n ∷ ds) h = (h, λ kept. small (forget (n .what) t) ds (omega (arith, forget-shorter (n .what) t)))
 
 -- a moment that is reached, after moments that broke no rule
-small-at : (c : Counts) (before : List Moment) (m : Moment) (after : List Moment) → Small (before ++ (m ∷ after)) → Unbroken c before → length (m .table) ≤ mostDefinitions
+small-at : (words : ℕ) (c : Counts) (before : List Moment) (m : Moment) (after : List Moment) → Small (before ++ (m ∷ after)) → Unbroken words c before → length (m .table) ≤ mostDefinitions
 unfolding Small
-small-at c [] m after x u = x .0
-small-at c (b ∷ before) m after x u = small-at (tallied c b) before m after (x .1 kept) (unbroken-rest c b before u)
+small-at words c [] m after x u = x .0
+small-at words c (b ∷ before) m after x u = small-at words (tallied c b) before m after (x .1 kept) (unbroken-rest words c b before u)
   where
     kept : Kept b
     kept d e =
         let no-more : ¬ (mostDefinitions < length (enter d (b .table))) =
-        λ h. unbroken-first c b before u tooManyDefinitions (subst (λ (a : Act). Broken c (b .table) (b .chain) (b .net) a tooManyDefinitions) (sym e) (live h)) in
+        λ h. unbroken-first words c b before u tooManyDefinitions (subst (λ (a : Act). Broken words c (b .table) (b .chain) (b .net) a tooManyDefinitions) (sym e) (live h)) in
         omega arith
 
 all-at : {A : Type 0} (P : A → Type 0) (before : List A) (a : A) (after : List A) → All P (before ++ (a ∷ after)) → P a
@@ -84,10 +84,10 @@ all-at P [] a after x = x .0
 all-at P (b ∷ before) a after x = all-at P before a after (x .1)
 
 -- the counts where a moment is reached are the numbers of the calls, shapes and redefinitions that happened before
-pub reached-counts : (before : List Moment) → Unbroken (counts 0 0 0) before
+pub reached-counts : (words : ℕ) (before : List Moment) → Unbroken words (counts 0 0 0) before
     → tally (counts 0 0 0) before
-    ≡ counts (length (callsOf (events before))) (length (shapesOf (events before))) (length (redefinitionsOf (events before)))
-reached-counts before u = drawing-counts (events before) (tally (counts 0 0 0) before) (passed (counts 0 0 0) before u)
+    ≡ counts (length (callsOf (events words before))) (length (shapesOf (events words before))) (length (redefinitionsOf (events words before)))
+reached-counts words before u = drawing-counts (events words before) (tally (counts 0 0 0) before) (passed words (counts 0 0 0) before u)
 
 pub record Bounded (c : Counts) (m : Moment) : Type 0 where
   pub calls-few : c .calls ≤ mostCalls
@@ -95,20 +95,21 @@ pub record Bounded (c : Counts) (m : Moment) : Type 0 where
   pub table-few : length (m .table) ≤ mostDefinitions
   pub opened : OpenCalls m
 
-pub reached-bounded : (t : Table) (ds : List Deed) → length t ≤ mostDefinitions → (before : List Moment) (m : Moment) (after : List Moment)
-    → moments t ds ≡ before ++ (m ∷ after) → Unbroken (counts 0 0 0) before → Bounded (tally (counts 0 0 0) before) m
-reached-bounded t ds h before m after e u =
-    let few = drawing-few (events before) (tally (counts 0 0 0) before) (passed (counts 0 0 0) before u) in
+pub reached-bounded : (words : ℕ) (t : Table) (ds : List Deed) → length t ≤ mostDefinitions → (before : List Moment) (m : Moment) (after : List Moment)
+    → moments t ds ≡ before ++ (m ∷ after) → Unbroken words (counts 0 0 0) before → Bounded (tally (counts 0 0 0) before) m
+reached-bounded words t ds h before m after e u =
+    let few = drawing-few (events words before) (tally (counts 0 0 0) before) (passed words (counts 0 0 0) before u) in
     record {
       calls-few = few .0;
       shapes-few = few .1;
-      table-few = small-at (counts 0 0 0) before m after (subst Small e (small t ds h)) u;
+      table-few = small-at words (counts 0 0 0) before m after (subst Small e (small t ds h)) u;
       opened = all-at OpenCalls before m after (subst (All OpenCalls) e (moments-opened t ds));
     }
 
 -- a limit is broken by just one
-unfoldable pub JustOver : {c : Counts} {t : Table} {chain : Chain} {net : List (Turn ℤ)} {a : Act} {rule : Rule} → Broken c t chain net a rule → Type 0
+unfoldable pub JustOver : {words : ℕ} {c : Counts} {t : Table} {chain : Chain} {net : List (Turn ℤ)} {a : Act} {rule : Rule} → Broken words c t chain net a rule → Type 0
 JustOver {t} (live {d} x) = length (enter d t) ≡ mostDefinitions + 1
+JustOver (few-words x) = Unit {0}
 JustOver (off-axes x) = Unit {0}
 JustOver (undefined x) = Unit {0}
 JustOver (being-drawn x) = Unit {0}
@@ -117,10 +118,11 @@ JustOver {c} (many-calls x) = c .calls + 1 ≡ mostCalls + 1
 JustOver (far x) = Unit {0}
 JustOver {c} (many-shapes x) = c .shapes + 1 ≡ mostShapes + 1
 
-just-over : {c : Counts} {t : Table} {chain : Chain} {net : List (Turn ℤ)} {a : Act} {rule : Rule}
-    → c .calls ≤ mostCalls → c .shapes ≤ mostShapes → length t ≤ mostDefinitions → length chain ≤ deepest → (x : Broken c t chain net a rule) → JustOver x
+just-over : {words : ℕ} {c : Counts} {t : Table} {chain : Chain} {net : List (Turn ℤ)} {a : Act} {rule : Rule}
+    → c .calls ≤ mostCalls → c .shapes ≤ mostShapes → length t ≤ mostDefinitions → length chain ≤ deepest → (x : Broken words c t chain net a rule) → JustOver x
 unfolding JustOver
 just-over {t} f g h i (live {d} x) = omega (arith, enter-longer d t)
+just-over f g h i (few-words x) = tt
 just-over f g h i (off-axes x) = tt
 just-over f g h i (undefined x) = tt
 just-over f g h i (being-drawn x) = tt
@@ -130,8 +132,8 @@ just-over f g h i (far x) = tt
 just-over f g h i (many-shapes x) = omega arith
 
 -- the drawing is stopped at 513 live definitions, at depth 33, at call 1,048,577, at shape 1,048,577
-pub stops-just-over : (t : Table) (ds : List Deed) → length t ≤ mostDefinitions → {rule : Rule} {place : ℕ} {chain : Chain} (f : FirstStop (counts 0 0 0) (moments t ds) rule place chain)
+pub stops-just-over : (words : ℕ) (t : Table) (ds : List Deed) → length t ≤ mostDefinitions → {rule : Rule} {place : ℕ} {chain : Chain} (f : FirstStop words (counts 0 0 0) (moments t ds) rule place chain)
     → JustOver (f .foremost .breaks)
-stops-just-over t ds h f =
-    let b = reached-bounded t ds h (f .before) (f .it) (f .after) (f .parts) (f .unbroken) in
+stops-just-over words t ds h f =
+    let b = reached-bounded words t ds h (f .before) (f .it) (f .after) (f .parts) (f .unbroken) in
     just-over (b .calls-few) (b .shapes-few) (b .table-few) (b .opened .few) (f .foremost .breaks)
