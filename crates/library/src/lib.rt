@@ -1,0 +1,345 @@
+// Bodies kept as decoded words in one lent run, and the rows that tell where each stands, five numbers to a row in another. Room of replaced and
+// deleted bodies is used again: when the run is full, the live bodies are moved together.
+ghost use mathlib.Core.Path.{_≡_};
+ghost use Prim.Native.Nat.{_+_, _*_, _<_, _≤_, _^_};
+ghost use lib.IntN.{pos};
+ghost use lib.Dec.{ltb, leb, eqb};
+ghost use lib.ListN.{length, getD, replicate};
+ghost use mathlib.Core.Bool.{_&&_};
+ghost use Rattle.library.specs.Memory.{rowNumbers, most, symbolAt, startAt, lengthAt, neededAt, neededIn};
+ghost use Rattle.library.specs.Rows.{Sorted, Nearest, Parted, Finds, Forgets, Shifted, withRow, Begins};
+ghost use Rattle.library.specs.Storing.{startFor, extended, layerWords, Relayered, Storable, Stores};
+ghost use Rattle.library.specs.Moving.{Laid, Moved, Lowest, Compacted};
+
+// The most live definitions that there can be, and the numbers of their rows.
+pub const MOST: usize = definition::MOST_DEFINITIONS;
+
+pub const ROW_NUMBERS: usize = 2560;
+// A row's numbers: how many they are, and where those after its symbol stand.
+const PER_ROW: usize = 5;
+
+const PLACE: usize = 1;
+
+const START: usize = 2;
+
+const LENGTH: usize = 3;
+
+const NEEDED: usize = 4;
+// The words of an L command.
+pub const LAYER_WORDS: usize = 3;
+
+// The row of a number, if it is live.
+pub enum Found {
+    Live(usize),
+    Nothing,
+}
+
+// How a definition was begun: its row, instead of one of its number, with the words which that needed, or beside the others; or not at all, since 512
+// others are live.
+pub enum Begun {
+    Replaced(usize, usize),
+    Added(usize),
+    Full,
+}
+
+// Where the body of a row starts, how many words are stored of it, and how many its definition needs.
+pub fn start_at(rows: &[usize; ROW_NUMBERS], i: usize) -> usize
+    requires { ⌜ i < most ⌝ }
+    ensures { λ r. ⌜ r ≡ startAt (now (rows .entry)) i ⌝ }
+{
+    rows[PER_ROW * i + START]
+}
+
+pub fn length_at(rows: &[usize; ROW_NUMBERS], i: usize) -> usize
+    requires { ⌜ i < most ⌝ }
+    ensures { λ r. ⌜ r ≡ lengthAt (now (rows .entry)) i ⌝ }
+{
+    rows[PER_ROW * i + LENGTH]
+}
+
+pub fn needed_at(rows: &[usize; ROW_NUMBERS], i: usize) -> usize
+    requires { ⌜ i < most ⌝ }
+    ensures { λ r. ⌜ r ≡ neededAt (now (rows .entry)) i ⌝ }
+{
+    rows[PER_ROW * i + NEEDED]
+}
+
+// Of two rows, the one whose body starts lower, among bodies that are not empty and start from `to` on. `live` stands for no row.
+fn lower(rows: &[usize; ROW_NUMBERS], live: usize, to: usize, i: usize, best: usize) -> usize
+    requires { ⌜ (live ≤ most) × (i < live) × Lowest (now rows) live to i best ⌝ }
+    ensures { λ r. ⌜ Lowest (now (rows .entry)) live to (i + 1) r ⌝ }
+{
+    let start = start_at(rows, i);
+    if length_at(rows, i) == 0 {
+        return best;
+    }
+    if start < to {
+        return best;
+    }
+    if best == live {
+        return i;
+    }
+    if start < start_at(rows, best) {
+        return i;
+    }
+    best
+}
+
+fn lowest(rows: &[usize; ROW_NUMBERS], live: usize, to: usize) -> usize
+    requires { ⌜ live ≤ most ⌝ }
+    ensures { λ r. ⌜ Lowest (now (rows .entry)) live to live r ⌝ }
+{
+    let mut best = live;
+    let mut i: usize = 0;
+    while i < live {
+        best = lower(rows, live, to, i, best);
+        i += 1;
+    }
+    best
+}
+
+fn word_at(bodies: &[i32], i: usize) -> i32
+    requires { ⌜ i < length (now bodies) ⌝ }
+    ensures { λ r. ⌜ r ≡ getD (now (bodies .entry)) i (pos 0) ⌝ }
+{
+    bodies[i]
+}
+
+// Moves words down, from the first on, so that none is lost where the parts overlap.
+fn move_down(bodies: &mut [i32], from: usize, to: usize, n: usize)
+    requires { ⌜ (to ≤ from) × (from + n ≤ length (now bodies)) ⌝ }
+    ensures { λ _. ⌜ Moved (now (bodies .entry)) from to n (now (bodies .exit)) ⌝ }
+{
+    let mut k = 0;
+    while k < n {
+        let w = word_at(bodies, from + k);
+        bodies[to + k] = w;
+        k += 1;
+    }
+}
+
+// Moves the live bodies together, the lowest first; how many words they have.
+pub fn compact(rows: &mut [usize; ROW_NUMBERS], bodies: &mut [i32], live: usize) -> usize
+    requires { ⌜ Laid (now rows) live (length (now bodies)) ⌝ }
+    ensures { λ r. ⌜ Compacted (now (rows .entry)) (now (bodies .entry)) live r (now (rows .exit)) (now (bodies .exit)) ⌝ }
+{
+    let mut to: usize = 0;
+    loop {
+        let i = lowest(rows, live, to);
+        if i == live {
+            return to;
+        }
+        let n = length_at(rows, i);
+        let from = start_at(rows, i);
+        move_down(bodies, from, to, n);
+        rows[PER_ROW * i + START] = to;
+        to += n;
+    }
+}
+
+// Whether a number that is at most the symbol stands at row i, one below it, or the symbol itself.
+fn at_most(rows: &[usize; ROW_NUMBERS], live: usize, i: usize, symbol: usize) -> bool
+    requires { ⌜ live ≤ most ⌝ }
+    ensures { λ r. ⌜ r ≡ (ltb i live && leb (symbolAt (now (rows .entry)) i) symbol) ⌝ }
+{
+    if i < live {
+        return rows[PER_ROW * i] <= symbol;
+    }
+    false
+}
+
+fn below(rows: &[usize; ROW_NUMBERS], live: usize, i: usize, symbol: usize) -> bool
+    requires { ⌜ live ≤ most ⌝ }
+    ensures { λ r. ⌜ r ≡ (ltb i live && ltb (symbolAt (now (rows .entry)) i) symbol) ⌝ }
+{
+    if i < live {
+        return rows[PER_ROW * i] < symbol;
+    }
+    false
+}
+
+fn stands(rows: &[usize; ROW_NUMBERS], live: usize, i: usize, symbol: usize) -> bool
+    requires { ⌜ live ≤ most ⌝ }
+    ensures { λ r. ⌜ r ≡ (ltb i live && eqb (symbolAt (now (rows .entry)) i) symbol) ⌝ }
+{
+    if i < live {
+        return rows[PER_ROW * i] == symbol;
+    }
+    false
+}
+
+// The last row whose number is at most the symbol, or 0, by halves: a live number stands there or nowhere. It is one of the `reach` rows from `at` on;
+// `reach` goes through 512, 256, .. 2, so that this takes nine comparisons.
+fn nearest(rows: &[usize; ROW_NUMBERS], live: usize, symbol: usize) -> usize
+    requires { ⌜ Sorted (now rows) live ⌝ }
+    ensures { λ r. ⌜ Nearest (now (rows .entry)) live symbol r ⌝ }
+{
+    let mut at: usize = 0;
+    let mut reach: usize = MOST;
+    while 1 < reach {
+        let half = reach / 2;
+        reach -= half;
+        if at_most(rows, live, at + half, symbol) {
+            at += half;
+        }
+    }
+    at
+}
+
+// The live row of a number (refusal 12 where there is none): nine comparisons to come to the nearest number, one to see whether it is this.
+pub fn find(rows: &[usize; ROW_NUMBERS], live: usize, symbol: usize) -> Found
+    requires { ⌜ Sorted (now rows) live ⌝ }
+    ensures { λ r. ⌜ Finds (now (rows .entry)) live symbol r ⌝ }
+{
+    let i = nearest(rows, live, symbol);
+    if stands(rows, live, i, symbol) {
+        return Found::Live(i);
+    }
+    Found::Nothing
+}
+
+// The first row whose number is not below this one, or `live`: that of the nearest number, or the one after it.
+fn seek(rows: &[usize; ROW_NUMBERS], live: usize, symbol: usize) -> usize
+    requires { ⌜ Sorted (now rows) live ⌝ }
+    ensures { λ r. ⌜ Parted (now (rows .entry)) live symbol r ⌝ }
+{
+    let i = nearest(rows, live, symbol);
+    if below(rows, live, i, symbol) {
+        return i + 1;
+    }
+    i
+}
+
+// How many rows are left when every entry of this number or more is removed (DD). What stands after them is room for others.
+pub fn forget(rows: &[usize; ROW_NUMBERS], live: usize, symbol: usize) -> usize
+    requires { ⌜ Sorted (now rows) live ⌝ }
+    ensures { λ r. ⌜ Forgets (now (rows .entry)) live symbol r ⌝ }
+{
+    seek(rows, live, symbol)
+}
+
+// How many words the definitions of some rows need, those that DD removes.
+pub fn needed_between(rows: &[usize; ROW_NUMBERS], left: usize, live: usize) -> usize
+    requires { ⌜ (left ≤ live) × (live ≤ most) × (neededIn (now rows) live < 2 ^ 64) ⌝ }
+    ensures { λ r. ⌜ neededIn (now (rows .entry)) left + r ≡ neededIn (now (rows .entry)) live ⌝ }
+{
+    let mut sum: usize = 0;
+    let mut i = left;
+    while i < live {
+        let n = needed_at(rows, i);
+        sum += n;
+        i += 1;
+    }
+    sum
+}
+
+// Every word zero.
+pub fn clear(bodies: &mut [i32])
+    ensures { λ _. ⌜ now (bodies .exit) ≡ replicate (length (now (bodies .entry))) (pos 0) ⌝ }
+{
+    let mut i = 0;
+    while i < bodies.len() {
+        bodies[i] = 0;
+        i += 1;
+    }
+}
+
+// Where a body starts that is to grow at `used`.
+fn start_for(rows: &[usize; ROW_NUMBERS], i: usize, used: usize) -> usize
+    requires { ⌜ i < most ⌝ }
+    ensures { λ r. ⌜ r ≡ startFor (now (rows .entry)) i used ⌝ }
+{
+    if length_at(rows, i) == 0 {
+        return used;
+    }
+    start_at(rows, i)
+}
+
+// The body of a row takes so many words more, which stand after those used.
+pub fn extend(rows: &mut [usize; ROW_NUMBERS], i: usize, used: usize, n: usize)
+    requires { ⌜ (i < most) × (lengthAt (now rows) i + n < 2 ^ 64) × (neededAt (now rows) i + n < 2 ^ 64) ⌝ }
+    ensures { λ _. ⌜ now (rows .exit) ≡ extended (now (rows .entry)) i used n ⌝ }
+{
+    let start = start_for(rows, i, used);
+    let more = length_at(rows, i) + n;
+    let needed = needed_at(rows, i) + n;
+    rows[PER_ROW * i + START] = start;
+    rows[PER_ROW * i + LENGTH] = more;
+    rows[PER_ROW * i + NEEDED] = needed;
+}
+
+// An L command that stands after the words used takes the place of the L command before it, which is idle. So the body stays as long as it is, and its
+// definition needs the words of both.
+pub fn replace_layer(rows: &mut [usize; ROW_NUMBERS], bodies: &mut [i32], i: usize, used: usize)
+    requires { ⌜ (i < most) × (layerWords ≤ used) × (used + layerWords ≤ length (now bodies)) × (neededAt (now rows) i + layerWords < 2 ^ 64) ⌝ }
+    ensures { λ _. ⌜ Relayered (now (rows .entry)) (now (bodies .entry)) i used (now (rows .exit)) (now (bodies .exit)) ⌝ }
+{
+    let both = needed_at(rows, i) + LAYER_WORDS;
+    let to = used - LAYER_WORDS;
+    move_down(bodies, used, to, LAYER_WORDS);
+    rows[PER_ROW * i + NEEDED] = both;
+}
+
+// Keeps a command whose words stand after those used, in the place of the L command that it follows or after the last; how many words are used then.
+pub fn store(
+    rows: &mut [usize; ROW_NUMBERS],
+    bodies: &mut [i32],
+    i: usize,
+    used: usize,
+    n: usize,
+    again: bool,
+) -> usize
+    requires { ⌜ Storable (now rows) (now bodies) i used n again ⌝ }
+    ensures { λ r. ⌜ Stores again (now (rows .entry)) (now (bodies .entry)) i used n (now (rows .exit)) (now (bodies .exit)) r ⌝ }
+{
+    if again {
+        replace_layer(rows, bodies, i, used);
+        return used;
+    }
+    extend(rows, i, used, n);
+    used + n
+}
+
+// Moves the rows from i on up by one, from the last number down.
+fn shift(rows: &mut [usize; ROW_NUMBERS], live: usize, i: usize)
+    requires { ⌜ (i ≤ live) × (live < most) × (length (now rows) ≡ rowNumbers) ⌝ }
+    ensures { λ _. ⌜ Shifted (now (rows .entry)) live i (now (rows .exit)) ⌝ }
+{
+    let low = PER_ROW * i;
+    let mut k = PER_ROW * live;
+    while low < k {
+        k -= 1;
+        rows[k + PER_ROW] = rows[k];
+    }
+}
+
+fn put_row(rows: &mut [usize; ROW_NUMBERS], i: usize, symbol: usize, place: usize)
+    requires { ⌜ i < most ⌝ }
+    ensures { λ _. ⌜ now (rows .exit) ≡ withRow (now (rows .entry)) i symbol place ⌝ }
+{
+    rows[PER_ROW * i] = symbol;
+    rows[PER_ROW * i + PLACE] = place;
+    rows[PER_ROW * i + START] = 0;
+    rows[PER_ROW * i + LENGTH] = 0;
+    rows[PER_ROW * i + NEEDED] = 0;
+}
+
+// Begins a definition: its row is entered under its number, in the place of one of that number or between the others, with no body yet (refusal 10
+// where it would be the 513th).
+pub fn begin(rows: &mut [usize; ROW_NUMBERS], live: usize, symbol: usize, place: usize) -> Begun
+    requires { ⌜ Sorted (now rows) live × (length (now rows) ≡ rowNumbers) ⌝ }
+    ensures { λ r. ⌜ Begins (now (rows .entry)) live symbol place r (now (rows .exit)) ⌝ }
+{
+    let i = seek(rows, live, symbol);
+    if stands(rows, live, i, symbol) {
+        let freed = needed_at(rows, i);
+        put_row(rows, i, symbol, place);
+        return Begun::Replaced(i, freed);
+    }
+    if live == MOST {
+        return Begun::Full;
+    }
+    shift(rows, live, i);
+    put_row(rows, i, symbol, place);
+    Begun::Added(i)
+}
