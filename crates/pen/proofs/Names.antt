@@ -150,9 +150,9 @@ packs k n h e = go (eqb n 0) refl
         omega (arith, e, packed-first (n / 16777216) (unpacked k (behind n)) (omega (arith, h, unpacked-length k (behind n))))
 
 -- the number comes back
-pub packed-back : (n : ℕ) → n < 4294967296 → packed (nameOf n) ≡ n
+pub packed-back : (n : ℕ) → packed (nameOf n) ≡ n
 unfolding unpacked
-packed-back n h =
+packed-back n =
     let a = behind n in
     let b = behind a in
     let c = behind b in
@@ -160,6 +160,9 @@ packed-back n h =
 
 pub packed-none : (l : List ℕ) → Name l → packed l ≡ 0 → l ≡ []
 packed-none l h e = sym (name-back l h) ∙ no-name (packed l) e
+
+pub name-same : (n m : ℕ) → nameOf n ≡ nameOf m → n ≡ m
+name-same n m e = sym (packed-back n) ∙ ap packed e ∙ packed-back m
 
 -- ---- the order
 
@@ -209,7 +212,7 @@ packed-order l m h i = order l m (h .short) (i .short) (h .bytes) (i .bytes)
 
 -- ---- the L line
 
-same-refl : (l : List ℕ) → same l l ≡ true
+pub same-refl : (l : List ℕ) → same l l ≡ true
 unfolding same
 same-refl [] = refl
 same-refl (a ∷ l) = rw (eq-eqb a a refl) (same-refl l)
@@ -217,9 +220,9 @@ same-refl (a ∷ l) = rw (eq-eqb a a refl) (same-refl l)
 pub no-line : (before layer : ℕ) → before ≡ layer → layerLine (nameOf before) (nameOf layer) ≡ []
 no-line b n e = rw (e, same-refl (nameOf n))
 
-pub a-line : (before layer : ℕ) → before < 4294967296 → layer < 4294967296 → (before ≡ layer → ⊥) → layerLine (nameOf before) (nameOf layer) ≡ line 76 (nameOf layer)
-a-line b n p q d = go (same (nameOf b) (nameOf n)) refl
+pub a-line : (before layer : ℕ) → (before ≡ layer → ⊥) → layerLine (nameOf before) (nameOf layer) ≡ line 76 (nameOf layer)
+a-line b n d = go (same (nameOf b) (nameOf n)) refl
   where
     go : (t : Bool) → same (nameOf b) (nameOf n) ≡ t → (if t then [] else line 76 (nameOf n)) ≡ line 76 (nameOf n)
-    go true e = absurd (d (sym (packed-back b p) ∙ ap packed (same-eq (nameOf b) (nameOf n) (subst T (sym e) tt)) ∙ packed-back n q))
+    go true e = absurd (d (name-same b n (same-eq (nameOf b) (nameOf n) (subst T (sym e) tt))))
     go false e = refl

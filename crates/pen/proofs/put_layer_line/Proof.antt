@@ -24,7 +24,7 @@ same-length : tie.Need-same-length
 same-length c = search needs
 
 returns-2 : tie.Need-returns-2
-returns-2 c = same-bytes (sym (a-line (c .before .before .before .before .before .before .before .before .before .before .before .before .before .before .args .before) (c .before .before .before .before .before .before .before .before .before .before .before .before .before .before .args .layer) (omega arith) (omega arith) (c .before .before .before .before .before .before .before .before .before .before .before .before .if1 .left))) (both (c .before .before .before .before .before .before .before .before .before .before .put .ensures) (both (c .before .before .before .before .before .before .put-name .ensures) (c .before .before .put-end-of-line .ensures)))
+returns-2 c = same-bytes (sym (a-line (c .before .before .before .before .before .before .before .before .before .before .before .before .before .before .args .before) (c .before .before .before .before .before .before .before .before .before .before .before .before .before .before .args .layer) (c .before .before .before .before .before .before .before .before .before .before .before .before .if1 .left))) (both (c .before .before .before .before .before .before .before .before .before .before .put .ensures) (both (c .before .before .before .before .before .before .put-name .ensures) (c .before .before .put-end-of-line .ensures)))
 
 pub put-layer-line-spec : {M : Type 1} → statement M
 put-layer-line-spec =

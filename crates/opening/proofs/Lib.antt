@@ -1,0 +1,5 @@
+pub mod Searching
+pub mod CallWords
+pub mod Opening
+pub mod Witnesses
+pub mod Sole
