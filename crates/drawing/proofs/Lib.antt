@@ -1,4 +1,0 @@
-pub mod Voices
-pub mod Redefinitions
-pub mod Onward
-pub mod Passing

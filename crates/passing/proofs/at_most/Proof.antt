@@ -1,0 +1,16 @@
+-- `at_most` meets its contract.
+-- Assumes nothing.
+use borrow.Author.Tests.{lt-ltb, le-ltb}
+use Rattle.passing.proofs.at_most.Statement.{statement}
+use Rattle.passing.proofs.at_most.Tie as tie
+use Rattle.passing.proofs.at_most.Reads as reads
+use Rattle.passing.proofs.at_most.Lts as lts
+
+returns : tie.Need-returns
+returns c = simp (lt-ltb _ _ (c .if1 .taken))
+
+returns-2 : tie.Need-returns-2
+returns-2 c = simp (le-ltb _ _ (c .if1 .left))
+
+pub at-most-spec : {M : Type 1} → statement M
+at-most-spec = tie.close (tie.spec returns returns-2)

@@ -1,5 +1,0 @@
-pub mod Seeking
-pub mod Shifting
-pub mod InColumns
-pub mod Entering
-pub mod Sole
