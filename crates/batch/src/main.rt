@@ -10,13 +10,21 @@ ghost use mathlib.Core.Path.{_≡_};
 ghost use lib.ListN.{length};
 ghost use Rattle.printout.specs.Prints.{listingLength};
 
-// The limits of a record: the bytes of a text or a room, and the records lent for open calls.
+// The limits of a record: the bytes of a text or a room, or the words lent for bodies; and the records lent for open calls.
 const MOST: usize = 1048576;
 
 const MOST_OPEN: usize = 64;
+// In place of a number of words: as many as the text and the second text have bytes, which is always enough, but not more than the limit.
+const AS_MANY: usize = 4294967295;
 
-// The contract spares callers the zeros.
+// The contracts of these two spare callers the zeros.
 fn bytes() -> [u8; MOST]
+    ensures { λ r. ⌜ 1048576 ≡ length r ⌝ }
+{
+    [0; MOST]
+}
+
+fn body_words() -> [i32; MOST]
     ensures { λ r. ⌜ 1048576 ≡ length r ⌝ }
 {
     [0; MOST]
@@ -55,8 +63,8 @@ fn put_answer(r: Answer) -> bool {
 }
 
 // Task 0: the flat file.
-fn flatten(text: &[u8], room: &mut [u8]) -> bool {
-    let answer = reader::flatten(text, room);
+fn flatten(text: &[u8], words: &mut [i32], room: &mut [u8]) -> bool {
+    let answer = reader::flatten(text, words, room);
     let length = answer.length;
     if !put_answer(answer) {
         return false;
@@ -78,13 +86,14 @@ fn list(text: &[u8], room: &mut [u8]) -> bool
     streams::write(&room[..length])
 }
 
-// What a record begins with, as far as a task needs it: the task, the lengths of its two texts and of its room, and the records lent for open calls.
-// The words lent for bodies and the argument are passed over.
+// What a record begins with, as far as a task needs it: the task, the lengths of its two texts and of its room, the words lent for bodies, and the records
+// lent for open calls. The argument is passed over.
 struct Head {
     task: usize,
     text: usize,
     second: usize,
     room: usize,
+    words: usize,
     open: usize,
 }
 
@@ -110,6 +119,7 @@ fn head_of(numbers: &[u8; 28]) -> Head {
         text: number_at(numbers, 4),
         second: number_at(numbers, 8),
         room: number_at(numbers, 12),
+        words: number_at(numbers, 16),
         open: number_at(numbers, 20),
     }
 }
@@ -158,11 +168,11 @@ fn read_text(text: &mut [u8]) -> bool {
 }
 
 // Answers a record by its task. A task that is still to come gives a line and no bytes.
-fn answer(task: usize, text: &[u8], size: usize, room: &mut [u8]) -> bool
+fn answer(task: usize, text: &[u8], words: &mut [i32], size: usize, room: &mut [u8]) -> bool
     requires { ⌜ (size ≤ length (now room)) × (1048576 ≡ length (now room)) ⌝ }
 {
     match task {
-        0 => flatten(text, &mut room[..size]),
+        0 => flatten(text, words, &mut room[..size]),
         2 => list(text, &mut room[..printout::LONGEST_LISTING]),
         _ => streams::write(b"0\t0\t0\n"),
     }
@@ -172,6 +182,7 @@ fn answer_texts(
     task: usize,
     text: &mut [u8],
     second: &mut [u8],
+    words: &mut [i32],
     size: usize,
     room: &mut [u8],
 ) -> bool
@@ -183,12 +194,42 @@ fn answer_texts(
     if !read_text(second) {
         return false;
     }
-    answer(task, text, size, room)
+    answer(task, text, words, size, room)
+}
+
+// Whether so many words may be asked for.
+fn too_many(words: usize) -> bool {
+    if words == AS_MANY {
+        return false;
+    }
+    words > MOST
+}
+
+// How many words are lent where so many are asked for and the texts have so many bytes.
+fn lent(words: usize, bytes: usize) -> usize
+    ensures { λ r. ⌜ r ≤ 1048576 ⌝ }
+{
+    if words <= MOST {
+        return words;
+    }
+    if bytes <= MOST {
+        return bytes;
+    }
+    MOST
+}
+
+// Whether a number of a record is over its limit. The lengths of the texts and of the room are looked at where they are lent.
+fn over(head: Head) -> bool {
+    if too_many(head.words) {
+        return true;
+    }
+    head.open > MOST_OPEN
 }
 
 // Answers the next record, and says whether the run goes on.
-fn answer_next(text: &mut [u8], second: &mut [u8], room: &mut [u8]) -> bool
-    requires { ⌜ 1048576 ≡ length (now room) ⌝ }
+fn answer_next(text: &mut [u8], second: &mut [u8], words: &mut [i32], room: &mut [u8]) -> bool
+    requires { ⌜ (1048576 ≡ length (now text)) × (1048576 ≡ length (now second)) ⌝ }
+    requires { ⌜ (1048576 ≡ length (now words)) × (1048576 ≡ length (now room)) ⌝ }
 {
     match read_head() {
         Next::End => false,
@@ -206,21 +247,30 @@ fn answer_next(text: &mut [u8], second: &mut [u8], room: &mut [u8]) -> bool
             if size > room.len() {
                 return stop(b"too long\n");
             }
-            if head.open > MOST_OPEN {
+            if over(head) {
                 return stop(b"too long\n");
             }
-            answer_texts(head.task, &mut text[..n], &mut second[..m], size, room)
+            let k = lent(head.words, n + m);
+            answer_texts(
+                head.task,
+                &mut text[..n],
+                &mut second[..m],
+                &mut words[..k],
+                size,
+                room,
+            )
         }
     }
 }
 
 // A proved loop has to end, and nothing says that the input does: it counts its turns down from a number that no run uses up.
-fn answer_all(text: &mut [u8], second: &mut [u8], room: &mut [u8])
-    requires { ⌜ 1048576 ≡ length (now room) ⌝ }
+fn answer_all(text: &mut [u8], second: &mut [u8], words: &mut [i32], room: &mut [u8])
+    requires { ⌜ (1048576 ≡ length (now text)) × (1048576 ≡ length (now second)) ⌝ }
+    requires { ⌜ (1048576 ≡ length (now words)) × (1048576 ≡ length (now room)) ⌝ }
 {
     let mut turns = u64::MAX;
     while turns > 0 {
-        if !answer_next(text, second, room) {
+        if !answer_next(text, second, words, room) {
             return;
         }
         turns -= 1;
@@ -230,6 +280,7 @@ fn answer_all(text: &mut [u8], second: &mut [u8], room: &mut [u8])
 fn main() {
     let mut text = bytes();
     let mut second = bytes();
+    let mut words = body_words();
     let mut room = bytes();
-    answer_all(&mut text, &mut second, &mut room);
+    answer_all(&mut text, &mut second, &mut words, &mut room);
 }

@@ -1,8 +1,9 @@
--- What a host is told is settled: of one text and one room, two outcomes that a contract allows are equal, word for word and byte for byte.
+-- What a host is told is settled: of one text, one run of words and one room, two outcomes that a contract allows are equal, word for word and byte for byte.
 -- Assumes nothing.
 use mathlib.Core.Path.{_≡_, sym, ap, _∙_, subst}
 use mathlib.Core.List.{List}
 use Prim.Native.Nat.{ℕ}
+use lib.IntN.{ℤ}
 use Rattle.grammar.specs.declared.Verdict.{Verdict}
 use Rattle.grammar.proofs.Unique.{one-verdict}
 use Rattle.definition.specs.declared.Answer.{Answer}
@@ -18,9 +19,9 @@ use Rattle.cif.specs.Told.{FlattenTold, ListTold, RefusalTold, VerdictTo
 same-words : {words words′ : List ℕ} {a a′ : Answer} → words ≡ answerWords a → words′ ≡ answerWords a′ → a ≡ a′ → words ≡ words′
 same-words s s′ e = s ∙ ap (λ (a : Answer). answerWords a) e ∙ sym s′
 
-pub flatten-told-once : {t room words words′ left left′ : List ℕ} → FlattenTold t room words left → FlattenTold t room words′ left′
-    → (words ≡ words′) × (left ≡ left′)
-flatten-told-once a b = let one = one-answer (a .promised) (b .promised) in (same-words (a .said) (b .said) (one .0), one .1)
+pub flatten-told-once : {t room words words′ left left′ : List ℕ} {lent lent′ lent″ : List ℤ} → FlattenTold t lent room words lent′ left
+    → FlattenTold t lent room words′ lent″ left′ → (words ≡ words′) × (left ≡ left′) × (lent′ ≡ lent″)
+flatten-told-once a b = let one = one-answer (a .promised) (b .promised) in (same-words (a .said) (b .said) (one .0), one .1, one .2)
 
 pub list-told-once : {words f old new new′ : List ℕ} {r r′ : ℕ} → ListTold words f old new r → ListTold words f old new′ r′ → (new ≡ new′) × (r ≡ r′)
 list-told-once {f = f} {old} {new′ = new′} {r′ = r′} a b =

@@ -2,6 +2,7 @@
 use mathlib.Core.Path.{_≡_}
 use mathlib.Core.List.{List}
 use Prim.Native.Nat.{ℕ}
+use lib.IntN.{ℤ}
 use Rattle.grammar.specs.Viable.{Judged}
 use Rattle.grammar.specs.declared.Verdict.{Verdict}
 use Rattle.grammar.specs.declared.Verdict.the-variants.{InGrammar, StuckAt}
@@ -27,9 +28,10 @@ abbrev pub verdictAnswer : Verdict → Answer  -- 01, refusal 2: "not in the gra
 verdictAnswer InGrammar = undrawn 0 0
 verdictAnswer (StuckAt n) = undrawn (numberOf notInGrammar) n
 
-pub record FlattenTold (t room words left : List ℕ) : Type 0 where  -- `cif_flatten`: the promised answer, and the room that goes with it
+-- `cif_flatten`: the promised answer, and the room and the words lent that go with it
+pub record FlattenTold (t : List ℕ) (lent : List ℤ) (room words : List ℕ) (lent′ : List ℤ) (left : List ℕ) : Type 0 where
   pub given : Answer
-  pub promised : Promised t room given left
+  pub promised : Promised t lent room given lent′ left
   pub said : words ≡ answerWords given
 
 pub record ListTold (words f old new : List ℕ) (r : ℕ) : Type 0 where  -- `cif_list`: the listing of the answer that the words say

@@ -26,12 +26,18 @@ fn verdict_answer(verdict: Verdict) -> Answer
     }
 }
 
-// The whole reader: the flat file comes to stand in the room, and the answer in the words. Both are settled: `flatten-told-once` of proofs/Once.antt.
+// The whole reader: the flat file comes to stand in the room, the answer in its words, and the words lent for bodies are all zero. All is settled:
+// `flatten-told-once` of proofs/Once.antt.
 #[no_mangle]
-pub extern "C" fn cif_flatten(text: &[u8], room: &mut [u8], answer: &mut [u64; answer::WORDS])
-    ensures { λ _. ⌜ FlattenTold (now (text .entry)) (now (room .entry)) (now (answer .exit)) (now (room .exit)) ⌝ }
+pub extern "C" fn cif_flatten(
+    text: &[u8],
+    words: &mut [i32],
+    room: &mut [u8],
+    answer: &mut [u64; answer::WORDS],
+)
+    ensures { λ _. ⌜ FlattenTold (now (text .entry)) (now (words .entry)) (now (room .entry)) (now (answer .exit)) (now (words .exit)) (now (room .exit)) ⌝ }
 {
-    let given = reader::flatten(text, room);
+    let given = reader::flatten(text, words, room);
     *answer = answer::words(given);
 }
 

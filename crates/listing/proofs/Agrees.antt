@@ -47,7 +47,7 @@ window-printed ds h =
 
 -- ---- outcomes
 
-accepted-is : {t : List ℕ} {room : ℕ} (cs : List (Placed Command)) (c : Counts) (es : List Event) → Answers t room (accepted cs c es)
+accepted-is : {t : List ℕ} {words room : ℕ} (cs : List (Placed Command)) (c : Counts) (es : List Event) → Answers t words room (accepted cs c es)
     → account (given-back (accepted cs c es)) (flatFile (accepted cs c es)) ≡ listing (accepted cs c es)
 unfolding account given-back flatFile listing totalLine bytesOf
 accepted-is cs c es k =
@@ -56,18 +56,18 @@ accepted-is cs c es k =
     rw (le-ltb 16777216 (length (flat ds)) (within-limit (reading k .as-read)))
     (ap₂ (λ (x y : List ℕ). x ++ (totalLine (c .shapes) (c .calls) (c .redefinitions) ++ y)) (shapes-printed ds s) (window-printed ds s))
 
-rejected-is : {t : List ℕ} {room : ℕ} (r : Refusal) (chain : Chain) → Answers t room (rejected r chain)
+rejected-is : {t : List ℕ} {words room : ℕ} (r : Refusal) (chain : Chain) → Answers t words room (rejected r chain)
     → account (given-back (rejected r chain)) (flatFile (rejected r chain)) ≡ listing (rejected r chain)
 unfolding account given-back flatFile listing refusedLine
 rejected-is r chain k = let h = located k .first-number in rw (ne-eqb (r .number) 0 (λ e. omega (arith, h, e)))
 
-pub account-is : {t : List ℕ} {room : ℕ} (o : Outcome) → Answers t room o → account (given-back o) (flatFile o) ≡ listing o
+pub account-is : {t : List ℕ} {words room : ℕ} (o : Outcome) → Answers t words room o → account (given-back o) (flatFile o) ≡ listing o
 account-is (accepted cs c es) k = accepted-is cs c es k
 account-is (rejected r chain) k = rejected-is r chain k
 
 -- ---- how long it is
 
-shapes-short : {t : List ℕ} {room : ℕ} (o : Outcome) → Answers t room o → length (printed (fresh 1 0) (flatFile o)) ≤ 4 * length (flatFile o)
+shapes-short : {t : List ℕ} {words room : ℕ} (o : Outcome) → Answers t words room o → length (printed (fresh 1 0) (flatFile o)) ≤ 4 * length (flatFile o)
 unfolding flatFile flat printed
 shapes-short (rejected r chain) k = omega arith
 shapes-short (accepted cs c es) k =

@@ -5,6 +5,7 @@ use mathlib.Core.Path.{_≡_, refl, sym, ap, _∙_, subst}
 use mathlib.Core.List.{List, []}
 use Prim.Native.Nat.{ℕ, _+_, _*_, _≤_, _<_}
 use native.Mathlib.Omega.{arith}
+use lib.IntN.{ℤ}
 use lib.ListN.{length, take, drop, length-append, length-drop}
 use lib.Seq.{take-at}
 use Rattle.definition.specs.Counts.{counts, shapesOf}
@@ -20,7 +21,7 @@ use Rattle.digits.specs.Writes.{Writes}
 use Rattle.digits.proofs.Writing.{begins, same-bytes, one-outcome}
 use Rattle.listing.specs.Account.{account, refusedLine}
 use Rattle.listing.specs.Listed.{Listed}
-use Rattle.printout.specs.Prints.{Lays, Prints, roomLength, listingLength}
+use Rattle.printout.specs.Prints.{Lays, Prints, wordsLent, roomLength, listingLength}
 
 -- ---- the flat file at the start of the room
 
@@ -34,15 +35,15 @@ pub record Flat (left f : List ℕ) (n : ℕ) : Type 0 where
   pub fits : n ≤ length left
   pub is : take n left ≡ f
 
-pub flat-left : {t room left : List ℕ} {r : Answer} (p : Promised t room r left) → Flat left (flatFile (p .outcome)) (r .length)
-flat-left {t} {room} {left} {r} p =
+pub flat-left : {t room left : List ℕ} {words words′ : List ℤ} {r : Answer} (p : Promised t words room r words′ left) → Flat left (flatFile (p .outcome)) (r .length)
+flat-left {t} {room} {left} {r = r} p =
     let f = flatFile (p .outcome) in
     let e : length f ≡ r .length = sym (ap (λ (a : Answer). a .length) (p .given) ∙ given-length (p .outcome)) in
     let q : length left ≡ length f + length (drop (length f) room) = ap length (p .kept) ∙ length-append f (drop (length f) room) in
     record { size = e; fits = omega (arith, e, q); is = ap (take (r .length)) (p .kept) ∙ take-at f (drop (length f) room) (r .length) e }
 
 -- the room is as long as it was
-left-length : {t room left : List ℕ} {r : Answer} → Promised t room r left → length left ≡ length room
+left-length : {t room left : List ℕ} {words words′ : List ℤ} {r : Answer} → Promised t words room r words′ left → length left ≡ length room
 left-length {t} {room} {left} p = go (p .outcome) refl
   where
     go : (o : Outcome) → p .outcome ≡ o → length left ≡ length room
@@ -64,9 +65,9 @@ lays {old} {new} {bytes} {r} w h =
     let l : take r new ≡ bytes = ap (take r) (begins w (omega (arith, e, h))) ∙ take-at bytes (drop (length bytes) old) r e in
     record { writes = w; fits = omega (arith, k, h); part = sym (ap length l ∙ e); is = l }
 
-pub printed : {t room left old new : List ℕ} {a : Answer} {r : ℕ} → length t ≤ 32768 → length room ≡ roomLength → length old ≡ listingLength
-    → Promised t room a left → Listed a (take (a .length) left) old new r → Prints t old new r
-printed {t} {room} {left} {a = a} {r} h n m p l =
+pub printed : {t room left old new : List ℕ} {words words′ : List ℤ} {a : Answer} {r : ℕ} → length t ≤ 32768 → length words ≡ wordsLent → length room ≡ roomLength → length old ≡ listingLength
+    → Promised t words room a words′ left → Listed a (take (a .length) left) old new r → Prints t old new r
+printed {t} {room} {left} {a = a} {r} h w n m p l =
     let f = flat-left p in
     let k = left-length p in
     let short : r ≤ 4 * length (take (a .length) left) + 256 = l .short (p .answers) (p .given) (f .is) in
@@ -74,7 +75,7 @@ printed {t} {room} {left} {a = a} {r} h n m p l =
     let inside = f .fits in
     record {
       bytes = listing (p .outcome);
-      lists = within h (subst (λ (x : ℕ). Answers t x (p .outcome)) n (p .answers));
+      lists = within h (subst (λ (x : ℕ). Answers t wordsLent x (p .outcome)) n (subst (λ (x : ℕ). Answers t x (length room) (p .outcome)) w (p .answers)));
       lays = lays (l .is (p .answers) (p .given) (f .is)) (omega (arith, short, size, inside, k, n, m));
     }
 

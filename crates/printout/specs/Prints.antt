@@ -7,6 +7,10 @@ use lib.ListN.{length, take}
 use Rattle.definition.specs.Listing.{Lists}
 use Rattle.digits.specs.Writes.{Writes}
 
+-- 02, P10: it lends as many words as the longest text that it takes has bytes
+abbrev pub wordsLent : ℕ
+wordsLent = 32768
+
 -- 01: its room is 32,768 bytes; no listing is longer than four bytes for each of those and 256 more
 abbrev pub roomLength : ℕ
 roomLength = 32768

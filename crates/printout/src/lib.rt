@@ -7,16 +7,23 @@ ghost use lib.ListN.{length};
 ghost use Rattle.definition.specs.Rules.{textTooLong, refuse};
 ghost use Rattle.definition.specs.Answer.{rejected};
 ghost use Rattle.definition.specs.Listing.{listing};
-ghost use Rattle.printout.specs.Prints.{Lays, Prints, roomLength, listingLength};
+ghost use Rattle.printout.specs.Prints.{Lays, Prints, wordsLent, roomLength, listingLength};
 
-// The longest text that is taken, and the room for its flat file.
+// The longest text that is taken, the room for its flat file, and the words lent.
 pub const MOST: usize = 32_768;
 // No listing is longer: four bytes for each of a flat file's, and 256 (`Listed` of crates/listing).
 pub const LONGEST_LISTING: usize = 131_328;
 
-// The contract spares the caller the zeros.
+// The contracts of these two spare the caller the zeros.
 fn flat_room() -> [u8; MOST]
     ensures { λ r. ⌜ roomLength ≡ length r ⌝ }
+{
+    [0; MOST]
+}
+
+// As many words as the longest text has bytes, which is always enough.
+fn body_words() -> [i32; MOST]
+    ensures { λ r. ⌜ wordsLent ≡ length r ⌝ }
 {
     [0; MOST]
 }
@@ -34,11 +41,11 @@ fn print_refusal(out: &mut [u8]) -> usize
     listing::list(&nothing, answer::refused(over, counts::no_counts()), out)
 }
 
-fn print_flat(text: &[u8], room: &mut [u8], out: &mut [u8]) -> usize
-    requires { ⌜ (length (now text) ≤ 32768) × (length (now room) ≡ roomLength) × (length (now out) ≡ listingLength) ⌝ }
+fn print_flat(text: &[u8], words: &mut [i32], room: &mut [u8], out: &mut [u8]) -> usize
+    requires { ⌜ (length (now text) ≤ 32768) × (length (now words) ≡ wordsLent) × (length (now room) ≡ roomLength) × (length (now out) ≡ listingLength) ⌝ }
     ensures { λ r. ⌜ Prints (now (text .entry)) (now (out .entry)) (now (out .exit)) r ⌝ }
 {
-    let answer = reader::flatten(text, room);
+    let answer = reader::flatten(text, words, room);
     let length = answer.length;
     listing::list(&room[..length], answer, out)
 }
@@ -52,6 +59,7 @@ pub fn print_text(text: &[u8], out: &mut [u8]) -> usize
     if text.len() > MOST {
         return print_refusal(out);
     }
+    let mut words = body_words();
     let mut room = flat_room();
-    print_flat(text, &mut room, out)
+    print_flat(text, &mut words, &mut room, out)
 }

@@ -1,19 +1,20 @@
--- The three demands, carried to `flatten`: what it gives back of any text t and any room, and what it leaves in the room. Its contract `Promised t room r
--- left` is all that is used, so the same holds of every reader that keeps it. docs/DEMANDS.md has the user's words beside each theorem.
+-- The three demands and request 10, carried to `flatten`: what it gives back of any text t, any words and any room, and what it leaves in words and room. Its
+-- contract `Promised t words room r words′ left` is all that is used, so the same holds of every reader that keeps it. docs/DEMANDS.md has the user's words beside each theorem.
 -- Assumes nothing.
 use mathlib.Core.Path.{_≡_, refl, sym, ap, ap₂, _∙_, subst}
-use mathlib.Core.List.{List}
+use mathlib.Core.List.{List, []}
 use mathlib.Core.Logic.{_↔_, Iff·trans}
 use Prim.Native.Nat.{ℕ, _≤_, _<_}
 use native.Mathlib.Omega.{arith}
-use lib.ListN.{length, take, drop, length-append}
+use lib.IntN.{ℤ, pos}
+use lib.ListN.{length, replicate, take, drop, length-append}
 use lib.Seq.{take-at}
 use Rattle.grammar.specs.Viable.{Grammatical, LongestViable}
 use Rattle.definition.specs.declared.Answer.{Answer}
 use Rattle.definition.specs.declared.Refusal.{Refusal}
 use Rattle.definition.specs.Limits.{mostBytes}
 use Rattle.definition.specs.Words.{Placed}
-use Rattle.definition.specs.Rules.{Rule, textTooLong, notInGrammar, flatFileTooLong, numberOf}
+use Rattle.definition.specs.Rules.{Rule, textTooLong, notInGrammar, tooFewWords, flatFileTooLong, numberOf}
 use Rattle.definition.specs.Commands.{Command}
 use Rattle.definition.specs.Drawing.{Chain, Event}
 use Rattle.definition.specs.Counts.{Counts, shapesOf}
@@ -25,6 +26,7 @@ use Rattle.laws.proofs.Rules.Outcomes.{Accepting}
 use Rattle.laws.proofs.Demands.Demand1.{Located, RefusalHolds, refusal-holds, SuccessHolds, success-holds}
 use Rattle.laws.proofs.Demands.Demand2.{Refused, CommandsBreak, DrawingStopped, FileTooLong, refused-by-length, refused-by-grammar, refused-by-command, refused-by-drawing}
 use Rattle.laws.proofs.Demands.Demand2.{refused-by-flat-file, accepted-exactly}
+use Rattle.laws.proofs.Demands.Words.{TooFewLent, refused-by-words, fewer-than-bytes, WithWords, as-without-words}
 use Rattle.laws.proofs.Demands.Demand3.{Demand3, demand3, twice}
 
 -- the number and the place of an answer
@@ -47,22 +49,22 @@ pub record SameAgain (r : Answer) (left room′ : List ℕ) (r′ : Answer) (lef
   pub rest-kept : drop (r .length) left′ ≡ drop (r .length) room′
 
 -- of the flat file of an accepted text, which is the first bytes of the room that is left
-pub record Flattened (t : List ℕ) (room : ℕ) (r : Answer) (left : List ℕ) : Type 0 where
+pub record Flattened (t : List ℕ) (words room : ℕ) (r : Answer) (left : List ℕ) : Type 0 where
   pub commands : List (Placed Command)
   pub counted : Counts
   pub events : List Event
   -- it is that of the shapes that the text draws
-  pub drawn : Accepting t room commands counted events
+  pub drawn : Accepting t words room commands counted events
   pub is-flat : take (r .length) left ≡ flat (shapesOf events)
   -- it is in the grammar, holds only layer commands, shapes and the End, and draws the same shapes
   pub holds : Demand3 room counted (shapesOf events)
-  -- and a reading of it, in any room that holds it, gives the same bytes
-  pub again : (room′ left′ : List ℕ) (r′ : Answer) → r .length ≤ length room′ → Promised (take (r .length) left) room′ r′ left′ → SameAgain r left room′ r′ left′
+  -- and a reading of it, with any words, in any room that holds it, gives the same bytes
+  pub again : (lent lent′ : List ℤ) (room′ left′ : List ℕ) (r′ : Answer) → r .length ≤ length room′ → Promised (take (r .length) left) lent room′ r′ lent′ left′ → SameAgain r left room′ r′ left′
 
 same-refusal : {r r′ : Refusal} (chain : Chain) → r .number ≡ r′ .number → r .place ≡ r′ .place → rejected r chain ≡ rejected r′ chain
 same-refusal chain e f = ap₂ (λ (n p : ℕ). rejected (record { number = n; place = p }) chain) e f
 
-module _ {t room left : List ℕ} {r : Answer} (h : Promised t room r left) where
+module _ {t : List ℕ} {words words′ : List ℤ} {room left : List ℕ} {r : Answer} (h : Promised t words room r words′ left) where
   -- ---- the number tells how the reading came out
 
   record Drew : Type 0 where
@@ -89,7 +91,7 @@ module _ {t room left : List ℕ} {r : Answer} (h : Promised t room r left) wher
       go (accepted cs c es) is = absurd (e (success-holds h is .no-number))
       go (rejected by chain) is = let k = refusal-holds h is .0 in record { open-calls = chain; is = is ∙ same-refusal chain (sym (k .number)) (sym (k .place)) }
 
-  outcome-is : {o : Outcome} → Answers t (length room) o → h .outcome ≡ o
+  outcome-is : {o : Outcome} → Answers t (length words) (length room) o → h .outcome ≡ o
   outcome-is a = unique (h .answers) a
 
   -- ---- demand 1
@@ -113,21 +115,21 @@ module _ {t room left : List ℕ} {r : Answer} (h : Promised t room r left) wher
   -- ---- demand 2
 
   -- accepted exactly when 01's rules let the text pass, its drawing finishes and its flat file fits
-  pub accepted-when : (r .number ≡ 0) ↔ ((cs : List (Placed Command)) × (c : Counts) × (es : List Event) × Accepting t (length room) cs c es)
+  pub accepted-when : (r .number ≡ 0) ↔ ((cs : List (Placed Command)) × (c : Counts) × (es : List Event) × Accepting t (length words) (length room) cs c es)
   accepted-when = (
-    λ e. let d = drew e in (d .commands, d .counted, d .events, accepted-exactly .0 (subst (Answers t (length room)) (d .is) (h .answers))),
+    λ e. let d = drew e in (d .commands, d .counted, d .events, accepted-exactly .0 (subst (Answers t (length words) (length room)) (d .is) (h .answers))),
     λ a. success-holds h (outcome-is (accepted-exactly .1 (a .3))) .no-number,
   )
 
   -- and then the counts are the drawing's, the rounded distances those of the text, the first bytes of the room are the flat file of its shapes, and the rest is unchanged
-  pub accepted-gives : {cs : List (Placed Command)} {c : Counts} {es : List Event} → Accepting t (length room) cs c es → SuccessHolds room r left cs c (flat (shapesOf es))
+  pub accepted-gives : {cs : List (Placed Command)} {c : Counts} {es : List Event} → Accepting t (length words) (length room) cs c es → SuccessHolds room r left cs c (flat (shapesOf es))
   accepted-gives a = success-holds h (outcome-is (accepted-exactly .1 a))
 
-  refused-when : (by : Rule) {p : ℕ} → Says r (numberOf by) p ↔ Refused t (length room) by p
+  refused-when : (by : Rule) {p : ℕ} → Says r (numberOf by) p ↔ Refused t (length words) (length room) by p
   refused-when by {p} = (
     λ s.
         let k = stopped (λ z. omega (arith, s .0, z, number-from-1 by)) in
-        (k .open-calls, subst (Answers t (length room)) (k .is ∙ same-refusal (k .open-calls) (s .0) (s .1)) (h .answers)),
+        (k .open-calls, subst (Answers t (length words) (length room)) (k .is ∙ same-refusal (k .open-calls) (s .0) (s .1)) (h .answers)),
     λ s. let k = refusal-holds h (outcome-is (s .1)) .0 in (k .number, k .place),
   )
 
@@ -149,18 +151,38 @@ module _ {t room left : List ℕ} {r : Answer} (h : Promised t room r left) wher
       let k = refusals-hold (λ z. omega (arith, e, z)) .1 .1 in
       number-not-5 (k .rule) (sym (ap (λ (x : Refusal). x .number) (k .is)) ∙ e)
 
-  -- 10 to 17, the first moment of the drawing that breaks a rule, the foremost of its rules; under the calls open there
-  pub refused-by-drawing-when : {by : Rule} {p : ℕ} → ByDrawing by → Says r (numberOf by) p ↔ ((chain : Chain) × DrawingStopped t by p chain)
+  -- 10 to 17 and 25, the first moment of the drawing that breaks a rule, the foremost of its rules; under the calls open there
+  pub refused-by-drawing-when : {by : Rule} {p : ℕ} → ByDrawing by → Says r (numberOf by) p ↔ ((chain : Chain) × DrawingStopped t (length words) by p chain)
   refused-by-drawing-when {by} i =
       Iff·trans (refused-when by) (λ s. (s .0, refused-by-drawing i .0 (s .1)), λ s. (s .0, refused-by-drawing i .1 (s .1)))
 
   -- 18, flat file longer than the room or than 16,777,216; at 0
-  pub refused-by-flat-file-when : {p : ℕ} → Says r (numberOf flatFileTooLong) p ↔ ((p ≡ 0) × FileTooLong t (length room))
+  pub refused-by-flat-file-when : {p : ℕ} → Says r (numberOf flatFileTooLong) p ↔ ((p ≡ 0) × FileTooLong t (length words) (length room))
   refused-by-flat-file-when = Iff·trans (refused-when flatFileTooLong) refused-by-flat-file
+
+  -- ---- request 10
+
+  -- the words are all zero afterwards, refused or not, whatever stood in them
+  pub words-zero : words′ ≡ replicate (length words) (pos 0)
+  words-zero = h .cleared
+
+  -- 25, exactly when the live bodies after some DF need more words than were lent, at the DS of the first for which they do, if nothing stops the reading before
+  pub refused-by-words-when : {p : ℕ} → Says r (numberOf tooFewWords) p ↔ TooFewLent t (length words) p
+  refused-by-words-when {p} =
+      Iff·trans (refused-when tooFewWords)
+      (λ s. refused-by-words .0 (s .1) .1, λ l. ([], refused-by-words .1 (refl, l)))
+
+  -- the answer is that with as many words as the text has bytes, or it is 25; and then the bodies do need more, at that DS and nothing earlier
+  pub as-without : WithWords t (length words) (length room) (h .outcome)
+  as-without = as-without-words (h .answers)
+
+  -- with as many words as the text has bytes 25 never occurs
+  pub never-25-when : length t ≤ length words → r .number ≡ numberOf tooFewWords → ⊥
+  never-25-when enough e = let l = refused-by-words-when .0 (e, refl) in let k = fewer-than-bytes l in omega (arith, enough, k)
 
   -- ---- demand 3
 
-  pub flattened : r .number ≡ 0 → Flattened t (length room) r left
+  pub flattened : r .number ≡ 0 → Flattened t (length words) (length room) r left
   flattened e = record {
     commands = d .commands;
     counted = d .counted;
@@ -168,9 +190,9 @@ module _ {t room left : List ℕ} {r : Answer} (h : Promised t room r left) wher
     drawn = accepted-exactly .0 answers;
     is-flat = is-flat;
     holds = holds;
-    again = λ room′ left′ r′ fits q.
+    again = λ lent lent′ room′ left′ r′ fits q.
         let same = twice h (d .is) fits q in
-        let g = holds .settled room′ left′ r′ (omega (arith, fits, k .length-is)) (subst (λ (w : List ℕ). Promised w room′ r′ left′) is-flat q) .0 in
+        let g = holds .settled lent lent′ room′ left′ r′ (omega (arith, fits, k .length-is)) (subst (λ (w : List ℕ). Promised w lent room′ r′ lent′ left′) is-flat q) .0 in
         record {
           accepted-again = (ap (λ (a : Answer). a .number) g, ap (λ (a : Answer). a .place) g);
           same-length = ap (λ (a : Answer). a .length) g ∙ sym (k .length-is);
@@ -189,8 +211,8 @@ module _ {t room left : List ℕ} {r : Answer} (h : Promised t room r left) wher
       k : SuccessHolds room r left (d .commands) (d .counted) (flat (shapesOf (d .events)))
       k = success-holds h (d .is)
 
-      answers : Answers t (length room) (accepted (d .commands) (d .counted) (d .events))
-      answers = subst (Answers t (length room)) (d .is) (h .answers)
+      answers : Answers t (length words) (length room) (accepted (d .commands) (d .counted) (d .events))
+      answers = subst (Answers t (length words) (length room)) (d .is) (h .answers)
 
       holds : Demand3 (length room) (d .counted) (shapesOf (d .events))
       holds = demand3 answers

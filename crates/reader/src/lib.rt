@@ -1,5 +1,5 @@
-// The reader (01, "What the reader takes and gives"): `flatten` answers of any text and any room. Refusals 1 and 18 stand here, 2 to 9 in reading,
-// 10 to 17 in drawing, bodies and shapes; crate answer makes the answer of each.
+// The reader (01, "What the reader takes and gives"): `flatten` answers of any text, any words lent and any room. Refusals 1 and 18 stand here, 2 to 9 in
+// reading, 10 to 17 and 25 in passing and the crates below it; crate answer makes the answer of each.
 use checking::Fault;
 use counts::Counts;
 use definition::Answer;
@@ -8,26 +8,26 @@ use shapes::Drawn;
 ghost use mathlib.Core.Path.{_≡_};
 ghost use mathlib.Core.List.{_∷_, []};
 ghost use Prim.Native.Nat.{_^_, _≤_};
+ghost use lib.ListN.{length};
 ghost use lib.Seq.{sets};
 ghost use Rattle.definition.specs.Counts.{counts};
 ghost use Rattle.definition.specs.Answer.{answer, Promised};
-ghost use Rattle.shapes.specs.Painting.{bytesOf};
-ghost use Rattle.drawing.specs.Passed.{Passed, toDraw, dry};
-ghost use Rattle.reader.specs.Screened.{Screened, Rounds};
+ghost use Rattle.passing.specs.Passed.{Passed};
+ghost use Rattle.reader.specs.Screened.{Screened, Rounds, Comes, heldLines};
 
 // How long the flat file's last line is: `E` and byte 10.
 const LAST_LINE: usize = 2;
 
 // The lines of the shapes, and at their end the last one.
-fn write_file(text: &[u8], room: &mut [u8], end: usize)
+fn write_file(text: &[u8], words: &mut [i32], room: &mut [u8], end: usize)
     requires { ⌜ Passed (now text) × (end ≤ 2 ^ 60) ⌝ }
-    ensures { λ _. ⌜ ((p : Passed (now (text .entry))) → now (room .exit) ≡ sets (sets (now (room .entry)) 0 (bytesOf dry (toDraw p))) end (69 ∷ 10 ∷ [])) ⌝ }
+    ensures { λ _. ⌜ ((p : Passed (now (text .entry))) → now (room .exit) ≡ sets (sets (now (room .entry)) 0 (heldLines (length (now (words .entry))) p)) end (69 ∷ 10 ∷ [])) ⌝ }
 {
-    drawing::draw(text, room);
+    passing::draw(text, words, room);
     pen::put_end(room, end);
 }
 
-// Refusals 1 to 17: nothing is counted.
+// Refusals 1 to 17 and 25: nothing is counted.
 fn refused(refusal: Refusal) -> Answer
     ensures { λ r. ⌜ r ≡ answer (refusal .number) (refusal .place) 0 (counts 0 0 0) 0 ⌝ }
 {
@@ -46,12 +46,18 @@ fn too_long(counted: Counts) -> Answer
 }
 
 // A text that refusals 1 to 9 let pass, with so many rounded distances. It is drawn twice, since no byte of the room may change before all is known: onto `scrap`, which tells how the
-// drawing ends and how long the flat file is, whatever its length, and then onto the room.
-fn flatten_passed(text: &[u8], scrap: &mut [u8], room: &mut [u8], rounded: usize) -> Answer
+// drawing ends and how long the flat file is, whatever its length, and then onto the room. Both times with the same words: what stands in them does not matter.
+fn flatten_passed(
+    text: &[u8],
+    words: &mut [i32],
+    scrap: &mut [u8],
+    room: &mut [u8],
+    rounded: usize,
+) -> Answer
     requires { ⌜ Rounds (now text) rounded ⌝ }
-    ensures { λ r. ⌜ Promised (now (text .entry)) (now (room .entry)) r (now (room .exit)) ⌝ }
+    ensures { λ r. ⌜ Comes (now (text .entry)) (length (now (words .entry))) (now (room .entry)) r (now (room .exit)) ⌝ }
 {
-    match drawing::draw(text, scrap) {
+    match passing::draw(text, words, scrap) {
         Drawn::Refused(refusal) => refused(refusal),
         Drawn::Done(ink) => {
             let counted = ink.counts;
@@ -63,7 +69,7 @@ fn flatten_passed(text: &[u8], scrap: &mut [u8], room: &mut [u8], rounded: usize
             if definition::MOST_BYTES < length {
                 return too_long(counted);
             }
-            write_file(text, room, end);
+            write_file(text, words, room, end);
             answer::accepted(length, counted, rounded)
         }
     }
@@ -82,16 +88,25 @@ fn first_fault(text: &[u8]) -> Fault
     reading::refusal(text)
 }
 
-// Two outcomes that this contract allows are equal, the room's bytes included: `one-answer` of definition's proofs/Right.antt. What it means in the user's
-// words stands in proofs/Demands.antt.
-pub fn flatten(text: &[u8], room: &mut [u8]) -> Answer
-    ensures { λ r. ⌜ Promised (now (text .entry)) (now (room .entry)) r (now (room .exit)) ⌝ }
+// How a text comes out. The words are left as the drawing left them.
+fn read_text(text: &[u8], words: &mut [i32], room: &mut [u8]) -> Answer
+    ensures { λ r. ⌜ Comes (now (text .entry)) (length (now (words .entry))) (now (room .entry)) r (now (room .exit)) ⌝ }
 {
     match first_fault(text) {
         Fault::Refused(refusal) => refused(refusal),
         Fault::Clear(rounded) => {
             let mut nothing: [u8; 0] = [];
-            flatten_passed(text, &mut nothing, room, rounded)
+            flatten_passed(text, words, &mut nothing, room, rounded)
         }
     }
+}
+
+// Two outcomes that this contract allows are equal, the room's bytes and the words included: `one-answer` of definition's proofs/Right.antt. What it means in
+// the user's words stands in proofs/Demands.antt.
+pub fn flatten(text: &[u8], words: &mut [i32], room: &mut [u8]) -> Answer
+    ensures { λ r. ⌜ Promised (now (text .entry)) (now (words .entry)) (now (room .entry)) r (now (words .exit)) (now (room .exit)) ⌝ }
+{
+    let answer = read_text(text, words, room);
+    library::clear(words);
+    answer
 }

@@ -14,7 +14,7 @@ use Rattle.definition.specs.Rules.{textTooLong, refuse}
 use Rattle.definition.specs.Flat.{decimal}
 use Rattle.definition.specs.Answer.{rejected, Answers, too-long}
 use Rattle.definition.specs.Listing.{Lists, over}
-use Rattle.definition.proofs.Rows.{Row, accepting, refusing, accepted, refused-at, accepted-in, refused-in, Holds, Each, all-hold, each}
+use Rattle.definition.proofs.Rows.{Row, lent, accepting, refusing, accepted, refused-at, accepted-in, refused-in, Holds, Each, all-hold, each}
 
 -- n times a text, before another
 unfoldable pub times : ℕ → String → List ℕ → List ℕ
@@ -92,6 +92,9 @@ many-symbols =
     accepting 2 (symbols 512 (bytesOf "DS512;DF;DD512;DS0;DF;E")) 0 0 1 (bytesOf "E\n")
     ∷ refusing 2 (symbols 512 (bytesOf "DD513;DS0;DF;C513;E")) 10 4506
     ∷ refusing 2 (symbols 512 (bytesOf "C513;DS0;DF;E")) 12 4500
+    -- 02, P10: 25 directly after it, at the same DS
+    ∷ lent 2 (refusing 2 (symbols 512 (bytesOf "DS0;LA;DF;E")) 10 4500)
+    ∷ lent 2 (refusing 2 (symbols 512 (bytesOf "DD512;DS0;LA;DF;E")) 25 4506)
     ∷ []
 
 pub many-symbols-hold : Each Holds many-symbols
@@ -112,8 +115,8 @@ unfolding all-hold rooms
 rooms-hold = each rooms tt
 
 -- 1: whatever the bytes of a longer text are, and for the list program those of one over 32,768
-pub text-too-long : (t : List ℕ) (room : ℕ) → length t ≡ 16777217 → Answers t room (rejected (refuse textTooLong 0) [])
-text-too-long t room h = too-long (omega (arith, h))
+pub text-too-long : (t : List ℕ) (words room : ℕ) → length t ≡ 16777217 → Answers t words room (rejected (refuse textTooLong 0) [])
+text-too-long t words room h = too-long (omega (arith, h))
 
 pub list-too-long : Lists (times 32769 ";" []) (bytesOf "refused\t1\t0\n")
 unfolding all-hold times

@@ -1,4 +1,4 @@
--- `answer_next` is safe: the two texts lie within what is lent.
+-- `answer_next` is safe: the two texts and the words lie within what is lent.
 -- Assumes nothing.
 use mathlib.Core.Path.{sym}
 use lib.Seq.{length-take-le}
@@ -51,6 +51,9 @@ stop-requires-4 c κs = search needs
 returns-3 : tie.Need-returns-3
 returns-3 c = search needs
 
+over-requires : tie.Need-over-requires
+over-requires c κs = search needs
+
 slice-aggregate-stop-5 : tie.Need-slice-aggregate-stop-5
 slice-aggregate-stop-5 c = search needs
 
@@ -59,6 +62,12 @@ stop-requires-5 c κs = search needs
 
 returns-4 : tie.Need-returns-4
 returns-4 c = search needs
+
+add-lent : tie.Need-add-lent
+add-lent c = search needs
+
+lent-requires : tie.Need-lent-requires
+lent-requires c κs = search needs
 
 slice-relend-prefix-answer-texts : tie.Need-slice-relend-prefix-answer-texts
 slice-relend-prefix-answer-texts c = search needs
@@ -71,6 +80,12 @@ slice-relend-prefix-answer-texts-2 c = search needs
 
 slice-aggregate-answer-texts-2 : tie.Need-slice-aggregate-answer-texts-2
 slice-aggregate-answer-texts-2 c = sym (length-take-le _ _ (search needs))
+
+slice-relend-prefix-answer-texts-3 : tie.Need-slice-relend-prefix-answer-texts-3
+slice-relend-prefix-answer-texts-3 c = search needs
+
+slice-aggregate-answer-texts-3 : tie.Need-slice-aggregate-answer-texts-3
+slice-aggregate-answer-texts-3 c = sym (length-take-le _ _ (search needs))
 
 answer-texts-requires : tie.Need-answer-texts-requires
 answer-texts-requires c κs = search needs
@@ -89,6 +104,9 @@ same-length-2 c = search needs
 
 same-length-3 : tie.Need-same-length-3
 same-length-3 c = search needs
+
+same-length-4 : tie.Need-same-length-4
+same-length-4 c = search needs
 
 returns-7 : tie.Need-returns-7
 returns-7 c = search needs
@@ -112,17 +130,23 @@ answer-next-spec =
     slice-aggregate-stop-4
     stop-requires-4
     returns-3
+    over-requires
     slice-aggregate-stop-5
     stop-requires-5
     returns-4
+    add-lent
+    lent-requires
     slice-relend-prefix-answer-texts
     slice-aggregate-answer-texts
     slice-relend-prefix-answer-texts-2
     slice-aggregate-answer-texts-2
+    slice-relend-prefix-answer-texts-3
+    slice-aggregate-answer-texts-3
     answer-texts-requires
     returns-5
     returns-6
     same-length
     same-length-2
     same-length-3
+    same-length-4
     returns-7)

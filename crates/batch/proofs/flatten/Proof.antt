@@ -16,20 +16,26 @@ put-answer-requires c κs = search needs
 same-length : tie.Need-same-length
 same-length c = search needs
 
+same-length-2 : tie.Need-same-length-2
+same-length-2 c = search needs
+
 returns : tie.Need-returns
 returns c = search needs
 
 slice-reshare-prefix-write : tie.Need-slice-reshare-prefix-write
-slice-reshare-prefix-write c = length-within (c .before .before .before .before .flatten .ensures)
+slice-reshare-prefix-write c = length-within (c .before .before .before .before .before .flatten .ensures)
 
 slice-aggregate-write : tie.Need-slice-aggregate-write
-slice-aggregate-write c = sym (length-take-le _ _ (length-within (c .before .before .before .before .before .flatten .ensures)))
+slice-aggregate-write c = sym (length-take-le _ _ (length-within (c .before .before .before .before .before .before .flatten .ensures)))
 
 write-requires : tie.Need-write-requires
 write-requires c κs = search needs
 
-same-length-2 : tie.Need-same-length-2
-same-length-2 c = search needs
+same-length-3 : tie.Need-same-length-3
+same-length-3 c = search needs
+
+same-length-4 : tie.Need-same-length-4
+same-length-4 c = search needs
 
 returns-2 : tie.Need-returns-2
 returns-2 c = search needs
@@ -41,9 +47,11 @@ flatten-spec =
     flatten-requires
     put-answer-requires
     same-length
+    same-length-2
     returns
     slice-reshare-prefix-write
     slice-aggregate-write
     write-requires
-    same-length-2
+    same-length-3
+    same-length-4
     returns-2)

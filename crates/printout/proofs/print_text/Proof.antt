@@ -1,7 +1,7 @@
 -- `print_text` meets its contract: a text that is too long is refused before it is read.
 -- Assumes nothing.
-use borrow.Author.Needs.{needs}
 use Rattle.printout.proofs.Printing.{over-printed}
+use borrow.Author.Needs.{needs}
 use Rattle.printout.proofs.print_text.Statement.{statement}
 use Rattle.printout.proofs.print_text.Tie as tie
 
@@ -14,11 +14,17 @@ same-length c = search needs
 returns : tie.Need-returns
 returns c = over-printed (c .before .before .before .before .if1 .taken) (c .before .before .print-refusal .ensures)
 
+body-words-requires : tie.Need-body-words-requires
+body-words-requires c κs = search needs
+
 flat-room-requires : tie.Need-flat-room-requires
 flat-room-requires c κs = search needs
 
 slice-aggregate-print-flat : tie.Need-slice-aggregate-print-flat
 slice-aggregate-print-flat c = search needs
+
+slice-aggregate-print-flat-2 : tie.Need-slice-aggregate-print-flat-2
+slice-aggregate-print-flat-2 c = search needs
 
 print-flat-requires : tie.Need-print-flat-requires
 print-flat-requires c κs = search needs
@@ -36,8 +42,10 @@ print-text-spec =
     print-refusal-requires
     same-length
     returns
+    body-words-requires
     flat-room-requires
     slice-aggregate-print-flat
+    slice-aggregate-print-flat-2
     print-flat-requires
     same-length-2
     returns-2)

@@ -1,47 +1,25 @@
--- `flatten` meets its contract: refusals 1 to 9 as `first_fault` finds them, and else as `flatten_passed` answers.
+-- `flatten` meets its contract: the text comes out as `read_text` says, and then all words are cleared.
 -- Assumes nothing.
-use Rattle.reader.proofs.Promises.{fault-told, passes}
+use Rattle.reader.proofs.Promises.{cleared-promised}
 use borrow.Author.Needs.{needs}
 use Rattle.reader.proofs.flatten.Statement.{statement}
 use Rattle.reader.proofs.flatten.Tie as tie
 
-first-fault-requires : tie.Need-first-fault-requires
-first-fault-requires c κs = search needs
+read-text-requires : tie.Need-read-text-requires
+read-text-requires c κs = search needs
 
-enum-known-refusal : tie.Need-enum-known-refusal
-enum-known-refusal c = search needs
-
-refused-requires : tie.Need-refused-requires
-refused-requires c κs = search needs
-
-enum-known-rounded : tie.Need-enum-known-rounded
-enum-known-rounded c = search needs
-
-slice-aggregate-flatten-passed : tie.Need-slice-aggregate-flatten-passed
-slice-aggregate-flatten-passed c = search needs
-
-flatten-passed-requires : tie.Need-flatten-passed-requires
-flatten-passed-requires c κs = passes (c .before .before .before .before .before .first-fault .ensures) (c .before .before .before .rounded .given .1)
-
-returns : tie.Need-returns
-returns c = fault-told (c .before .before .before .before .first-fault .ensures) (c .before .before .refusal .given .1) (c .refused .ensures)
+clear-requires : tie.Need-clear-requires
+clear-requires c κs = search needs
 
 same-length : tie.Need-same-length
 same-length c = search needs
 
-returns-2 : tie.Need-returns-2
-returns-2 c = search needs
+same-length-2 : tie.Need-same-length-2
+same-length-2 c = search needs
+
+returns : tie.Need-returns
+returns c = cleared-promised (c .before .before .before .before .before .before .read-text .ensures) (c .before .before .before .before .before .before .read-text .kept .1 .0) (c .before .clear .ensures)
 
 pub flatten-spec : {M : Type 1} → statement M
 flatten-spec =
-    tie.close
-    (tie.spec
-    first-fault-requires
-    enum-known-refusal
-    refused-requires
-    enum-known-rounded
-    slice-aggregate-flatten-passed
-    flatten-passed-requires
-    returns
-    same-length
-    returns-2)
+    tie.close (tie.spec read-text-requires clear-requires same-length same-length-2 returns)

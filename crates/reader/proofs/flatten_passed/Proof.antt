@@ -20,7 +20,7 @@ enum-known-ink : tie.Need-enum-known-ink
 enum-known-ink c = search needs
 
 add-length : tie.Need-add-length
-add-length c = omega (arith, far-below (c .before .before .before .before .before .before .before .before .before .before .before .pre .passed) (c .before .before .before .before .before .before .draw .ensures (c .before .before .before .before .before .before .before .before .before .before .before .pre .passed)) (c .before .before .ink .given .1))
+add-length c = omega (arith, far-below _ (c .before .before .before .before .before .before .before .before .before .before .before .before .before .pre .passed) (c .before .before .before .before .before .before .before .draw .ensures (c .before .before .before .before .before .before .before .before .before .before .before .before .before .pre .passed)) (c .before .before .ink .given .1))
 
 too-long-requires : tie.Need-too-long-requires
 too-long-requires c κs = search needs
@@ -28,17 +28,23 @@ too-long-requires c κs = search needs
 same-length : tie.Need-same-length
 same-length c = search needs
 
+same-length-2 : tie.Need-same-length-2
+same-length-2 c = search needs
+
 returns : tie.Need-returns
-returns c = over-told (c .before .before .before .before .before .before .before .before .before .before .before .before .before .pre .passed) (c .before .before .before .before .before .before .before .before .draw .ensures (c .before .before .before .before .before .before .before .before .before .before .before .before .before .pre .passed)) (c .before .before .before .before .ink .given .1) (inl (c .before .if1 .taken)) (c .too-long .ensures)
+returns c = over-told _ (c .before .before .before .before .before .before .before .before .before .before .before .before .before .before .before .pre .passed) (c .before .before .before .before .before .before .before .before .before .draw .ensures (c .before .before .before .before .before .before .before .before .before .before .before .before .before .before .before .pre .passed)) (c .before .before .before .before .ink .given .1) (inl (c .before .if1 .taken)) (c .too-long .ensures)
 
 too-long-requires-2 : tie.Need-too-long-requires-2
 too-long-requires-2 c κs = search needs
 
-same-length-2 : tie.Need-same-length-2
-same-length-2 c = search needs
+same-length-3 : tie.Need-same-length-3
+same-length-3 c = search needs
+
+same-length-4 : tie.Need-same-length-4
+same-length-4 c = search needs
 
 returns-2 : tie.Need-returns-2
-returns-2 c = over-told (c .before .before .before .before .before .before .before .before .before .before .before .before .before .before .pre .passed) (c .before .before .before .before .before .before .before .before .before .draw .ensures (c .before .before .before .before .before .before .before .before .before .before .before .before .before .before .pre .passed)) (c .before .before .before .before .before .ink .given .1) (inr (c .before .if2 .taken)) (c .too-long2 .ensures)
+returns-2 c = over-told _ (c .before .before .before .before .before .before .before .before .before .before .before .before .before .before .before .before .pre .passed) (c .before .before .before .before .before .before .before .before .before .before .draw .ensures (c .before .before .before .before .before .before .before .before .before .before .before .before .before .before .before .before .pre .passed)) (c .before .before .before .before .before .ink .given .1) (inr (c .before .if2 .taken)) (c .too-long2 .ensures)
 
 write-file-requires : tie.Need-write-file-requires
 write-file-requires c κs = search needs
@@ -46,20 +52,26 @@ write-file-requires c κs = search needs
 accepted-requires : tie.Need-accepted-requires
 accepted-requires c κs = search needs
 
-returns-4 : tie.Need-returns-4
-returns-4 c = written-told (c .before .before .before .before .before .before .before .before .before .before .before .before .before .before .before .before .before .before .pre .passed) (c .before .before .before .before .before .before .before .before .before .before .before .before .before .draw .ensures (c .before .before .before .before .before .before .before .before .before .before .before .before .before .before .before .before .before .before .pre .passed)) (c .before .before .before .before .before .before .before .before .before .ink .given .1) (c .before .before .before .before .before .before .before .before .before .before .before .before .before .before .before .before .before .before .pre .is) (omega (arith, c .before .before .before .before .before .before .if1 .left)) (omega (arith, c .before .before .before .before .before .if2 .left)) (c .before .before .before .write-file .ensures (c .before .before .before .before .before .before .before .before .before .before .before .before .before .before .before .before .before .before .pre .passed)) (c .accepted .ensures)
-
-same-length-3 : tie.Need-same-length-3
-same-length-3 c = search needs
-
-returns-3 : tie.Need-returns-3
-returns-3 c = stopped-told (c .before .before .before .before .before .before .before .before .before .before .before .pre .passed) (c .before .before .before .before .before .before .draw .ensures (c .before .before .before .before .before .before .before .before .before .before .before .pre .passed)) (c .before .before .refusal .given .1) (c .refused .ensures)
-
-same-length-4 : tie.Need-same-length-4
-same-length-4 c = search needs
-
 same-length-5 : tie.Need-same-length-5
 same-length-5 c = search needs
+
+same-length-6 : tie.Need-same-length-6
+same-length-6 c = search needs
+
+returns-3 : tie.Need-returns-3
+returns-3 c = stopped-told _ (c .before .before .before .before .before .before .before .before .before .before .before .before .before .pre .passed) (c .before .before .before .before .before .before .before .draw .ensures (c .before .before .before .before .before .before .before .before .before .before .before .before .before .pre .passed)) (c .before .before .refusal .given .1) (c .refused .ensures)
+
+same-length-7 : tie.Need-same-length-7
+same-length-7 c = search needs
+
+same-length-8 : tie.Need-same-length-8
+same-length-8 c = search needs
+
+same-length-9 : tie.Need-same-length-9
+same-length-9 c = search needs
+
+returns-4 : tie.Need-returns-4
+returns-4 c = written-told _ (c .before .before .before .before .before .before .before .before .before .before .before .before .before .before .before .before .before .before .before .before .before .before .pre .passed) (c .before .before .before .before .before .before .before .before .before .before .before .before .before .before .before .before .draw .ensures (c .before .before .before .before .before .before .before .before .before .before .before .before .before .before .before .before .before .before .before .before .before .before .pre .passed)) (c .before .before .before .before .before .before .before .before .before .before .before .ink .given .1) (c .before .before .before .before .before .before .before .before .before .before .before .before .before .before .before .before .draw .kept .1 .0) (c .before .before .before .before .before .before .before .before .before .before .before .before .before .before .before .before .before .before .before .before .before .before .pre .is) (omega (arith, c .before .before .before .before .before .before .before .before .if1 .left)) (omega (arith, c .before .before .before .before .before .before .before .if2 .left)) (c .before .before .before .before .write-file .ensures (c .before .before .before .before .before .before .before .before .before .before .before .before .before .before .before .before .before .before .before .before .before .before .pre .passed)) (c .accepted .ensures)
 
 pub flatten-passed-spec : {M : Type 1} → statement M
 flatten-passed-spec =
@@ -72,14 +84,18 @@ flatten-passed-spec =
     add-length
     too-long-requires
     same-length
+    same-length-2
     returns
     too-long-requires-2
-    same-length-2
+    same-length-3
+    same-length-4
     returns-2
     write-file-requires
     accepted-requires
-    same-length-3
-    returns-3
-    same-length-4
     same-length-5
+    same-length-6
+    returns-3
+    same-length-7
+    same-length-8
+    same-length-9
     returns-4)
