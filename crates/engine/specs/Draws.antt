@@ -16,11 +16,10 @@ use Rattle.moves.specs.Moves.{mostValues}
 use Rattle.shapes.specs.declared.Ink.{Ink}
 use Rattle.shapes.specs.declared.Drawn.{Drawn}
 use Rattle.shapes.specs.Painting.{Reached, Painted}
-use Rattle.library.specs.Memory.{stepsIn, tableOf}
+use Rattle.library.specs.Memory.{stepsIn, tableOf, mostWords}
 use Rattle.library.specs.Sound.{Sound, Stocked}
 use Rattle.library.specs.Rows.{Sorted}
 use Rattle.opening.specs.declared.Call.{Call}
-use Rattle.engine.specs.Heads.{mostWords}
 
 -- the open calls, of which the run has the symbols
 abbrev pub OpenAre : List ℕ → ℕ → Chain → Type 0

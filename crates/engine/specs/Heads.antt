@@ -6,10 +6,6 @@ use lib.IntN.{ℤ, pos, natAbs}
 use lib.ListN.{getD}
 use Rattle.engine.specs.declared.Head.{Head}
 
--- no run is longer: a text has at most so many bytes, and no command has more words than bytes
-abbrev pub mostWords : ℕ
-mostWords = 16777216
-
 abbrev pub headIn : List ℤ → ℕ → Head
 headIn b at = record {
   kind = natAbs (getD b at (pos 0)) % 256;

@@ -10,7 +10,8 @@ ghost use Rattle.definition.specs.Limits.{deepest};
 ghost use Rattle.definition.specs.Table.{Step};
 ghost use Rattle.turns.specs.Nets.{Near};
 ghost use Rattle.names.specs.Names.{nameOf};
-ghost use Rattle.engine.specs.Heads.{headIn, mostWords};
+ghost use Rattle.library.specs.Memory.{mostWords};
+ghost use Rattle.engine.specs.Heads.{headIn};
 ghost use Rattle.engine.specs.Draws.{Ready, BodyAt, Draws, CallDraws};
 ghost use Rattle.engine.specs.Outer.{Says, OuterDraws};
 

@@ -24,7 +24,7 @@ use Rattle.counts.specs.declared.Counts.{Counts}
 use Rattle.counts.specs.Counting.{tally, CountsRedefinition}
 use Rattle.library.specs.declared.Begun.{Begun}
 use Rattle.library.specs.declared.Begun.the-variants.{Replaced, Added, Full}
-use Rattle.library.specs.Memory.{tableOf, symbolAt, neededAt, neededIn}
+use Rattle.library.specs.Memory.{tableOf, symbolAt, neededAt, neededIn, mostWords}
 use Rattle.library.specs.Rows.{bare, before, Entry}
 use Rattle.library.specs.Rows.{Begins as BeginsRow}
 use Rattle.library.specs.Storing.{layerNow}
@@ -37,7 +37,7 @@ use Rattle.keeping.specs.declared.Body.{Body}
 use Rattle.keeping.specs.declared.Body.the-variants.{Whole, Lacking}
 use Rattle.keeping.specs.declared.Defined.{Defined}
 use Rattle.keeping.specs.declared.Defined.the-variants.{Taken, Overfull, Short}
-use Rattle.keeping.specs.Growth.{mostWords, withBody, Adds, Within, Ready, KeepsWhole, TooFew, KeepsBodyBy, KeepsBody}
+use Rattle.keeping.specs.Growth.{withBody, Adds, Within, Ready, KeepsWhole, TooFew, KeepsBodyBy, KeepsBody}
 use Rattle.keeping.specs.Keeping.{Kept, Open, definitionOf, Begins, Defines, DefinesAt, Filling, FillsBy, FillsAt}
 use Rattle.keeping.proofs.Growing.{enter-more, enter-long}
 

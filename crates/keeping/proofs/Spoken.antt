@@ -82,7 +82,7 @@ some-kind l e = go (eqb l 66) (eqb l 80) (eqb l 82) (eqb l 87) refl refl refl re
     go false false false false f g h i e = absurd (let y : _≡_ {A = ℕ} 0 1 = cc in omega arith)
 
 -- what is silent is no step
-silent-no : (l : ℕ) → Silent l → steps l ≡ true → ⊥
+pub silent-no : (l : ℕ) → Silent l → steps l ≡ true → ⊥
 silent-no l s e = go (eqb l letterL) (eqb l letterC) (shapely l) refl refl refl e
   where
     go : (x y z : Bool) → eqb l letterL ≡ x → eqb l letterC ≡ y → shapely l ≡ z → (x || (y || z)) ≡ true → ⊥

@@ -20,7 +20,7 @@ use Rattle.pieces.specs.declared.Spot.{Spot}
 use Rattle.rules.specs.Letters.{letterC, letterL}
 use Rattle.rules.specs.Rules.{shapely}
 use Rattle.rules.specs.Written.{written}
-use Rattle.library.specs.Memory.{bodyAt, symbolAt, lengthAt, neededAt, most}
+use Rattle.library.specs.Memory.{bodyAt, symbolAt, lengthAt, neededAt, most, mostWords}
 use Rattle.library.specs.Sound.{stepWords}
 use Rattle.library.specs.Rows.{bare}
 use Rattle.library.specs.Storing.{extended, layerWords, Relayered, layerNow, Growing}
@@ -30,10 +30,6 @@ use Rattle.keeping.specs.declared.Stored.{Stored}
 use Rattle.keeping.specs.declared.Stored.the-variants.{More, Last, Tight}
 use Rattle.keeping.specs.declared.Body.{Body}
 use Rattle.keeping.specs.declared.Body.the-variants.{Whole, Lacking}
-
--- the most words of a run: as many as a text has bytes
-abbrev pub mostWords : ℕ
-mostWords = 16777216
 
 -- the letters of the commands that are steps of a body: L, C, and those of the shapes
 abbrev pub steps : ℕ → Bool

@@ -21,13 +21,14 @@ use Rattle.rules.specs.Written.{written}
 use Rattle.counts.specs.declared.Counts.{Counts}
 use Rattle.counts.specs.Counting.{tally}
 use Rattle.library.specs.Memory.{bodyAt, symbolAt, neededAt}
+pub use Rattle.library.specs.Memory.{mostWords}
 use Rattle.library.specs.Sound.{Stocked}
 use Rattle.library.specs.Moving.{Laid}
 use Rattle.library.specs.Rows.{Sorted, bare}
 use Rattle.library.specs.Storing.{Growing}
 use Rattle.library.specs.Holds.{Holds}
 use Rattle.keeping.specs.Voices.{Told}
-pub use Rattle.keeping.specs.Growth.{mostWords, Passes}
+pub use Rattle.keeping.specs.Growth.{Passes}
 use Rattle.keeping.specs.declared.Start.{Start}
 use Rattle.keeping.specs.declared.Stock.{Stock}
 use Rattle.keeping.specs.declared.Defined.{Defined}

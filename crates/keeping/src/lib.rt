@@ -2,7 +2,7 @@
 // Where a command does not fit, the live bodies are moved together and it is decoded again; where it still does not fit, more words are needed than
 // were lent (refusal 25).
 ghost use mathlib.Core.Path.{_≡_};
-ghost use Prim.Native.Nat.{_+_, _≤_};
+ghost use Prim.Native.Nat.{ℕ, _+_, _≤_};
 ghost use mathlib.Core.Bool.{false, _&&_};
 ghost use lib.Dec.{eqb};
 ghost use lib.ListN.{length};
@@ -105,7 +105,6 @@ fn keep_command(
     next: &[u16; grammar::tables::ENTRY_COUNT],
     rows: &mut [usize; library::ROW_NUMBERS],
     bodies: &mut [i32],
-    live: usize,
     row: usize,
     used: usize,
     layered: bool,
@@ -115,8 +114,8 @@ fn keep_command(
 ) -> Stored
     requires { ⌜ KindsLent (now kinds) × NextLent (now next) ⌝ }
     requires { ⌜ Fit (now text) from × (a ≤ tooLarge) × (1 ≤ b) ⌝ }
-    requires { ⌜ Ready (now text) from a b (now rows) (now bodies) live row used layered ⌝ }
-    ensures { λ r. ⌜ KeepsCommand (now (text .entry)) from a b (now (rows .entry)) (now (bodies .entry)) live row used layered r (now (rows .exit)) (now (bodies .exit)) ⌝ }
+    requires { ⌜ ((live : ℕ) × Ready (now text) from a b (now rows) (now bodies) live row used layered) ⌝ }
+    ensures { λ r. ⌜ ((live : ℕ) → Ready (now (text .entry)) from a b (now (rows .entry)) (now (bodies .entry)) live row used layered → KeepsCommand (now (text .entry)) from a b (now (rows .entry)) (now (bodies .entry)) live row used layered r (now (rows .exit)) (now (bodies .exit))) ⌝ }
 {
     match commands::read_command(text, kinds, next, &mut bodies[used..], from, a, b) {
         commands::Read::Nothing => Stored::Last(from),
@@ -168,7 +167,6 @@ fn keep_body(
             next,
             rows,
             bodies,
-            live,
             row,
             used,
             layered,

@@ -70,6 +70,10 @@ sink-on b from to k b′ s h l = record {
 pub sunk : (b : List ℤ) (from to k n : ℕ) (b′ : List ℤ) → Sinking b from to k b′ → k ≡ n → Moved b from to n b′
 sunk b from to k n b′ s e = subst (λ (x : ℕ). Moved b from to x b′) e (record { size = s .size; here = s .here; below = s .below; above = s .above })
 
+-- words that stand where they are to go
+pub stays : (b : List ℤ) (from to n : ℕ) → from ≡ to → Moved b from to n b
+stays b from to n e = record { size = refl; here = λ k l. ap (λ (x : ℕ). getD b (x + k) (pos 0)) (sym e); below = λ k l. refl; above = λ k l. refl }
+
 pub back : (z : ℤ) → mag z < 2147483648 → toZ w32 (ofZ w32 z) ≡ z
 back z h = toZ-ofZ {w = w32} {z = z} (record { sfits = h })
 

@@ -4,3 +4,4 @@ pub mod Moving
 pub mod Rows
 pub mod Storing
 pub mod Holds
+pub mod Clearing

@@ -7,13 +7,17 @@ use Prim.Native.Nat.{ℕ, zero, suc, _+_, _-_, _*_, _/_, _%_}
 use lib.Dec.{eqb}
 use lib.IntN.{ℤ, pos, natAbs}
 use lib.ListN.{length, take, drop, getD}
-use Rattle.definition.specs.Limits.{mostDefinitions}
+use Rattle.definition.specs.Limits.{mostDefinitions, mostBytes}
 use Rattle.definition.specs.Words.{if_then_else_, Placed, at, Point, point}
 use Rattle.definition.specs.Commands.{Kind, box, flash, wire, polygon, Shape, shapeOf, Turn, translate, mirrorX, mirrorY, rotate}
 use Rattle.definition.specs.Flat.{letterOf}
 use Rattle.definition.specs.Table.{Step, shape, instance, setting, Definition, Table}
 use Rattle.names.specs.Names.{nameOf}
 use Rattle.moves.specs.Moves.{sizeCount, directionCount}
+
+-- no run is longer: a text has at most so many bytes, and no command has more words than bytes
+abbrev pub mostWords : ℕ
+mostWords = mostBytes
 
 -- so many words of a run, from a place on
 unfoldable pub wordsAt : List ℤ → ℕ → ℕ → List ℤ

@@ -9,6 +9,7 @@ ghost use mathlib.Core.Bool.{_&&_};
 ghost use Rattle.library.specs.Memory.{rowNumbers, most, symbolAt, startAt, lengthAt, neededAt, neededIn};
 ghost use Rattle.library.specs.Rows.{Sorted, Nearest, Parted, Finds, Forgets, Shifted, withRow, Begins};
 ghost use Rattle.library.specs.Storing.{startFor, extended, layerWords, Relayered, Storable, Stores};
+ghost use Rattle.library.specs.Clearing.{Cleared};
 ghost use Rattle.library.specs.Moving.{Laid, Moved, Lowest, Compacted};
 
 // The most live definitions that there can be, and the numbers of their rows.
@@ -25,6 +26,9 @@ const START: usize = 2;
 const LENGTH: usize = 3;
 
 const NEEDED: usize = 4;
+// How many words are cleared at a time. A compiler makes one `memset` of a loop over all, and from 2 KiB on a C library has that done by `rep stosb` where
+// the processor says that it is quick: an emulator says so too, and then takes ten times as long, byte by byte (docs/SPEED.md).
+const PART: usize = 256;
 // The words of an L command.
 pub const LAYER_WORDS: usize = 3;
 
@@ -105,11 +109,15 @@ fn word_at(bodies: &[i32], i: usize) -> i32
     bodies[i]
 }
 
-// Moves words down, from the first on, so that none is lost where the parts overlap.
+// Moves words down, from the first on, so that none is lost where the parts overlap. What stands there already is left alone: the bodies before the first
+// hole cost nothing, and a hole at the end is used again without a move.
 fn move_down(bodies: &mut [i32], from: usize, to: usize, n: usize)
     requires { ⌜ (to ≤ from) × (from + n ≤ length (now bodies)) ⌝ }
     ensures { λ _. ⌜ Moved (now (bodies .entry)) from to n (now (bodies .exit)) ⌝ }
 {
+    if from == to {
+        return;
+    }
     let mut k = 0;
     while k < n {
         let w = word_at(bodies, from + k);
@@ -233,14 +241,37 @@ pub fn needed_between(rows: &[usize; ROW_NUMBERS], left: usize, live: usize) -> 
     sum
 }
 
-// Every word zero.
+// Where a part of the words ends that begins at `from`.
+fn part_end(from: usize, n: usize) -> usize
+    requires { ⌜ from < n ⌝ }
+    ensures { λ r. ⌜ (from < r) × (r ≤ n) ⌝ }
+{
+    if n - from < PART {
+        return n;
+    }
+    from + PART
+}
+
+fn clear_part(bodies: &mut [i32], from: usize, end: usize)
+    requires { ⌜ (from ≤ end) × (end ≤ length (now bodies)) × Cleared (now bodies) (now bodies) from ⌝ }
+    ensures { λ _. ⌜ Cleared (now (bodies .entry)) (now (bodies .exit)) end ⌝ }
+{
+    let mut i = from;
+    while i < end {
+        bodies[i] = 0;
+        i += 1;
+    }
+}
+
+// Every word zero, a part at a time.
 pub fn clear(bodies: &mut [i32])
     ensures { λ _. ⌜ now (bodies .exit) ≡ replicate (length (now (bodies .entry))) (pos 0) ⌝ }
 {
     let mut i = 0;
     while i < bodies.len() {
-        bodies[i] = 0;
-        i += 1;
+        let end = part_end(i, bodies.len());
+        clear_part(bodies, i, end);
+        i = end;
     }
 }
 

@@ -5,7 +5,6 @@ use mathlib.Core.Bool.{Bool, true, false, _||_}
 use mathlib.Core.List.{List, _∷_, _++_, map}
 use Prim.Native.Nat.{ℕ, _+_, _≤_}
 use native.Mathlib.Omega.{arith}
-use borrow.Author.Tests.{eqb-true}
 use lib.Dec.{eqb}
 use lib.IntN.{ℤ, natAbs}
 use lib.ListN.{length, drop, length-map}
@@ -21,6 +20,8 @@ use Rattle.rules.specs.Letters.{letterC, letterD, letterL}
 use Rattle.rules.specs.Written.{Written}
 use Rattle.rules.specs.Rules.{shapely}
 use Rattle.keeping.specs.Voices.{Silent, Voice, a-shape, a-call, a-layer, a-start, a-finish, a-delete, a-nothing}
+use Rattle.keeping.specs.Growth.{steps}
+use Rattle.keeping.proofs.Spoken.{silent-no}
 use Rattle.engine.specs.Outer.{Says, a-shape, a-call}
 use Rattle.passing.specs.Passed.{outputs}
 
@@ -39,18 +40,13 @@ pub record Idle (σ : Standing) (d : Command) (p : ℕ) (ds : List (Placed Comma
 false-true : _≡_ {A = Bool} false true → ⊥
 false-true z = let y : _≡_ {A = ℕ} 0 1 = cc in omega arith
 
--- a letter that is none of these is no call's and no shape's
-silent-no : (l : ℕ) → Silent l → outputs l ≡ true → ⊥
-unfolding shapely letterOf
-silent-no l s e = go (eqb l letterC) (eqb l 66) (eqb l 80) (eqb l 82) (eqb l 87) refl refl refl refl refl e
+-- what is output is a step, so what is silent is not output
+output-steps : (l : ℕ) → outputs l ≡ true → steps l ≡ true
+output-steps l e = go (eqb l letterL)
   where
-    go : (c b p r w : Bool) → eqb l letterC ≡ c → eqb l 66 ≡ b → eqb l 80 ≡ p → eqb l 82 ≡ r → eqb l 87 ≡ w → (c || (b || (p || (r || w)))) ≡ true → ⊥
-    go true b p r w q f g h i e = s .no-call (eqb-true l letterC q)
-    go false true p r w q f g h i e = s .no-shape box (eqb-true l 66 f)
-    go false false true r w q f g h i e = s .no-shape polygon (eqb-true l 80 g)
-    go false false false true w q f g h i e = s .no-shape flash (eqb-true l 82 h)
-    go false false false false true q f g h i e = s .no-shape wire (eqb-true l 87 i)
-    go false false false false false q f g h i e = false-true e
+    go : (x : Bool) → (x || (eqb l letterC || shapely l)) ≡ true
+    go true = refl
+    go false = e
 
 kind-outputs : (k : Kind) → outputs (letterOf k) ≡ true
 unfolding shapely letterOf
@@ -90,7 +86,7 @@ module _ {σ : Standing} {c : Written} {l : ℕ} {vs : List ℤ} (outer : σ .in
       few = let z = length-map ts (scaledTurn σ) in omega (arith, m, z);
     });
   }
-  is-output (a-nothing s) e f g h = absurd (silent-no l s e)
+  is-output (a-nothing s) e f g h = absurd (silent-no l s (output-steps l e))
   is-output (a-layer q w n) e f g h = absurd (f q)
   is-output (a-delete q v i) e f g h = absurd (g q)
   is-output (a-start q v i m s k j) e f g h = absurd (h q)

@@ -37,7 +37,7 @@ same-length : tie.Need-same-length
 same-length c = search needs
 
 returns : tie.Need-returns
-returns c = answers-last (c .before .before .before .before .before .before .before .before .pre .1 .1) (c .before .before .before .before .before .before .before .before .pre .1 .0 .0) (c .before .before .before .before .before .read-command .result) _ (c .before .before .before .before .before .read-command .ensures) (c .before .before .kind .given .1) (c .if1 .taken)
+returns c = λ live g. answers-last g (c .before .before .before .before .before .before .before .before .pre .1 .0 .0) (c .before .before .before .before .before .read-command .result) _ (c .before .before .before .before .before .read-command .ensures) (c .before .before .kind .given .1) (c .if1 .taken)
 
 is-step-requires : tie.Need-is-step-requires
 is-step-requires c κs = search needs
@@ -49,7 +49,7 @@ same-length-2 : tie.Need-same-length-2
 same-length-2 c = search needs
 
 returns-2 : tie.Need-returns-2
-returns-2 c = answers-tight (c .before .before .before .before .before .before .before .before .before .before .before .pre .1 .1) (c .before .before .before .before .before .before .before .before .before .before .before .pre .1 .0 .0) (c .before .before .before .before .before .before .before .before .read-command .result) _ (c .before .before .before .before .before .before .before .before .read-command .ensures) (c .before .before .before .before .before .kind .given .1) (c .before .before .before .if1 .left) (c .before .before .is-step .ensures) (c .before .if2 .taken) (c .if3 .taken)
+returns-2 c = λ live g. answers-tight g (c .before .before .before .before .before .before .before .before .before .before .before .pre .1 .0 .0) (c .before .before .before .before .before .before .before .before .read-command .result) _ (c .before .before .before .before .before .before .before .before .read-command .ensures) (c .before .before .before .before .before .kind .given .1) (c .before .before .before .if1 .left) (c .before .before .is-step .ensures) (c .before .if2 .taken) (c .if3 .taken)
 
 is-layer-requires : tie.Need-is-layer-requires
 is-layer-requires c κs = search needs
@@ -58,25 +58,25 @@ both-requires : tie.Need-both-requires
 both-requires c κs = search needs
 
 store-requires : tie.Need-store-requires
-store-requires c κs = answers-storable (c .before .before .before .before .before .before .before .before .before .before .before .before .before .before .before .pre .1 .1) (c .before .before .before .before .before .before .before .before .before .before .before .before .before .before .before .pre .1 .0 .0) (c .before .before .before .before .before .before .before .before .before .before .before .before .read-command .result) _ (c .before .before .before .before .before .before .before .before .before .before .before .before .read-command .ensures) (c .before .before .before .before .before .before .before .before .before .kind .given .1) (c .before .before .before .before .before .before .before .if1 .left) (c .before .before .before .before .before .before .is-step .ensures) (c .before .before .before .before .before .if2 .taken) (c .before .before .before .before .if3 .left) (c .before .before .before .is-layer .ensures) (c .before .before .both .ensures)
+store-requires c κs = answers-storable (c .before .before .before .before .before .before .before .before .before .before .before .before .before .before .before .pre .1 .1 .1) (c .before .before .before .before .before .before .before .before .before .before .before .before .before .before .before .pre .1 .0 .0) (c .before .before .before .before .before .before .before .before .before .before .before .before .read-command .result) _ (c .before .before .before .before .before .before .before .before .before .before .before .before .read-command .ensures) (c .before .before .before .before .before .before .before .before .before .kind .given .1) (c .before .before .before .before .before .before .before .if1 .left) (c .before .before .before .before .before .before .is-step .ensures) (c .before .before .before .before .before .if2 .taken) (c .before .before .before .before .if3 .left) (c .before .before .before .is-layer .ensures) (c .before .before .both .ensures)
 
 same-length-3 : tie.Need-same-length-3
 same-length-3 c = search needs
 
 returns-3 : tie.Need-returns-3
-returns-3 c = answers-stored (c .before .before .before .before .before .before .before .before .before .before .before .before .before .before .before .before .before .pre .1 .1) (c .before .before .before .before .before .before .before .before .before .before .before .before .before .before .before .before .before .pre .1 .0 .0) (c .before .before .before .before .before .before .before .before .before .before .before .before .before .before .read-command .result) _ (c .before .before .before .before .before .before .before .before .before .before .before .before .before .before .read-command .ensures) (c .before .before .before .before .before .before .before .before .before .before .before .kind .given .1) (c .before .before .before .before .before .before .before .before .before .if1 .left) (c .before .before .before .before .before .before .before .before .is-step .ensures) (c .before .before .before .before .before .before .before .if2 .taken) (c .before .before .before .before .before .before .if3 .left) (c .before .before .before .before .before .is-layer .ensures) (c .before .before .before .before .both .ensures) (c .before .store .ensures)
+returns-3 c = λ live g. answers-stored g (c .before .before .before .before .before .before .before .before .before .before .before .before .before .before .before .before .before .pre .1 .0 .0) (c .before .before .before .before .before .before .before .before .before .before .before .before .before .before .read-command .result) _ (c .before .before .before .before .before .before .before .before .before .before .before .before .before .before .read-command .ensures) (c .before .before .before .before .before .before .before .before .before .before .before .kind .given .1) (c .before .before .before .before .before .before .before .before .before .if1 .left) (c .before .before .before .before .before .before .before .before .is-step .ensures) (c .before .before .before .before .before .before .before .if2 .taken) (c .before .before .before .before .before .before .if3 .left) (c .before .before .before .before .before .is-layer .ensures) (c .before .before .before .before .both .ensures) (c .before .store .ensures)
 
 same-length-4 : tie.Need-same-length-4
 same-length-4 c = search needs
 
 returns-4 : tie.Need-returns-4
-returns-4 c = answers-none (c .before .before .before .before .before .before .pre .1 .1) (c .before .before .before .before .before .before .pre .1 .0 .0) (c .before .before .before .read-command .result) _ (c .before .before .before .read-command .ensures) (c .enum-told .given .1)
+returns-4 c = λ live g. answers-none g (c .before .before .before .before .before .before .pre .1 .0 .0) (c .before .before .before .read-command .result) _ (c .before .before .before .read-command .ensures) (c .enum-told .given .1)
 
 same-length-5 : tie.Need-same-length-5
 same-length-5 c = search needs
 
 returns-5 : tie.Need-returns-5
-returns-5 c = answers-by (c .before .before .before .before .before .before .before .before .before .before .pre .1 .1) (c .before .before .before .before .before .before .before .before .before .before .pre .1 .0 .0) (c .before .before .before .before .before .before .before .read-command .result) _ (c .before .before .before .before .before .before .before .read-command .ensures) (c .before .before .before .before .kind .given .1) (c .before .before .if1 .left) (c .before .is-step .ensures) (c .if2 .left)
+returns-5 c = λ live g. answers-by g (c .before .before .before .before .before .before .before .before .before .before .pre .1 .0 .0) (c .before .before .before .before .before .before .before .read-command .result) _ (c .before .before .before .before .before .before .before .read-command .ensures) (c .before .before .before .before .kind .given .1) (c .before .before .if1 .left) (c .before .is-step .ensures) (c .if2 .left)
 
 pub keep-command-spec : {M : Type 1} → statement M
 keep-command-spec =

@@ -1,17 +1,19 @@
--- `clear` meets its contract: all words passed are zero.
+-- `clear` meets its contract, part by part.
 -- Assumes nothing.
-use Rattle.library.proofs.Clearing.{Clearing, clear-start, clear-on, cleared}
+use Rattle.library.proofs.Clearing.{clear-start, clear-part, clear-again, cleared}
+use Rattle.library.specs.Clearing.{Cleared}
 use lib.ListN.{length}
 use Prim.Native.Nat.{_-_}
-use borrow.Author.Needs.{needs}
 use native.Mathlib.Omega.{arith}
 use Rattle.library.proofs.clear.Statement.{statement}
 use Rattle.library.proofs.clear.Tie as tie
 use Rattle.library.proofs.clear.Reads as reads
 use Rattle.library.proofs.clear.Lts as lts
+use Rattle.library.proofs.clear_part.Reads as clear-part-reads
+use Rattle.library.proofs.part_end.Reads as part-end-reads
 
 abbrev Inv-loop : tie.InvT-loop
-Inv-loop bodies₀ i₀ bodies i = Clearing bodies₀ bodies i
+Inv-loop bodies₀ i₀ bodies i = Cleared bodies₀ bodies i
 
 abbrev μ-loop : tie.MeasureT-loop
 μ-loop bodies₀ i₀ bodies i = length bodies₀ - i
@@ -19,26 +21,23 @@ abbrev μ-loop : tie.MeasureT-loop
 loop-holds : tie.Need-loop-holds Inv-loop μ-loop
 loop-holds c = clear-start _
 
-mul-bodies : tie.Need-mul-bodies Inv-loop μ-loop
-mul-bodies c = search needs
+part-end-requires : tie.Need-part-end-requires Inv-loop μ-loop
+part-end-requires c κs = omega (arith, c .loop-test .taken)
 
-slice-set-of-bodies : tie.Need-slice-set-of-bodies Inv-loop μ-loop
-slice-set-of-bodies c = search needs
-
-add-i : tie.Need-add-i Inv-loop μ-loop
-add-i c = search needs
+clear-part-requires : tie.Need-clear-part-requires Inv-loop μ-loop
+clear-part-requires c κs = (omega (arith, c .before .part-end .ensures .0), omega (arith, c .before .part-end .ensures .0, c .before .part-end .ensures .1), clear-again _ _ _ (c .before .before .before .loop .inv))
 
 loop-less : tie.Need-loop-less Inv-loop μ-loop
-loop-less c = omega (arith, c .before .loop .inv .size, c .loop-test .taken)
+loop-less c = omega (arith, c .before .before .before .before .before .loop .inv .size, c .before .before .before .part-end .ensures .0, c .before .before .before .part-end .ensures .1)
 
 loop-again : tie.Need-loop-again Inv-loop μ-loop
-loop-again c = clear-on _ _ _ (c .before .loop .inv) (c .loop-test .taken)
+loop-again c = clear-part _ _ _ _ (c .before .before .before .before .before .loop .inv .size) (c .before .clear-part .ensures)
 
 same-length : tie.Need-same-length Inv-loop μ-loop
 same-length c = c .before .loop .inv .size
 
 returns : tie.Need-returns Inv-loop μ-loop
-returns c = cleared _ _ _ (c .before .loop .inv) (c .loop-test .left)
+returns c = cleared _ _ _ (c .before .loop .inv) (omega (arith, c .loop-test .left))
 
 pub clear-spec : {M : Type 1} → statement M
 clear-spec =
@@ -47,9 +46,8 @@ clear-spec =
     Inv-loop
     μ-loop
     loop-holds
-    mul-bodies
-    slice-set-of-bodies
-    add-i
+    part-end-requires
+    clear-part-requires
     loop-less
     loop-again
     same-length
