@@ -2,10 +2,11 @@
 """Makes rows of test vectors: tools/vectors.py [FILE], run at the top of the repository; FILE is tests/base.tsv if left out.
 
 FILE has one vector a line, fields separated by tabs: name, size of the room, the text in hex, number, place, length, shapes, calls,
-redefinitions, rounded distances, the flat file in hex; a line that begins with # is passed over. Of a file of tests/requests, which has
+redefinitions, rounded distances, line, column, the places of the chain parted by spaces, the flat file in hex; a line that begins with # is passed over. Of a file of tests/requests, which has
 records of `batch`, those of task 0 are taken. This writes crates/vectors/proofs/Base.antt (P02.antt of p02.tsv, and so on), where each is
 a row that is proved by computing: the definitions are held to answers that were worked out apart from them. A text with rounded distances
-is a row `rounded-in`, with their number before the flat file; all others have none. `rt fmt` after it.
+is a row `rounded-in`, with their number before the flat file; all others have none. A refusal on a later line is `on-line`, one under calls
+`in-calls`. `rt fmt` after it.
 """
 import os
 import sys
@@ -17,7 +18,7 @@ HEAD = f"""-- The vectors of {SOURCE}, made into rows by tools/vectors.py: answe
 -- A trailing comment is the vector's name. They stand in batches, so that a row that does not compute is found.
 -- Assumes nothing.
 use mathlib.Core.List.{{List, [], _∷_}}
-use Rattle.definition.proofs.Rows.{{Row, accepted-in, rounded-in, refused-in, Holds, Each, all-hold, each}}
+use Rattle.definition.proofs.Rows.{{Row, %s, Holds, Each, all-hold, each}}
 """
 
 
@@ -36,27 +37,39 @@ def vectors(file):
             yield fields
         elif fields[1] == "0":
             name, _, room, _, _, _, text, _, told, flat = fields
-            yield [name, room, text, *told.split(" ")[:7], flat]
+            told = told.split(" ")
+            yield [name, room, text, *told[:9], " ".join(told[9:]), flat]
+
+
+def refused(room, text, number, place, line, column, chain):
+    """A refusal stands on line 1 and in no call, unless it is said otherwise."""
+    said = f"refused-in {room} {quoted(text)} {number} {place}"
+    if (line, column) != ("1", str(int(place) + 1)):
+        said = f"on-line {line} {column} ({said})"
+    return f"in-calls ({' ∷ '.join([*chain.split(' '), '[]'])}) ({said})" if chain else said
 
 
 def row(fields):
-    name, room, text, number, place, length, shapes, calls, again, rounded, flat = fields
+    name, room, text, number, place, length, shapes, calls, again, rounded, line, column, chain, flat = fields
     text, flat = bytes.fromhex(text), bytes.fromhex(flat)
     if len(flat) != int(length):
         raise SystemExit(f"vector {name}: the length {length} is not that of its flat file")
-    if number == "0" and rounded != "0":
-        return f"rounded-in {room} {quoted(text)} {shapes} {calls} {again} {rounded} {quoted(flat)}", name
-    if number == "0":
-        return f"accepted-in {room} {quoted(text)} {shapes} {calls} {again} {quoted(flat)}", name
-    if (length, shapes, calls, again, rounded) != ("0",) * 5:
+    if number != "0" and (length, shapes, calls, again, rounded) != ("0",) * 5:
         raise SystemExit(f"vector {name}: refused, and yet has a length or counts")
-    return f"refused-in {room} {quoted(text)} {number} {place}", name
+    if number != "0":
+        return refused(room, text, number, place, line, column, chain), name
+    if (place, line, column, chain) != ("0", "0", "0", ""):
+        raise SystemExit(f"vector {name}: accepted, and yet has a place, a line or a chain")
+    if rounded != "0":
+        return f"rounded-in {room} {quoted(text)} {shapes} {calls} {again} {rounded} {quoted(flat)}", name
+    return f"accepted-in {room} {quoted(text)} {shapes} {calls} {again} {quoted(flat)}", name
 
 
 def main():
     with open(SOURCE, encoding="utf-8") as file:
         rows = [row(fields) for fields in vectors(file)]
-    out = HEAD
+    kinds = [kind for kind in ("accepted-in", "rounded-in", "refused-in", "on-line", "in-calls") if any(kind + " " in text for text, _ in rows)]
+    out = HEAD % ", ".join(kinds)
     for n, k in enumerate(range(0, len(rows), BATCH), 1):
         listed = "\n    ∷ ".join(f"{text}  -- {name}" for text, name in rows[k:k + BATCH])
         out += f"\npub rows-{n} : List Row\nrows-{n} =\n    {listed}\n    ∷ []\n"

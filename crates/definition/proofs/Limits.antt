@@ -13,21 +13,23 @@ use lib.ListN.{length}
 use borrow.Author.Tests.{lt-ltb, le-ltb, le-leb, lt-leb}
 use Rattle.grammar.specs.Steps.{verdictOf}
 use Rattle.grammar.proofs.Verdicts.{Bytes}
-use Rattle.definition.specs.Words.{if_then_else_, Placed, any, bytesOf}
-use Rattle.definition.specs.Rules.{textTooLong, tooManyDefinitions, tooManyCalls, tooManyShapes, flatFileTooLong, refuse}
+use Rattle.definition.specs.Words.{if_then_else_, Placed, any, those, bytesOf}
+use Rattle.definition.specs.Rules.{textTooLong, tooManyDefinitions, tooManyCalls, tooManyShapes, flatFileTooLong, refuse, order}
 use Rattle.definition.specs.Commands.{Number, Shape, Turn, Command, draw, call}
 use Rattle.definition.specs.Faults.{beyond, partsOf, tooMany}
 use Rattle.definition.specs.Table.{Definition, Table, enter}
 use Rattle.definition.specs.Drawing.{Chain, Drawn, Event, called, drew, entered, refused, define, happens}
 use Rattle.definition.specs.Counts.{Counts, counts, finished, stopped, counted, shapesOf}
 use Rattle.definition.specs.Flat.{decimal, flat}
+use Rattle.definition.specs.Position.{lineOf, columnOf, sinceLineEnd}
 use Rattle.definition.specs.Answer.{Outcome, accepted, rejected, fitted, Answers, too-long, not-cif, read}
 use Rattle.definition.specs.Listing.{listing, Lists, over, within}
 use Rattle.definition.specs.Computed.{verdict, answerOf}
+use Rattle.definition.proofs.Held.{numberAfter}
 use Rattle.definition.proofs.Right.{right}
-use Rattle.definition.proofs.Rows.{Row, accepting, refusing, Holds, Each, all-hold, each}
+use Rattle.definition.proofs.Rows.{Row, accepting, refusing, in-calls, Holds, Each, all-hold, each}
 
--- 3, 6 and 16: 16,777,215
+-- 3, 6, 16 and 20: 16,777,215
 pub range-reached : (z : ℤ) → natAbs z ≤ 16777215 → beyond z ≡ false
 unfolding beyond
 range-reached z h = le-ltb 16777215 (natAbs z) h
@@ -35,6 +37,11 @@ range-reached z h = le-ltb 16777215 (natAbs z) h
 pub range-passed : (z : ℤ) → 16777215 < natAbs z → beyond z ≡ true
 unfolding beyond
 range-passed z h = lt-ltb 16777215 (natAbs z) h
+
+-- 02, P4: of one shape 16 comes before 20, and in the order of the rules 20 stands directly after it
+pub directly-after-16 : numberAfter 16 order ≡ 20
+unfolding numberAfter
+directly-after-16 = refl
 
 -- 9: 1,024 points and 32 transformations
 pub points-reached : (k : Shape Number) → length (k .points) ≤ 1024 → tooMany (draw k) ≡ false
@@ -112,11 +119,16 @@ text-passed t words room h (too-long g) = refl
 text-passed t words room h (not-cif g x y) = absurd (omega (arith, h, g))
 text-passed t words room h (read g m) = absurd (omega (arith, h, g))
 
--- and for the list program 32,768 bytes
-pub list-reached : (t : List ℕ) {o : Outcome} → length t ≤ 32768 → Answers t 32768 32768 o → Lists t (listing o)
+-- 02, P4: 1 and 18 stand at place 0, which is line 1 and column 1 of every text, and so does 2 in an empty one
+pub start-of-text : (t : List ℕ) → (lineOf t 0 ≡ 1) × (columnOf t 0 ≡ 1)
+unfolding lineOf columnOf those sinceLineEnd
+start-of-text t = (refl, refl)
+
+-- the list program takes 32,768 bytes
+pub list-reached : (t : List ℕ) {o : Outcome} → length t ≤ 32768 → Answers t 32768 32768 o → Lists t (listing t o)
 list-reached t h a = within h a
 
-pub list-passed : (t : List ℕ) {p : List ℕ} → 32768 < length t → Lists t p → p ≡ listing (rejected (refuse textTooLong 0) [])
+pub list-passed : (t : List ℕ) {p : List ℕ} → 32768 < length t → Lists t p → p ≡ listing t (rejected (refuse textTooLong 0) [])
 list-passed t h (over g) = refl
 list-passed t h (within g a) = absurd (omega (arith, h, g))
 
@@ -126,17 +138,23 @@ unfolding bytesOf decimal
 ladder zero rest = rest
 ladder (suc n) rest = bytesOf "DS" ++ (decimal (pos (suc n)) ++ (bytesOf ";C" ++ (decimal (pos n) ++ (bytesOf ";DF;" ++ ladder n rest))))
 
+-- its calls but the last, which are open there, in a ladder of 32; with the call of its first symbol they are 32
+rungs : List ℕ
+rungs =
+    5 ∷ 17 ∷ 29 ∷ 41 ∷ 53 ∷ 65 ∷ 77 ∷ 89 ∷ 101 ∷ 113 ∷ 125 ∷ 137
+    ∷ 149 ∷ 161 ∷ 173 ∷ 185 ∷ 197 ∷ 209 ∷ 221 ∷ 233 ∷ 245 ∷ 257 ∷ 269 ∷ 279 ∷ 289 ∷ 299 ∷ 309 ∷ 319 ∷ 329 ∷ 339 ∷ 349 ∷ []
+
 -- a ladder of 32 ends at byte 365, and its last call, of symbol 0, stands at 359. At depth 33 the refusals 11, 12 and 13 come before 14
 pub levels : List Row
-unfolding bytesOf ladder
+unfolding bytesOf ladder rungs
 levels =
     accepting 2 (ladder 31 (bytesOf "DS0;DF;C31;E")) 0 32 0 (bytesOf "E\n")
-    ∷ refusing 2 (ladder 32 (bytesOf "DS0;DF;C32;E")) 14 359
-    ∷ refusing 2 (ladder 32 (bytesOf "DS1;C0R1 1;DF;C32;E")) 11 369
-    ∷ refusing 2 (ladder 32 (bytesOf "C32;E")) 12 359
-    ∷ refusing 2 (ladder 32 (bytesOf "DS1;C32;DF;C32;E")) 13 369
+    ∷ in-calls (372 ∷ rungs) (refusing 2 (ladder 32 (bytesOf "DS0;DF;C32;E")) 14 359)
+    ∷ in-calls (379 ∷ rungs) (refusing 2 (ladder 32 (bytesOf "DS1;C0R1 1;DF;C32;E")) 11 369)
+    ∷ in-calls (365 ∷ rungs) (refusing 2 (ladder 32 (bytesOf "C32;E")) 12 359)
+    ∷ in-calls (376 ∷ rungs) (refusing 2 (ladder 32 (bytesOf "DS1;C32;DF;C32;E")) 13 369)
     ∷ []
 
 pub levels-hold : Each Holds levels
-unfolding all-hold levels ladder
+unfolding all-hold levels ladder rungs
 levels-hold = each levels tt

@@ -55,9 +55,9 @@ unique {words = words} {room = room} (read h m) (read k n) = ap (λ (x : List Le
 -- so the contract settles the answer, the room and the words
 pub one-answer : {t : List ℕ} {words : List ℤ} {room : List ℕ} {r r′ : Answer} {words′ words″ : List ℤ} {left left′ : List ℕ}
     → Promised t words room r words′ left → Promised t words room r′ words″ left′ → (r ≡ r′) × (left ≡ left′) × (words′ ≡ words″)
-one-answer {room = room} p q =
+one-answer {t = t} {room = room} p q =
     let e : p .outcome ≡ q .outcome = unique (p .answers) (q .answers) in (
-      p .given ∙ ap (λ (o : Outcome). given-back o) e ∙ sym (q .given),
+      p .given ∙ ap (λ (o : Outcome). given-back t o) e ∙ sym (q .given),
       p .kept ∙ ap (λ (o : Outcome). roomAfter o room) e ∙ sym (q .kept),
       p .cleared ∙ sym (q .cleared),
     )

@@ -3,15 +3,16 @@
 -- Assumes nothing.
 use mathlib.Core.Path.{_≡_, refl, sym, subst}
 use mathlib.Core.Bool.{Bool, true, false, _&&_}
-use mathlib.Core.List.{List, [], _∷_, flatMap}
-use Prim.Native.Nat.{ℕ, zero, suc, _<_}
+use mathlib.Core.List.{List, [], _∷_, _++_, flatMap}
+use Prim.Native.Nat.{ℕ, zero, suc, _+_, _-_, _<_}
 use Prim.Native.String.{String}
 use native.Mathlib.Nat.{not-suc-le-zero, le-of-suc-le-suc}
 use native.Mathlib.Omega.{arith}
 use lib.Dec.{T, ltb, leb, eqb, ltb→lt, leb→le, eqb→eq}
-use lib.ListN.{length, getD}
+use lib.ListN.{length, getD, replicate}
 use Rattle.grammar.proofs.Tests.{and-left, and-right}
 use Rattle.grammar.proofs.Verdicts.{Bytes}
+use Rattle.definition.specs.declared.Answer.{Answer}
 use Rattle.definition.specs.Words.{if_then_else_}
 use Rattle.definition.specs.Answer.{Outcome, Answers}
 use Rattle.definition.specs.Listing.{Lists, within}
@@ -32,7 +33,8 @@ use Rattle.definition.specs.Counts.{counted, goOn, ending, shapesOf}
 use Rattle.definition.specs.Flat.{digits, decimal, spaced, letterOf, said, lines, flat}
 use Rattle.definition.specs.Held.{wordsOfTurn, wordsOfStep, wordsOfBody, wordsIn, heldTo, wordsAfter, wordsNeeded}
 use Rattle.definition.specs.Lean.{lastThen, add, addAll, lean}
-use Rattle.definition.specs.Answer.{flatFile, given-back, fitted, drawn, outcomeOf}
+use Rattle.definition.specs.Position.{lineOf, sinceLineEnd, columnOf}
+use Rattle.definition.specs.Answer.{flatFile, success, failure, given-back, fitted, drawn, outcomeOf}
 use Rattle.definition.specs.Listing.{fields, shapeLines, extreme, windowLine, listing}
 use Rattle.definition.specs.Computed.{verdict, answerOf}
 
@@ -48,18 +50,21 @@ pub record Row : Type 0 where
   pub calls : ℕ
   pub redefinitions : ℕ
   pub rounded-count : ℕ
+  pub line : ℕ
+  pub column : ℕ
+  pub chain : List ℕ
   pub flat-file : List ℕ
 
 -- a text that is accepted with as many words as it has bytes, which is always enough (02, P10), in a room of this size, with its shapes, calls, redefinitions, rounded distances and flat file; one in which nothing is rounded;
--- and one that is refused, with number and place
+-- and one that is refused, with number and place: on line 1, so that the column is one more than the place, and in no call
 abbrev pub rounding : ℕ → List ℕ → ℕ → ℕ → ℕ → ℕ → List ℕ → Row
-rounding n t s c r k f = record { text = t; words = length t; room = n; number = 0; place = 0; shapes = s; calls = c; redefinitions = r; rounded-count = k; flat-file = f }
+rounding n t s c r k f = record { text = t; words = length t; room = n; number = 0; place = 0; shapes = s; calls = c; redefinitions = r; rounded-count = k; line = 0; column = 0; chain = []; flat-file = f }
 
 abbrev pub accepting : ℕ → List ℕ → ℕ → ℕ → ℕ → List ℕ → Row
 accepting n t s c r f = rounding n t s c r 0 f
 
 abbrev pub refusing : ℕ → List ℕ → ℕ → ℕ → Row
-refusing n t k p = record { text = t; words = length t; room = n; number = k; place = p; shapes = 0; calls = 0; redefinitions = 0; rounded-count = 0; flat-file = [] }
+refusing n t k p = record { text = t; words = length t; room = n; number = k; place = p; shapes = 0; calls = 0; redefinitions = 0; rounded-count = 0; line = 1; column = p + 1; chain = []; flat-file = [] }
 
 -- the same where so many words are lent
 abbrev pub lent : ℕ → Row → Row
@@ -73,6 +78,44 @@ lent w r = record {
   calls = r .calls;
   redefinitions = r .redefinitions;
   rounded-count = r .rounded-count;
+  line = r .line;
+  column = r .column;
+  chain = r .chain;
+  flat-file = r .flat-file;
+}
+
+-- 02, P4: the same where the refusal is on this line and in this column; and where it is in calls, of which these are the places, outermost first
+abbrev pub on-line : ℕ → ℕ → Row → Row
+on-line l c r = record {
+  text = r .text;
+  words = r .words;
+  room = r .room;
+  number = r .number;
+  place = r .place;
+  shapes = r .shapes;
+  calls = r .calls;
+  redefinitions = r .redefinitions;
+  rounded-count = r .rounded-count;
+  line = l;
+  column = c;
+  chain = r .chain;
+  flat-file = r .flat-file;
+}
+
+abbrev pub in-calls : List ℕ → Row → Row
+in-calls ps r = record {
+  text = r .text;
+  words = r .words;
+  room = r .room;
+  number = r .number;
+  place = r .place;
+  shapes = r .shapes;
+  calls = r .calls;
+  redefinitions = r .redefinitions;
+  rounded-count = r .rounded-count;
+  line = r .line;
+  column = r .column;
+  chain = ps;
   flat-file = r .flat-file;
 }
 
@@ -95,20 +138,22 @@ rounding-to t s c r k f = rounded-in 32768 t s c r k f
 abbrev pub refused-at : String → ℕ → ℕ → Row
 refused-at t k p = refused-in 32768 t k p
 
--- what a row says of the answer and the flat file, and what an outcome does; the length is the flat file's
+-- what a row says of the answer and the flat file, and what an outcome of its text does; the length is the flat file's, and zeros fill the chain up to 32
 abbrev pub said-of : Row → List ℕ
-said-of r = r .number ∷ r .place ∷ length (r .flat-file) ∷ r .shapes ∷ r .calls ∷ r .redefinitions ∷ r .rounded-count ∷ r .flat-file
+said-of r =
+    r .number ∷ r .place ∷ length (r .flat-file) ∷ r .shapes ∷ r .calls ∷ r .redefinitions ∷ r .rounded-count ∷ r .line ∷ r .column ∷ length (r .chain)
+    ∷ (r .chain ++ (replicate (32 - length (r .chain)) 0 ++ r .flat-file))
 
-abbrev pub said-by : Outcome → List ℕ
-said-by o =
-    given-back o .number ∷ given-back o .place ∷ given-back o .length ∷ given-back o .shapes ∷ given-back o .calls ∷ given-back o .redefinitions
-    ∷ given-back o .rounded ∷ flatFile o
+abbrev pub said-by : List ℕ → Outcome → List ℕ
+said-by t o =
+    let a : Answer = given-back t o in
+    a .number ∷ a .place ∷ a .length ∷ a .shapes ∷ a .calls ∷ a .redefinitions ∷ a .rounded ∷ a .line ∷ a .column ∷ a .opened ∷ (a .chain ++ flatFile o)
 
 -- an outcome that is promised says it
 pub record Holds (r : Row) : Type 0 where
   pub outcome : Outcome
   pub answers : Answers (r .text) (r .words) (r .room) outcome
-  pub says : said-by outcome ≡ said-of r
+  pub says : said-by (r .text) outcome ≡ said-of r
 
 -- a text, and the lines that the list program prints of it
 pub record Printout : Type 0 where
@@ -147,11 +192,11 @@ same-eq (x ∷ a) (y ∷ b) t = go (eqb x y) refl (same-eq a b) t
     go false e f h = absurd h
 
 row-holds : Row → Bool
-row-holds r = small (r .text) && same (said-by (answerOf (r .text) (r .words) (r .room))) (said-of r)
+row-holds r = small (r .text) && same (said-by (r .text) (answerOf (r .text) (r .words) (r .room))) (said-of r)
 
 print-holds : Printout → Bool
 print-holds r =
-    small (bytesOf (r .text)) && (leb (length (bytesOf (r .text))) 32768 && same (listing (answerOf (bytesOf (r .text)) 32768 32768)) (bytesOf (r .printed)))
+    small (bytesOf (r .text)) && (leb (length (bytesOf (r .text))) 32768 && same (listing (bytesOf (r .text)) (answerOf (bytesOf (r .text)) 32768 32768)) (bytesOf (r .printed)))
 
 every : {A : Type 0} → (A → Bool) → List A → Bool
 every test [] = true
@@ -159,7 +204,7 @@ every test (r ∷ rs) = test r && every test rs
 
 -- the test of rows, and that of printouts; what both compute through is named here once
 unfoldable pub all-hold : List Row → Bool
-unfolding row-holds print-holds every small flatMap has dec kinds table kindOf entryOf nextOf modeAfter markOf roleOf marked verdictOf any those first same bytesOf worth numbers paired next named turnAt turns commandAt commands after nearest scaled whole scaledShape scaledTurn beyond partsOf shifts bearings distances numbersOf zeroScale least emptyShape degenerate layerless tooMany atNumbers faults allFaults firstFault ragged roundedFrom rounded negative heading rotated act aim inOrder moved offAxes find enter forget stepOf retained deedOf deeds drawShape drawStep drawBody passageTo passageOf through drawCall happens tableAfter story counted goOn ending shapesOf digits decimal spaced letterOf said lines flat wordsOfTurn wordsOfStep wordsOfBody wordsIn heldTo wordsAfter wordsNeeded lastThen add addAll lean flatFile given-back fitted drawn outcomeOf fields shapeLines extreme windowLine listing verdict answerOf
+unfolding row-holds print-holds every small flatMap has dec kinds table kindOf entryOf nextOf modeAfter markOf roleOf marked verdictOf any those first same bytesOf worth numbers paired next named turnAt turns commandAt commands after nearest scaled whole scaledShape scaledTurn beyond partsOf shifts bearings distances numbersOf zeroScale least emptyShape degenerate layerless tooMany atNumbers faults allFaults firstFault ragged roundedFrom rounded negative heading rotated act aim inOrder moved offAxes find enter forget stepOf retained deedOf deeds drawShape drawStep drawBody passageTo passageOf through drawCall happens tableAfter story counted goOn ending shapesOf digits decimal spaced letterOf said lines flat wordsOfTurn wordsOfStep wordsOfBody wordsIn heldTo wordsAfter wordsNeeded lastThen add addAll lean lineOf sinceLineEnd columnOf flatFile success failure given-back fitted drawn outcomeOf fields shapeLines extreme windowLine listing verdict answerOf
 all-hold rs = every row-holds rs
 
 unfoldable pub all-print : List Printout → Bool
@@ -178,7 +223,7 @@ print-right : (r : Printout) → T (print-holds r) → Printed r
 unfolding print-holds
 print-right r h =
     let t : List ℕ = bytesOf (r .text) in
-    let rest : T (leb (length t) 32768 && same (listing (answerOf t 32768 32768)) (bytesOf (r .printed))) = and-right (small t) _ h in
+    let rest : T (leb (length t) 32768 && same (listing t (answerOf t 32768 32768)) (bytesOf (r .printed))) = and-right (small t) _ h in
     subst
     (Lists t)
     (same-eq _ _ (and-right (leb (length t) 32768) _ rest))

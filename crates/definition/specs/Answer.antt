@@ -24,23 +24,51 @@ use Rattle.definition.specs.Drawing.{Chain, Event, deeds, story}
 use Rattle.definition.specs.Counts.{Counts, counts, End, finished, stopped, ending, shapesOf}
 use Rattle.definition.specs.Flat.{flat}
 use Rattle.definition.specs.Held.{heldTo}
+use Rattle.definition.specs.Position.{lineOf, columnOf, chainTold}
 
 pub data Outcome : Type 0 where  -- a text's commands are drawn, with the counts and all that happened; or it is refused, with the calls open there
   accepted : List (Placed Command) → Counts → List Event → Outcome
   rejected : Refusal → Chain → Outcome
 
 -- 01, "What the reader takes and gives": on success the number and place are 0; on refusal the length and all counts are 0. 02, request 2: the result also
--- counts the rounded distances of the text
+-- counts the rounded distances of the text. 02, P4: line and column of every refusal and the chain; on success line and column are 0 and the chain is empty
 unfoldable pub flatFile : Outcome → List ℕ
 flatFile (accepted cs c es) = flat (shapesOf es)
 flatFile (rejected r chain) = []
 
-abbrev pub answer : (number place length : ℕ) → Counts → (rounded : ℕ) → Answer
-answer n p l c k = record { number = n; place = p; length = l; shapes = c .shapes; calls = c .calls; redefinitions = c .redefinitions; rounded = k }
+unfoldable pub success : (length : ℕ) → Counts → (rounded : ℕ) → Answer
+success l c k = record {
+  number = 0;
+  place = 0;
+  length = l;
+  shapes = c .shapes;
+  calls = c .calls;
+  redefinitions = c .redefinitions;
+  rounded = k;
+  line = 0;
+  column = 0;
+  opened = 0;
+  chain = chainTold [];
+}
 
-unfoldable pub given-back : Outcome → Answer
-given-back (accepted cs c es) = answer 0 0 (length (flat (shapesOf es))) c (rounded cs)
-given-back (rejected r chain) = answer (r .number) (r .place) 0 (counts 0 0 0) 0
+unfoldable pub failure : List ℕ → Refusal → Chain → Answer  -- of a text
+failure t r chain = record {
+  number = r .number;
+  place = r .place;
+  length = 0;
+  shapes = 0;
+  calls = 0;
+  redefinitions = 0;
+  rounded = 0;
+  line = lineOf t (r .place);
+  column = columnOf t (r .place);
+  opened = length chain;
+  chain = chainTold chain;
+}
+
+unfoldable pub given-back : List ℕ → Outcome → Answer
+given-back t (accepted cs c es) = success (length (flat (shapesOf es))) c (rounded cs)
+given-back t (rejected r chain) = failure t r chain
 
 abbrev pub roomAfter : Outcome → List ℕ → List ℕ  -- the first bytes of the room hold the flat file, and the rest of the room is unchanged
 roomAfter o room = flatFile o ++ drop (length (flatFile o)) room
@@ -77,6 +105,6 @@ zeros words = replicate (length words) (pos 0)
 pub record Promised (t : List ℕ) (words : List ℤ) (room : List ℕ) (r : Answer) (words′ : List ℤ) (left : List ℕ) : Type 0 where
   pub outcome : Outcome
   pub answers : Answers t (length words) (length room) outcome
-  pub given : r ≡ given-back outcome
+  pub given : r ≡ given-back t outcome
   pub kept : left ≡ roomAfter outcome room
   pub cleared : words′ ≡ zeros words

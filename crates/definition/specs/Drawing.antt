@@ -10,10 +10,10 @@ use lib.ListN.{length}
 use Rattle.definition.specs.declared.Refusal.{Refusal}
 use Rattle.definition.specs.Limits.{mostDefinitions, deepest}
 use Rattle.definition.specs.Words.{if_then_else_, Placed, at, any}
-use Rattle.definition.specs.Rules.{Rule, tooManyDefinitions, offTheAxes, undefinedSymbol, beingDrawn, tooDeep, outOfRange, refuse}
+use Rattle.definition.specs.Rules.{Rule, tooManyDefinitions, offTheAxes, undefinedSymbol, beingDrawn, tooDeep, xOutOfRange, yOutOfRange, refuse}
 use Rattle.definition.specs.Commands.{Shape, Turn, Command, draw, layer, call, start, finish, delete, nothing}
 use Rattle.definition.specs.Standing.{Standing, after, scaledShape, scaledTurn}
-use Rattle.definition.specs.Faults.{beyond, both}
+use Rattle.definition.specs.Faults.{beyond}
 use Rattle.definition.specs.Turns.{moved, offAxes}
 use Rattle.definition.specs.Table.{Step, shape, instance, setting, Definition, Table, find, enter, forget}
 
@@ -70,10 +70,12 @@ pub data Event : Type 0 where
   removed : (symbol : Placed ℕ) → (before : Table) → Event
   refused : Refusal → Chain → Event
 
-unfoldable pub drawShape : Chain → List (Turn ℤ) → ℕ → List ℕ → Shape ℤ → Event  -- 01, refusal 16: a final point beyond 16,777,215
+-- 01, refusal 16: a final point beyond 16,777,215. 02, P4: 16 for a shape with some x beyond the range, 20 for one whose x are all good and some y is not
+unfoldable pub drawShape : Chain → List (Turn ℤ) → ℕ → List ℕ → Shape ℤ → Event
 drawShape chain net p l k =
     let m = moved net k in
-    if any beyond (both (m .points)) then refused (refuse outOfRange p) chain
+    if any (λ q. beyond (q .x)) (m .points) then refused (refuse xOutOfRange p) chain
+    else if any (λ q. beyond (q .y)) (m .points) then refused (refuse yOutOfRange p) chain
     else drew (record { place = p; chain = chain; net = net; layer-of = l; itself = m })
 
 -- 01: a body draws its calls, by the function given, and its shapes, in written order

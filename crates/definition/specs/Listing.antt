@@ -10,6 +10,7 @@ use Rattle.definition.specs.Rules.{textTooLong, refuse}
 use Rattle.definition.specs.Drawing.{Drawn}
 use Rattle.definition.specs.Counts.{shapesOf}
 use Rattle.definition.specs.Flat.{decimal, spaced, letterOf, numbersOfShape}
+use Rattle.definition.specs.Position.{lineOf, columnOf, placesOf}
 use Rattle.definition.specs.Answer.{Outcome, accepted, rejected, Answers}
 
 unfoldable pub fields : List (List ℕ) → List ℕ  -- fields behind a word, each after a tab
@@ -35,13 +36,15 @@ windowLine (p ∷ ps) =
     let ys = map (λ (q : Point ℤ). q .y) ps in
     bytesOf "window" ++ fields (decimal (lowest (p .x) xs) ∷ decimal (lowest (p .y) ys) ∷ decimal (highest (p .x) xs) ∷ decimal (highest (p .y) ys) ∷ [])
 
-unfoldable pub listing : Outcome → List ℕ
-listing (accepted cs c es) =
+unfoldable pub listing : List ℕ → Outcome → List ℕ  -- of a text. 02, P4: line, column and the places of the chain come after the place
+listing t (accepted cs c es) =
     shapeLines 1 (shapesOf es)
     ++ (bytesOf "total" ++ (fields (decimal (pos (c .shapes)) ∷ decimal (pos (c .calls)) ∷ decimal (pos (c .redefinitions)) ∷ [])
     ++ windowLine (flatMap (λ d. d .itself .points) (shapesOf es))))
-listing (rejected r chain) = bytesOf "refused" ++ fields (decimal (pos (r .number)) ∷ decimal (pos (r .place)) ∷ [])
+listing t (rejected r chain) =
+    bytesOf "refused"
+    ++ fields (map (λ n. decimal (pos n)) (r .number ∷ r .place ∷ lineOf t (r .place) ∷ columnOf t (r .place) ∷ placesOf chain))
 
 pub data Lists (t : List ℕ) : List ℕ → Type 0 where  -- it takes at most 32,768 bytes, a longer text is refusal 1, its room is 32,768 bytes, and it lends 32,768 words
-  over : 32768 < length t → Lists t (listing (rejected (refuse textTooLong 0) []))
-  within : {o : Outcome} → length t ≤ 32768 → Answers t 32768 32768 o → Lists t (listing o)
+  over : 32768 < length t → Lists t (listing t (rejected (refuse textTooLong 0) []))
+  within : {o : Outcome} → length t ≤ 32768 → Answers t 32768 32768 o → Lists t (listing t o)

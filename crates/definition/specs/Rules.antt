@@ -6,7 +6,7 @@ use Rattle.definition.specs.declared.Refusal.{Refusal}
 
 pub data Rule : Type 0 where
   textTooLong notInGrammar numberTooLarge zeroFactor scaledTooLarge degenerateCommand noLayer tooManyParts : Rule
-  tooManyDefinitions tooFewWords offTheAxes undefinedSymbol beingDrawn tooDeep tooManyCalls outOfRange tooManyShapes flatFileTooLong : Rule
+  tooManyDefinitions tooFewWords offTheAxes undefinedSymbol beingDrawn tooDeep tooManyCalls xOutOfRange yOutOfRange tooManyShapes flatFileTooLong : Rule
 
 abbrev pub numberOf : Rule → ℕ
 numberOf textTooLong = 1
@@ -23,7 +23,8 @@ numberOf undefinedSymbol = 12
 numberOf beingDrawn = 13
 numberOf tooDeep = 14
 numberOf tooManyCalls = 15
-numberOf outOfRange = 16
+numberOf xOutOfRange = 16
+numberOf yOutOfRange = 20
 numberOf tooManyShapes = 17
 numberOf flatFileTooLong = 18
 numberOf tooFewWords = 25
@@ -31,7 +32,7 @@ numberOf tooFewWords = 25
 abbrev pub refuse : Rule → (place : ℕ) → Refusal
 refuse r p = record { number = numberOf r; place = p }
 
-abbrev pub order : List Rule  -- 01: 1; then 2; then 3 to 9, within a command by number; then 10 to 17, at one command by number; then 18. 02: 25 directly after 10
+abbrev pub order : List Rule  -- 01: 1; then 2; then 3 to 9, within a command by number; then 10 to 17, at one command by number; then 18. 02: 25 directly after 10, and 20 after 16
 order =
     textTooLong ∷ notInGrammar ∷ numberTooLarge ∷ zeroFactor ∷ scaledTooLarge ∷ degenerateCommand ∷ noLayer ∷ tooManyParts
-    ∷ tooManyDefinitions ∷ tooFewWords ∷ offTheAxes ∷ undefinedSymbol ∷ beingDrawn ∷ tooDeep ∷ tooManyCalls ∷ outOfRange ∷ tooManyShapes ∷ flatFileTooLong ∷ []
+    ∷ tooManyDefinitions ∷ tooFewWords ∷ offTheAxes ∷ undefinedSymbol ∷ beingDrawn ∷ tooDeep ∷ tooManyCalls ∷ xOutOfRange ∷ yOutOfRange ∷ tooManyShapes ∷ flatFileTooLong ∷ []

@@ -25,7 +25,7 @@ pub struct Refusal {
 }
 
 // What a reader gives back (01, "What the reader takes and gives"): refusal number, place, length written, the counts of the drawing, and how many distances
-// of the text were rounded (02, request 2).
+// of the text were rounded (02, request 2); line and column of the place, and the places of the calls open there, zeros after them (02, request 4).
 pub struct Answer {
     pub number: usize,
     pub place: usize,
@@ -34,4 +34,8 @@ pub struct Answer {
     pub calls: usize,
     pub redefinitions: usize,
     pub rounded: usize,
+    pub line: usize,
+    pub column: usize,
+    pub opened: usize,
+    pub chain: [usize; DEEPEST],
 }

@@ -15,7 +15,7 @@ use Rattle.definition.specs.Rules.{tooManyDefinitions, offTheAxes, beingDrawn, 
 use Rattle.definition.specs.Words.{if_then_else_, Placed, at, any, none?}
 use Rattle.definition.specs.Commands.{Shape, Turn, Command, draw, layer, call, start, finish, delete, nothing}
 use Rattle.definition.specs.Standing.{Standing, after}
-use Rattle.definition.specs.Faults.{beyond, both}
+use Rattle.definition.specs.Faults.{beyond}
 use Rattle.definition.specs.Turns.{moved, offAxes}
 use Rattle.definition.specs.Table.{Step, shape, instance, setting, Definition, Table, find, enter, forget}
 use Rattle.definition.specs.Drawing.{stepOf, retained, Deed, output, define, remove, deedOf, deeds, Chain, Drawn, Event, called, drew, entered, removed, refused}
@@ -73,7 +73,9 @@ module _ (f : ℕ → ℕ) where
   shape-relocated : (chain : Chain) (net : List (Turn ℤ)) (p : ℕ) (l : List ℕ) (k : Shape ℤ)
       → drawShape (map relocate chain) net (f p) l k ≡ relocateEvent (drawShape chain net p l k)
   unfolding drawShape relocateEvent
-  shape-relocated chain net p l k = chosen relocateEvent (any beyond (both (moved net k .points))) refl refl
+  shape-relocated chain net p l k =
+      chosen relocateEvent (any (λ q. beyond (q .x)) (moved net k .points)) refl
+      (chosen relocateEvent (any (λ q. beyond (q .y)) (moved net k .points)) refl refl)
 
   -- calls that draw the same, with places changed
   abbrev Alike : (ℕ → ℕ → List (Turn ℤ) → List Event) → (ℕ → ℕ → List (Turn ℤ) → List Event) → Type 0

@@ -1,4 +1,5 @@
 -- What holds of all that happens in a drawing: of its shapes, its places, its counts, the calls that are open, the table, and the words that bodies need.
+pub mod Axes
 pub mod Kept
 pub mod EventPlaces
 pub mod Moments

@@ -14,7 +14,7 @@ use Rattle.definition.specs.Rules.{textTooLong, refuse}
 use Rattle.definition.specs.Flat.{decimal}
 use Rattle.definition.specs.Answer.{rejected, Answers, too-long}
 use Rattle.definition.specs.Listing.{Lists, over}
-use Rattle.definition.proofs.Rows.{Row, lent, accepting, refusing, accepted, refused-at, accepted-in, refused-in, Holds, Each, all-hold, each}
+use Rattle.definition.proofs.Rows.{Row, lent, in-calls, accepting, refusing, accepted, refused-at, accepted-in, refused-in, Holds, Each, all-hold, each}
 
 -- n times a text, before another
 unfoldable pub times : ℕ → String → List ℕ → List ℕ
@@ -32,7 +32,7 @@ unfoldable pub text : String → ℕ → String → String → List ℕ
 unfolding bytesOf
 text before n s behind = bytesOf before ++ times n s (bytesOf behind)
 
--- 3, 6 and 16: on both sides, of both signs, on both axes; sizes are no points
+-- 3, 6, 16 and 20: on both sides, of both signs, on both axes; sizes are no points
 pub ranges : List Row
 ranges =
     accepted "LA;R16777215 -16777215 16777215;E" 1 0 0 "LA;\nR16777215 -16777215 16777215;\nE\n"
@@ -47,8 +47,8 @@ ranges =
     ∷ refused-at "DS1 5 1;LA;R1 0 -3355444;DF;E" 6 16
     ∷ refused-at "DS1 5 1;C1T0 3355444;DF;E" 6 13
     ∷ accepted "DS1;LA;R16777215 1 -1;DF;C1T16777214 -16777214;E" 1 1 0 "LA;\nR16777215 16777215 -16777215;\nE\n"
-    ∷ refused-at "DS1;LA;R1 -1 0;DF;C1T-16777215 0;E" 16 7
-    ∷ refused-at "DS1;LA;R1 0 1;DF;C1T0 16777215;E" 16 7
+    ∷ in-calls (18 ∷ []) (refused-at "DS1;LA;R1 -1 0;DF;C1T-16777215 0;E" 16 7)
+    ∷ in-calls (17 ∷ []) (refused-at "DS1;LA;R1 0 1;DF;C1T0 16777215;E" 20 7)
     ∷ []
 
 pub ranges-hold : Each Holds ranges
@@ -118,6 +118,6 @@ rooms-hold = each rooms tt
 pub text-too-long : (t : List ℕ) (words room : ℕ) → length t ≡ 16777217 → Answers t words room (rejected (refuse textTooLong 0) [])
 text-too-long t words room h = too-long (omega (arith, h))
 
-pub list-too-long : Lists (times 32769 ";" []) (bytesOf "refused\t1\t0\n")
+pub list-too-long : Lists (times 32769 ";" []) (bytesOf "refused\t1\t0\t1\t1\n")
 unfolding all-hold times
 list-too-long = over (lit≤ tt)

@@ -2,7 +2,7 @@
 -- A trailing comment is the vector's name. They stand in batches, so that a row that does not compute is found.
 -- Assumes nothing.
 use mathlib.Core.List.{List, [], _∷_}
-use Rattle.definition.proofs.Rows.{Row, accepted-in, rounded-in, refused-in, Holds, Each, all-hold, each}
+use Rattle.definition.proofs.Rows.{Row, accepted-in, rounded-in, refused-in, on-line, in-calls, Holds, Each, all-hold, each}
 
 pub rows-1 : List Row
 rows-1 =
@@ -182,9 +182,9 @@ rows-7 =
     ∷ accepted-in 65536 "DS1;C2MXMXMXMXMXMXMXMXMXMXMXMXMXMXMXMXMXMXMXMXMXMXMXMXMXMXMXMXMXMXMXMX;DF;E" 0 0 0 "E\n"  -- refusal 9
     ∷ accepted-in 65536 "DS1;C2T1 1T1 1T1 1T1 1T1 1T1 1T1 1T1 1T1 1T1 1T1 1T1 1T1 1T1 1T1 1T1 1T1 1T1 1T1 1T1 1T1 1T1 1T1 1T1 1T1 1T1 1T1 1T1 1T1 1T1 1T1 1T1 1;DF;E" 0 0 0 "E\n"  -- refusal 9
     ∷ refused-in 65536 "DS1;DF;C1R1 1R1 1;E" 11 7  -- refusal 11 pair makes right angle
-    ∷ refused-in 65536 "DS1;C2;DF;C1;E" 12 4  -- refusal 12 inner
+    ∷ in-calls (10 ∷ []) (refused-in 65536 "DS1;C2;DF;C1;E" 12 4)  -- refusal 12 inner
     ∷ accepted-in 65536 "DS1;C2;DF;DS2;DF;C1;E" 0 2 0 "E\n"  -- refusal 12 defined between
-    ∷ refused-in 65536 "DS1;C2;DF;DS2;C1;DF;C1;E" 13 14  -- refusal 13 ring
+    ∷ in-calls (20 ∷ 4 ∷ []) (refused-in 65536 "DS1;C2;DF;DS2;C1;DF;C1;E" 13 14)  -- refusal 13 ring
     ∷ accepted-in 65536 "DS1;DF;DS2;C1;C1;DF;C2;C2;C1;E" 0 7 0 "E\n"  -- refusal 13 twice is no ring
     ∷ refused-in 65536 "LA;R1 -16777216 16777216;E" 3 6  -- refusal in command
     ∷ refused-in 65536 "DS1 3 1;LA;R16777215 16777215 16777215;DF;E" 6 12  -- refusal in command
@@ -204,7 +204,7 @@ pub rows-8 : List Row
 rows-8 =
     accepted-in 65536 " DS2 1LT16777215;LNM;DF;DS9;LCM;/31 ;DF;73E(9-;C2R-1 0;\u{b}C'HE9 T120@0M Yxyz\0R -1 -0R:K-1 0;E[^#" 0 2 0 "E\n"  -- random 4
     ∷ rounded-in 65536 "DS3 7 3;LND;R 1 -375 8;DF;D S16777215 100 1;73aDF -999999999999;L ABCD;RK2 335 0;DF;DS5 ;L9Z;L 9Z ;72\nDFaDF a; ;R424 -338 492;B16777215 16777215 0V-9 8 6;DF\";C3; C16777215M YM*Y MY;C5;E" 4 3 0 2 "LND;\nR2 -875 19;\nLABCD;\nR200 33500 0;\nL9Z;\nR424 -338 492;\nB16777215 16777215 0 -9 8 6;\nE\n"  -- random 7
-    ∷ refused-in 65536 "D S\0\u{1b}002\0;LNM;C57;W 356 5054 -8;W7843 0 435 -167 0 0 0;D\r\nF ;LND;C2:T-15752 3R16777215FO1 ; B1 8 2 -10 -0 00;~DS57 ;(EE\n( 9\n9DF)) ;LABCD[;.  C2 T16777216W0 ;CY9T -432ooD:03777TE~a-9 -2;\tLNM`; B\n16777214*7 0 00000000000000000000000000000014576 -5 7;DF;(9); DS57 3\"\" 07\u{b};L0001;W301 -0308 16777215 378=K-49 49\r\n=[-63 39146835 308 315J\n\u{1b}98@;/L9Z\u{7f};B287:V16777215 -5592406 301; P385@-420 000000000000000000000000000000273 100000000\0`#39146835 301;LQ7.;DF;E" 7 92  -- random 8
+    ∷ on-line 2 35 (refused-in 65536 "D S\0\u{1b}002\0;LNM;C57;W 356 5054 -8;W7843 0 435 -167 0 0 0;D\r\nF ;LND;C2:T-15752 3R16777215FO1 ; B1 8 2 -10 -0 00;~DS57 ;(EE\n( 9\n9DF)) ;LABCD[;.  C2 T16777216W0 ;CY9T -432ooD:03777TE~a-9 -2;\tLNM`; B\n16777214*7 0 00000000000000000000000000000014576 -5 7;DF;(9); DS57 3\"\" 07\u{b};L0001;W301 -0308 16777215 378=K-49 49\r\n=[-63 39146835 308 315J\n\u{1b}98@;/L9Z\u{7f};B287:V16777215 -5592406 301; P385@-420 000000000000000000000000000000273 100000000\0`#39146835 301;LQ7.;DF;E" 7 92)  -- random 8
     ∷ accepted-in 65536 "DS 3 ;LQ7;P-0[0 0{~'-9 -484 -0013;((-\0a)a\n\n DF;)+\t;(\0;DF  -EE-) ;'(9 \nDF;9 ) ; R1 -0 0;DF;L9Z;E" 0 0 0 "E\n"  -- random 9
     ∷ accepted-in 65536 "DS 114 16777215 16777215;DF';C114T-221 -438; E" 0 1 0 "E\n"  -- random 10
     ∷ accepted-in 65536 "L CM;(a\n-) ;\r\n=E " 0 0 0 "E\n"  -- random 12
@@ -215,10 +215,10 @@ rows-8 =
     ∷ accepted-in 65536 "DS5 ;[#LNP ;(\n\0 DFDF\nE\n ):+:;(\n\0(9));.,P-461 X=0 0 0 0 9; D F;E" 0 0 0 "E\n"  -- random 18
     ∷ accepted-in 65536 "LNM; DS5;LNM;DF;W1 4B0 4 0 ; C5T7 -248MXMYT0 -248; E" 1 1 0 "LNM;\nW1 4 0 4 0;\nE\n"  -- random 20
     ∷ refused-in 0 " ();E " 18 0  -- random 21
-    ∷ refused-in 65536 "D\0+S57 16777215 16777215oo;46 (999999999999a99999999999;L\tABCD;B7 9 0 0 0 17;LZZZZ ;B5 1 0 -16777215 1 0; (\0(;9 ));DF;;DS3 07 3;L.CM;64\n;C57; DF ; C57T00192 -191T7 0;\u{7f}_\0E" 16 84  -- random 22
+    ∷ in-calls (147 ∷ []) (refused-in 65536 "D\0+S57 16777215 16777215oo;46 (999999999999a99999999999;L\tABCD;B7 9 0 0 0 17;LZZZZ ;B5 1 0 -16777215 1 0; (\0(;9 ));DF;;DS3 07 3;L.CM;64\n;C57; DF ; C57T00192 -191T7 0;\u{7f}_\0E" 20 84)  -- random 22
     ∷ accepted-in 2 "DD3;DS2 3 2;DF;C2 T-92 22MXR0 1R0 -7;C2R0 -7R0 -7MX MY;C2;E" 0 3 0 "E\n"  -- random 24
-    ∷ refused-in 65536 "L A; D,^S7 3 7;L9Z;B7 7 -252 6 -2_-000a; (;\n;(DF aDF));DF ;aD@S57;; L 0;\u{1b}LNM ;();; C7aMY=T181 -105;DF ; R6 -1 000000000499 ;DS4\t16777215 1;L0;95;C00000000057;R389 0 1={;DF;C7 R-0 1\"MY;C4;E " 6 159  -- random 25
-    ∷ refused-in 0 " DS16777215 1T#.100;\0;LCM;W224 -7 247; (() Ea- -\0\n ());DF;DS3 2 1 ;LNP;C16777215T-8388607 04;B 6 200 114\t-393;;B7 1 -126 00473 -000 16777215;C16777215R0 -2T@\r\nP0 8388609R16777215 0 MY;DF ;ooDS 9; LCM;BaY1 8 1 -16777215 -1000 0;C3;R 1 0B2;W0000000000000000000000000000006J0 -16777215 -236 0 225 7 ; B6 5 159 8;D+F:;LNP;DS7,16777215 1;:L0;DF;@C3T-2 -35;C9T453 0R-000 16777215R-1 0 ;E[" 6 162  -- random 26
+    ∷ on-line 2 116 (refused-in 65536 "L A; D,^S7 3 7;L9Z;B7 7 -252 6 -2_-000a; (;\n;(DF aDF));DF ;aD@S57;; L 0;\u{1b}LNM ;();; C7aMY=T181 -105;DF ; R6 -1 000000000499 ;DS4\t16777215 1;L0;95;C00000000057;R389 0 1={;DF;C7 R-0 1\"MY;C4;E " 6 159)  -- random 25
+    ∷ on-line 3 4 (refused-in 0 " DS16777215 1T#.100;\0;LCM;W224 -7 247; (() Ea- -\0\n ());DF;DS3 2 1 ;LNP;C16777215T-8388607 04;B 6 200 114\t-393;;B7 1 -126 00473 -000 16777215;C16777215R0 -2T@\r\nP0 8388609R16777215 0 MY;DF ;ooDS 9; LCM;BaY1 8 1 -16777215 -1000 0;C3;R 1 0B2;W0000000000000000000000000000006J0 -16777215 -236 0 225 7 ; B6 5 159 8;D+F:;LNP;DS7,16777215 1;:L0;DF;@C3T-2 -35;C9T453 0R-000 16777215R-1 0 ;E[" 6 162)  -- random 26
     ∷ refused-in 65536 "DD4;LB1;P-46 -34 -46 0 0 -34;DS3 1 1;LC2;P23 40 23 0 0 40;C2 T47 88;W7 29 -10 -10 29;P-17 38 -17 0 0 38;LD;B75 13 30 41 0 1;B23 59 -26 22 0 1;DF;DD3;C4 R0 1;DS5;DF;DS0;LC2;C5;DF;C5;DS4 5 3;C0;LC2;P-7 -15 -7 0 0 -15;B35 79 -23 19 -2 0;DF;DS3;LD;P23 -19 23 0 0 -19;DF;DD0;E" 12 149  -- random 27
     ∷ accepted-in 3 ",/*LA ; E" 0 0 0 "E\n"  -- random 28
     ∷ accepted-in 65536 "DS16777215;L9Z;(DF-(\n\n (;))); D F;L0 ;CooPa16777215;E" 0 1 0 "E\n"  -- random 30
@@ -274,7 +274,7 @@ rows-10 =
     ∷ accepted-in 3 " DS4 16777215 16777215;\u{1b}/{LA; (\na;99EE 9\n;);\"B1/\u{7f}434 -2 -4 7 -8;R95 7 0;(\0;9aE\n 9\nDFa ) ;LNM;DF;E" 0 0 0 "E\n"  -- random 66
     ∷ accepted-in 65536 "L A;Exyz\u{b}" 0 0 0 "E\n"  -- random 67
     ∷ rounded-in 65536 "DS2 ; (((\0 -Ea EDF)));DF;DS3 16777215 16777215;LND; W1 0 -9 -178 20 0 268 16777215 0 0^-0;\u{7f}xyz\tR1 0000000000 -4;C2T-222 16777214MX;R1 460 0 ; C2;DF;DS0 1 16777215;LA;W16777215 -86 0 0 -000;;W\"16777215 -56 3 -2 192 -2 0 ; DF;C2T-8 -5TU\":1 -368 T0 334;C3 MYMYMY;C0MXR0 -16777215;E" 5 5 0 6 "LND;\nW1 0 9 -178 -20 0 -268 16777215 0 0 0;\nR1 0 4;\nR1 460 0;\nLA;\nW1 0 0 0 0;\nW1 0 0 0 0 0 0;\nE\n"  -- random 68
-    ∷ refused-in 65536 "\n\u{1b}D S2 16777215 1;DF;L\u{7f}*A\t;*W001 0A19490;D\tD8; L[ooND;[La=ooCM  \u{b}a;B1,0000000001\u{b}\u{1b}417 -7 4 -7 ;R 5\r\n 0 DF-9;D\"_F;DS0 ;CX 2`/:R0 -1T6211 0T62 0MX;LQ7'xyz:;W3 -000000000000000000000000000000216 0 ;L CM;L\u{7f}*A\t;D F  `;*:/() \r\n=; E" 2 111  -- random 69
+    ∷ on-line 3 12 (refused-in 65536 "\n\u{1b}D S2 16777215 1;DF;L\u{7f}*A\t;*W001 0A19490;D\tD8; L[ooND;[La=ooCM  \u{b}a;B1,0000000001\u{b}\u{1b}417 -7 4 -7 ;R 5\r\n 0 DF-9;D\"_F;DS0 ;CX 2`/:R0 -1T6211 0T62 0MX;LQ7'xyz:;W3 -000000000000000000000000000000216 0 ;L CM;L\u{7f}*A\t;D F  `;*:/() \r\n=; E" 2 111)  -- random 69
     ∷ accepted-in 65536 "DS5 1 16777215;DF;D^S114; DF;LABCD ;R121 -0 -8 ;C114M Yxyz`*;E" 1 1 0 "LABCD;\nR121 0 -8;\nE\n"  -- random 70
     ∷ accepted-in 65536 "L 0 ;DS0;# ;L0001;\r\n= (a (\n);;\nE9-\n);(\na\nDF);B1 9\r\n276 0;R438 -382 0;DF;E" 0 0 0 "E\n"  -- random 71
     ∷ rounded-in 65536 "DS1 5 3;C5R0 1;LC2;B97 33 -6 3;P12 -22 12 0 0 -22;DF;DS1;LB1;R6 35 -19;B34 52 3 -5 0 -3;DF;DS900 2 1;LD;R9 2 -28;C1 R0 -7;C5R0 -7;DF;DS16777215 1 1;LB1;B64 13 42 -33;W3 23 -26 -26 23;DF;DS16777215 1 1;(x;);C1 T-90 -93 R0 -7;C1MY;LD;R9 -42 -49;DF;DD5;LB1;W6 -24 40 40 -24;DS5 5 3;DF;DS16777215;LB1;B73 18 0 38 0 1;DF;DD16777215;C5 MY;DS1;LD;B24 5 -10 -41 1 0;C1;DF;DS16777215 5 3;LD;B55 82 35 7 3 -4;LE4;B55 53 -29 -6 0 -3;DF;C16777215 R0 1T19 -16MYR0 1;DS5 1 1;9u C1;LA;P21 35 21 0 0 35;B36 11 -24 16 0 -3;DF;DS1 5 3;;LE4;R5 -38 -8;LE4;R3 23 29;B17 8 32 18 0 -3;P48 -6 48 0 0 -6;LC2;R5 10 -43;DF;B82 93 -10 -5 0 1;C16777215;DS16777215 1 1;LB1;B3 42 -7 -47 3 -4;B4 1 35 24 0 -3;DF;DS1;DF;C1;C5;C16777215;E" 10 6 7 21 "LB1;\nW6 -24 40 40 -24;\nLD;\nB92 137 42 7 3 4;\nLE4;\nB92 88 -64 29 0 3;\nLB1;\nB82 93 -10 -5 0 1;\nLD;\nB92 137 58 12 3 -4;\nLE4;\nB92 88 -48 -10 0 -3;\nLA;\nP21 35 21 0 0 35;\nB36 11 -24 16 0 -3;\nLB1;\nB3 42 -7 -47 3 -4;\nB4 1 35 24 0 -3;\nE\n"  -- random 72
@@ -289,7 +289,7 @@ rows-11 =
     accepted-in 2 "\n:,D@~\nS*xyz1 4Y0000000006_*;{.LCM/\n ;PH\0\t-000000000000000000000000000000336\u{7f}-000000000000000000000000000000198\u{7f}-06 000000000264/210`-000000000000000000000000000000180@00000000048*'-108\00222O12xyz\u{1b}[;ooC2M+X@T132{00270[;D^F*  ;=D_.aS4a0000000000000000000000000000001 2[_^;:\n*L\tND\t;{BO#030\u{7f}74PR70,'~-98 ^;.\u{7f}.R=92oo\t\n-18oo-104~^\u{b};xyzLoo@:0xyz;=_Doo{^F\r\n;/DxyzS\nK0000000000000000000000000000005\"_`;~'^L \0 NP#;/W  \t  16777215^O-1081oo[I2 000000000000000000000000000000161C-383;LxyzNP[\u{b}=;[D^\tFxyz;[D SNxyz+114;+\0:L:_ZZZZ;D{^ F+oo\u{1b};\tD,S3[`16777215G001;\t\r\n\"86-a;.*L,0001;\n\u{7f}(E9 -)\u{7f};/D:'F  `[;'E\n*" 0 0 0 "E\n"  -- random 73
     ∷ refused-in 0 "DS1/2 1;L ND ;((a;)DF;9\n9a);B5 452 394 0 -0 2;W 1 66 '\t-338 0 0 0 0=-2 140 -3 5;DF;DS114 1/M2; L+A{=;L0;();DF;LQ7;Doooo_S1 {\t;L0;(E9DFDF\n-DF); ;`DF;E" 18 0  -- random 74
     ∷ accepted-in 65536 "LCM;B16777214 5 -0 5585;E" 1 0 0 "LCM;\nB16777214 5 0 5585 1 0;\nE\n"  -- random 77
-    ∷ refused-in 2 "DSZ\r\n2;DF;L0001;DS114 7 3;L*,ND; DF;DSWN{4;L9Z;DF;DS3 100\r\n1;~L0;C 114R0 -1T-4 -9; DF ;D\r\n{*S 114 16777215 1; LCM;(aDFE9\0(9));LCM; R148 0 -381;D   F;C2MY R0 2*T230 -9MX #;C114 R0U-1 MYMaX;~xyzC3;E" 6 132  -- random 78
+    ∷ on-line 4 43 (refused-in 2 "DSZ\r\n2;DF;L0001;DS114 7 3;L*,ND; DF;DSWN{4;L9Z;DF;DS3 100\r\n1;~L0;C 114R0 -1T-4 -9; DF ;D\r\n{*S 114 16777215 1; LCM;(aDFE9\0(9));LCM; R148 0 -381;D   F;C2MY R0 2*T230 -9MX #;C114 R0U-1 MYMaX;~xyzC3;E" 6 132)  -- random 78
     ∷ rounded-in 3 "DS 0KG.3\t7;L0;L 0 ;WR3 0 -442 -7 0 0 -8 0 203 0 7oo;R 329\u{7f}-0 -2;DaF; D:[:S5; ;LZZZZ;L9Z;DF.;LNP;C5;E " 0 1 0 4 "E\n"  -- random 81
     ∷ accepted-in 65536 "LA;P 0 0 -159[-334 0 -0;\u{7f}P0 -2 226 -0 6 0;D~ ooS0;L NM ;(--  DF);(\n-a -E);(a;a;E-\0- \09);49 a-E)a;81E)-;DF; DS\u{7f}\t4 ; 549a; LABCD;85 99999999999;C\"0M`oo{Y;LA ;R148 0 336;DF;R1 -170 482;C0MYMXT-229 0;C4 M Y /M,YR-2 0_T-6 5 ;E" 4 3 0 "LA;\nP0 0 -159 -334 0 0;\nP0 -2 226 0 6 0;\nR1 -170 482;\nR148 -6 -331;\nE\n"  -- random 82
     ∷ refused-in 30 "DS7 ;LNM ; DF;DS0 1 100; LNM;R100 1 422;C7R-0 16777215MXMYT0 3;DF ;LA;+\0P-3 -288 0 -489 0 2 -000 3;LNM ;`_,C7MY;E" 18 0  -- random 83

@@ -4,7 +4,7 @@
 -- Assumes nothing.
 use mathlib.Core.List.{List, [], _∷_}
 use Rattle.definition.specs.Words.{bytesOf}
-use Rattle.definition.proofs.Rows.{Row, accepting, accepted, refused-at, Holds, Each, all-hold, each}
+use Rattle.definition.proofs.Rows.{Row, accepting, accepted, refused-at, in-calls, Holds, Each, all-hold, each}
 use Rattle.vectors.proofs.Limits.{text, times}
 
 pub grammar : List Row
@@ -91,8 +91,8 @@ drawing =
     -- decision 23: 11 looks at each R by itself
     refused-at "DS1;DF;C1R1 1R1 1;E" 11 7
     -- decision 24: 13 goes by symbol number, at any distance
-    ∷ refused-at "DS1;C2;DF;DS2;C1;DF;C1;E" 13 14
-    -- decision 26: 16 looks at points, and not at how far a shape reaches
+    ∷ in-calls (20 ∷ 4 ∷ []) (refused-at "DS1;C2;DF;DS2;C1;DF;C1;E" 13 14)
+    -- decision 26: 16 and 20 look at points, and not at how far a shape reaches
     ∷ accepted "LA;R16777215 16777215 0;E" 1 0 0 "LA;\nR16777215 16777215 0;\nE\n"
     -- decision 29: a direction along x is written as given
     ∷ accepted "LA;B1 2 3 4 2 0;E" 1 0 0 "LA;\nB1 2 3 4 2 0;\nE\n"

@@ -2,7 +2,7 @@
 -- A trailing comment is the vector's name. They stand in batches, so that a row that does not compute is found.
 -- Assumes nothing.
 use mathlib.Core.List.{List, [], _∷_}
-use Rattle.definition.proofs.Rows.{Row, accepted-in, rounded-in, refused-in, Holds, Each, all-hold, each}
+use Rattle.definition.proofs.Rows.{Row, accepted-in, rounded-in, refused-in, in-calls, Holds, Each, all-hold, each}
 
 pub rows-1 : List Row
 rows-1 =
@@ -499,7 +499,7 @@ rows-18 =
     ∷ refused-in 4096 "DS1 1 3;LA;R3 0 0;DF;DS2 2 1;LA;R0 8388608 0;DF;E" 6 35  -- 6 before 7, behind it
     ∷ refused-in 4096 "DS1 3 2;C9T0 -11184811;DF;E" 6 13  -- a T point at 6
     ∷ rounded-in 4096 "DS9;LA;R1 0 0;DF;DS1 3 2;C9T0 -11184809;DF;C1;E" 1 2 0 1 "LA;\nR1 0 -16777214;\nE\n"  -- a T point in range
-    ∷ refused-in 4096 "DS1 1 2;LA;R2 1 0;DF;C1T16777215 0;E" 16 11  -- 16 after rounding
+    ∷ in-calls (21 ∷ []) (refused-in 4096 "DS1 1 2;LA;R2 1 0;DF;C1T16777215 0;E" 16 11)  -- 16 after rounding
     ∷ rounded-in 4096 "DS1 1 3;LA;R3 1 0;DF;C1T16777215 0;E" 1 1 0 1 "LA;\nR1 16777215 0;\nE\n"  -- no 16 after rounding
     ∷ rounded-in 4096 "DS1 1 2;LA;R2 1 0;DF;E" 0 0 0 1 "E\n"  -- never drawn
     ∷ []
@@ -521,7 +521,7 @@ rows-19 =
     ∷ rounded-in 4096 "DS1 1 2;LA;R2 1 0;DF;DS2;LA;R1 1 1;DF;C2;E" 1 1 0 1 "LA;\nR1 1 1;\nE\n"  -- the scale ends with DF
     ∷ rounded-in 4096 "DS2 1 3;LA;R3 1 2;DF;DS1 1 2;C2T1 -1;DF;C1;E" 1 2 0 4 "LA;\nR1 1 0;\nE\n"  -- each symbol keeps its own
     ∷ rounded-in 4096 "DS1 1 2;C9T1 3T-5 2MXR0 1;DF;E" 0 0 0 3 "E\n"  -- T points in a call that is never drawn
-    ∷ refused-in 4096 "DS1 1 2;C9T1 0;DF;C1;E" 12 8  -- a call of nothing drawn
+    ∷ in-calls (18 ∷ []) (refused-in 4096 "DS1 1 2;C9T1 0;DF;C1;E" 12 8)  -- a call of nothing drawn
     ∷ accepted-in 4096 "DS1 3 6;LA;R2 4 -8;DF;C1;E" 1 1 0 "LA;\nR1 2 -4;\nE\n"  -- whole by the scale
     ∷ rounded-in 4096 "DS1 100 3;LA;P0 0 1 0 2 -1 3 -2 -4 -5;DF;C1;E" 1 1 0 6 "LA;\nP0 0 33 0 67 -33 100 -67 -133 -167;\nE\n"  -- a grid of thirds
     ∷ refused-in 1 "DS1 1 2;LA;R2 1 0;DF;E" 18 0  -- off the grid, and no room

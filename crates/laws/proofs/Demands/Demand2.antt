@@ -1,8 +1,9 @@
 -- Demand 2: a text is accepted, and refused by each rule at each place, exactly when document 01's table and its order of refusals say so.
--- The rules stand in FaultRules (3 to 9) and DrawingRules (10 to 17 and 25), each as its row states it.
+-- The rules stand in FaultRules (3 to 9) and DrawingRules (10 to 17, 20 and 25), each as its row states it; the calls that are open at a refusal are told,
+-- and there are none but at 11 to 17 and 20 (`located` of Demand1).
 -- Assumes nothing.
-use mathlib.Core.Path.{_≡_, refl, ap, subst, sym}
-use mathlib.Core.List.{List, []}
+use mathlib.Core.Path.{_≡_, refl, ap, _∙_, subst, sym}
+use mathlib.Core.List.{List, [], _∷_, _++_}
 use mathlib.Core.Logic.{_↔_}
 use Prim.Native.Nat.{ℕ, _≤_, _<_}
 use native.Mathlib.Omega.{arith}
@@ -11,8 +12,10 @@ use Rattle.grammar.specs.Notation.{Letter}
 use Rattle.grammar.specs.Viable.{Marked, Grammatical, LongestViable}
 use Rattle.definition.specs.Limits.{mostBytes}
 use Rattle.definition.specs.Words.{Placed}
-use Rattle.definition.specs.Rules.{Rule, textTooLong, notInGrammar, flatFileTooLong, refuse}
-use Rattle.definition.specs.Commands.{Command, commands}
+use Rattle.definition.specs.Rules.{Rule, textTooLong, notInGrammar, xOutOfRange, yOutOfRange, flatFileTooLong, refuse}
+use lib.IntN.{ℤ}
+use Rattle.definition.specs.Commands.{Shape, Turn, Command, commands}
+use Rattle.definition.specs.Table.{Table}
 use Rattle.definition.specs.Drawing.{Chain, Event}
 use Rattle.definition.specs.Counts.{Counts, finished, stopped}
 use Rattle.definition.specs.Answer.{accepted, rejected, Answers}
@@ -23,8 +26,8 @@ use Rattle.laws.proofs.Demands.Demand1.{stopped-within}
 use Rattle.definition.specs.Drawing.{deeds}
 use Rattle.definition.specs.Counts.{counts}
 use Rattle.definition.specs.Standing.{outside}
-use Rattle.laws.proofs.Story.Moments.{moments}
-use Rattle.laws.proofs.Rules.DrawingRules.{FirstStop, drawing-stops}
+use Rattle.laws.proofs.Story.Moments.{drawing, Moment, moment, moments}
+use Rattle.laws.proofs.Rules.DrawingRules.{Unbroken, Foremost, FirstStop, tally, ShapeFar, FarInX, FarInY, x-foremost, y-foremost, x-only, y-only, drawing-stops}
 
 -- the text is refused by this rule at this place, whatever calls are open there
 abbrev pub Refused : List ℕ → (words room : ℕ) → Rule → (place : ℕ) → Type 0
@@ -38,7 +41,7 @@ pub record CommandsBreak (t : List ℕ) (r : Rule) (p : ℕ) : Type 0 where
   pub marked : Marked t roles
   pub broken : FirstBreak (commands 0 roles) r p
 
--- 10 to 17 and 25: nothing broken, and this is the first rule that a moment of the drawing breaks
+-- 10 to 17, 20 and 25: nothing broken, and this is the first rule that a moment of the drawing breaks
 pub record DrawingStopped (t : List ℕ) (words : ℕ) (r : Rule) (p : ℕ) (chain : Chain) : Type 0 where
   pub roles : List Letter
   pub passed : Passed t roles
@@ -131,13 +134,78 @@ refused-by-grammar {t} {words} {room} {p} = (λ r. way-strange (refusal notInGra
 pub refused-by-command : {t : List ℕ} {words room : ℕ} {r : Rule} {p : ℕ} → ByCommand r → Refused t words room r p ↔ CommandsBreak t r p
 refused-by-command {t} {words} {room} {r} {p} i = (λ a. way-command i (refusal r p (a .0) .0 (a .1)), λ h. ([], refusal r p [] .1 (by-command (h .within) (h .marked) (h .broken))))
 
--- 01: then 10 to 17 in the order of drawing, at one command by number, and by 02 25 directly after 10. A drawing is stopped by these rules only
+-- 01: then 10 to 17 in the order of drawing, at one command by number, and by 02 25 directly after 10, and 20 after 16. A drawing is stopped by these rules only
 pub refused-by-drawing : {t : List ℕ} {words room : ℕ} {r : Rule} {p : ℕ} {chain : Chain} → ByDrawing r
     → Answers t words room (rejected (refuse r p) chain) ↔ DrawingStopped t words r p chain
 refused-by-drawing {t} {words} {room} {r} {p} {chain} i = (λ a. way-drawing i (refusal r p chain .0 a), λ h. refusal r p chain .1 (by-drawing (h .passed) (stopping words (h .roles) .1 (h .stops))))
 
 pub stopped-rule : {t : List ℕ} {words : ℕ} {r : Rule} {p : ℕ} {chain : Chain} → DrawingStopped t words r p chain → ByDrawing r
 stopped-rule {words = words} h = drawing-ranked words (h .passed) (stopping words (h .roles) .1 (h .stops))
+
+-- 02, P4: 16 exactly where the first moment that breaks a rule draws a shape here, under these calls, with some x beyond the range; and 20 exactly where it
+-- draws one whose x are all good and some y is not
+pub record OutOfRange (Far : List (Turn ℤ) → Shape ℤ → Type 0) (t : List ℕ) (words p : ℕ) (chain : Chain) : Type 0 where
+  pub roles : List Letter
+  pub passed : Passed t roles
+  pub before : List Moment
+  pub table : Table
+  pub net : List (Turn ℤ)
+  pub layer : List ℕ
+  pub itself : Shape ℤ
+  pub after : List Moment
+  pub parts : moments [] (deeds (outside []) (commands 0 roles)) ≡ before ++ (moment table chain net p (drawing layer itself) ∷ after)
+  pub unbroken : Unbroken words (counts 0 0 0) before
+  pub far : Far net itself
+
+module _ {t : List ℕ} {words p : ℕ} {chain : Chain} (Far : List (Turn ℤ) → Shape ℤ → Type 0) (r : Rule) where
+  range-stop : ((c : Counts) (m : Moment) → Foremost words c m r → ShapeFar Far m) → DrawingStopped t words r p chain → OutOfRange Far t words p chain
+  range-stop only d =
+      let f = d .stops in
+      let s = only (tally (counts 0 0 0) (f .before)) (f .it) (f .foremost) in
+      let it-is : f .it ≡ moment (f .it .table) chain (f .it .net) p (drawing (s .layer) (s .itself)) =
+      λ i. record { table = f .it .table; chain = sym (f .chain-is) i; net = f .it .net; place = sym (f .place-is) i; act = s .is i } in
+      record {
+        roles = d .roles;
+        passed = d .passed;
+        before = f .before;
+        table = f .it .table;
+        net = f .it .net;
+        layer = s .layer;
+        itself = s .itself;
+        after = f .after;
+        parts = f .parts ∙ ap (λ (m : Moment). f .before ++ (m ∷ f .after)) it-is;
+        unbroken = f .unbroken;
+        far = s .far;
+      }
+
+  stop-ranged : ((c : Counts) (u : Table) (net : List (Turn ℤ)) (l : List ℕ) (k : Shape ℤ) → Far net k → Foremost words c (moment u chain net p (drawing l k)) r)
+      → OutOfRange Far t words p chain → DrawingStopped t words r p chain
+  stop-ranged foremost o = record {
+    roles = o .roles;
+    passed = o .passed;
+    stops = record {
+      before = o .before;
+      it = moment (o .table) chain (o .net) p (drawing (o .layer) (o .itself));
+      after = o .after;
+      parts = o .parts;
+      unbroken = o .unbroken;
+      foremost = foremost (tally (counts 0 0 0) (o .before)) (o .table) (o .net) (o .layer) (o .itself) (o .far);
+      place-is = refl;
+      chain-is = refl;
+    };
+  }
+
+pub refused-by-x : {t : List ℕ} {words room p : ℕ} {chain : Chain} → Answers t words room (rejected (refuse xOutOfRange p) chain) ↔ OutOfRange FarInX t words p chain
+refused-by-x = (
+  λ a. range-stop FarInX xOutOfRange (λ c m f. x-only f) (refused-by-drawing {r = xOutOfRange} (record { least = omega arith; most = omega arith }) .0 a),
+  λ o. refused-by-drawing {r = xOutOfRange} (record { least = omega arith; most = omega arith }) .1 (stop-ranged FarInX xOutOfRange (λ c u net l k x. x-foremost x) o),
+)
+
+pub refused-by-y : {t : List ℕ} {words room p : ℕ} {chain : Chain} → Answers t words room (rejected (refuse yOutOfRange p) chain) ↔ OutOfRange FarInY t words p chain
+refused-by-y = (
+  λ a. range-stop FarInY yOutOfRange (λ c m f. y-only f) (refused-by-drawing {r = yOutOfRange} (record { least = omega arith; most = omega arith }) .0 a),
+  λ o. refused-by-drawing {r = yOutOfRange} (record { least = omega arith; most = omega arith }) .1 (stop-ranged FarInY yOutOfRange (λ c u net l k y. y-foremost y) o),
+)
 
 -- 01: then 18, flat file longer than the room or than 16,777,216; at 0
 pub refused-by-flat-file : {t : List ℕ} {words room p : ℕ} → Refused t words room flatFileTooLong p ↔ ((p ≡ 0) × FileTooLong t words room)

@@ -25,7 +25,7 @@ use Rattle.definition.specs.Commands.{Number, Kind, box, flash, wire, polygon, 
 use Rattle.definition.specs.Drawing.{Drawn, Event, drew}
 use Rattle.definition.specs.Counts.{Counts, counts, shapesOf}
 use Rattle.definition.specs.Flat.{letterOf, numbersOfShape, flat}
-use Rattle.definition.specs.Answer.{Outcome, accepted, flatFile, answer, given-back, roomAfter, Answers, zeros, Promised}
+use Rattle.definition.specs.Answer.{Outcome, accepted, flatFile, success, given-back, roomAfter, Answers, zeros, Promised}
 use Rattle.laws.proofs.Commands.NumberPlaces.{as-long}
 use Rattle.laws.proofs.Lists.Range.{All, all-++, all-to}
 use Rattle.laws.proofs.FlatFile.Again.{spacedLetters}
@@ -221,9 +221,9 @@ pub record Demand3 (room : ℕ) (c : Counts) (ds : List Drawn) : Type 0 where
   pub same-bytes : flat (shapesOf events) ≡ flat ds
   -- so a reader may leave it at the start of a room that holds it, with the rest of the room unchanged; and none may do otherwise
   pub promised : (words : List ℤ) (before : List ℕ) → length (flat ds) ≤ length before
-      → Promised (flat ds) words before (answer 0 0 (length (flat ds)) (counts 0 (c .shapes) 0) 0) (zeros words) (flat ds ++ drop (length (flat ds)) before)
+      → Promised (flat ds) words before (success (length (flat ds)) (counts 0 (c .shapes) 0) 0) (zeros words) (flat ds ++ drop (length (flat ds)) before)
   pub settled : (words words′ : List ℤ) (before left : List ℕ) (r : Answer) → length (flat ds) ≤ length before → Promised (flat ds) words before r words′ left
-      → (r ≡ answer 0 0 (length (flat ds)) (counts 0 (c .shapes) 0) 0) × (left ≡ flat ds ++ drop (length (flat ds)) before)
+      → (r ≡ success (length (flat ds)) (counts 0 (c .shapes) 0) 0) × (left ≡ flat ds ++ drop (length (flat ds)) before)
 
 pub demand3 : {t : List ℕ} {words room : ℕ} {cs : List (Placed Command)} {c : Counts} {es : List Event} → Answers t words room (accepted cs c es) → Demand3 room c (shapesOf es)
 demand3 {t} {words} {room} {cs} {c} {es} k = record {
@@ -257,18 +257,22 @@ demand3 {t} {words} {room} {cs} {c} {es} k = record {
     accepts words′ room′ h = subst (λ (n : ℕ). Answers (flat (shapesOf es)) words′ room′ (accepted (commands 0 (flatLetters (shapesOf es))) (counts 0 n 0) (again .events))) (sym counted) (again .answers words′ room′ h)
 
     promised : (lent : List ℤ) (before : List ℕ) → length (flat (shapesOf es)) ≤ length before
-        → Promised (flat (shapesOf es)) lent before (answer 0 0 (length (flat (shapesOf es))) (counts 0 (c .shapes) 0) 0) (zeros lent) (flat (shapesOf es) ++ drop (length (flat (shapesOf es))) before)
+        → Promised (flat (shapesOf es)) lent before (success (length (flat (shapesOf es))) (counts 0 (c .shapes) 0) 0) (zeros lent) (flat (shapesOf es) ++ drop (length (flat (shapesOf es))) before)
     promised lent before h = record {
       outcome = accepted (commands 0 (flatLetters (shapesOf es))) (counts 0 (c .shapes) 0) (again .events);
       answers = accepts (length lent) (length before) h;
       given =
           unfold given-back in (
-          ap (λ (w : List ℕ). answer 0 0 (length w) (counts 0 (c .shapes) 0) 0) (sym (again .same-bytes))
-          ∙ ap (λ (k : ℕ). answer 0 0 (length (flat (shapesOf (again .events)))) (counts 0 (c .shapes) 0) k)
+          ap (λ (w : List ℕ). success (length w) (counts 0 (c .shapes) 0) 0) (sym (again .same-bytes))
+          ∙ ap (λ (k : ℕ). success (length (flat (shapesOf (again .events)))) (counts 0 (c .shapes) 0) k)
           (sym (none-rounded (only-shapes-of (again .grammatical) (flat-openings (shapesOf es))))));
       kept = unfold flatFile in ap (λ (w : List ℕ). w ++ drop (length w) before) (sym (again .same-bytes));
       cleared = refl;
     }
+
+success-length : (l : ℕ) (c : Counts) (k : ℕ) → success l c k .length ≡ l
+unfolding success
+success-length l c k = refl
 
 -- two readings in a row: what the first leaves at the start of its room, if it accepts, the second leaves at the start of its own, and the rest of that
 -- room unchanged
@@ -278,8 +282,8 @@ pub twice : {t room left room′ left′ : List ℕ} {lent lent′ again again�
 twice {t} {room} {left} {room′} {left′} {lent} {lent′} {again} {again′} {r} {r′} {cs} {c} {es} p e h q =
     let F = flat (shapesOf es) in
     let d : Demand3 (length room) c (shapesOf es) = demand3 (subst (Answers t (length lent) (length room)) e (p .answers)) in
-    let back : r ≡ answer 0 0 (length F) c (rounded cs) = unfold given-back in (p .given ∙ ap given-back e) in
-    let size : length F ≡ r .length = sym (ap (λ (x : Answer). x .length) back) in
+    let back : r ≡ success (length F) c (rounded cs) = unfold given-back in (p .given ∙ ap (given-back t) e) in
+    let size : length F ≡ r .length = sym (ap (λ (x : Answer). x .length) back ∙ success-length (length F) c (rounded cs)) in
     let leaves : left ≡ F ++ drop (length F) room = unfold flatFile in (p .kept ∙ ap (λ (o : Outcome). roomAfter o room) e) in
     let first : take (r .length) left ≡ F = ap (take (r .length)) leaves ∙ take-at F (drop (length F) room) (r .length) size in
     let second : left′ ≡ F ++ drop (length F) room′ =

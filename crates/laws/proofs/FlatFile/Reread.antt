@@ -13,17 +13,17 @@ use Rattle.grammar.specs.Notation.{Letter, dec, has, skip, head, name, stop}
 use Rattle.grammar.specs.Viable.{bytes}
 use Rattle.grammar.specs.Tables.{letter}
 use Rattle.definition.specs.Limits.{largest, mostShapes}
-use Rattle.definition.specs.Rules.{outOfRange, refuse}
 use Rattle.definition.specs.Words.{if_then_else_, Placed, at, Point, same, any}
 use Rattle.definition.specs.Commands.{Shape, Turn, Number, Command, draw, layer, named, commandAt, commands, _plays_}
 use Rattle.definition.specs.Standing.{outside, after, scaledShape}
 use Rattle.definition.specs.Faults.{beyond, both}
 use Rattle.definition.specs.Turns.{act, aim, inOrder, moved}
 use Rattle.definition.specs.Table.{Table}
-use Rattle.definition.specs.Drawing.{Drawn, Event, drew, refused, stepOf, deedOf, deeds, drawShape, drawStep, happens, tableAfter, story}
+use Rattle.definition.specs.Drawing.{Drawn, Event, drew, stepOf, deedOf, deeds, drawShape, drawStep, happens, tableAfter, story}
 use Rattle.definition.specs.Counts.{shapesOf, counts, finished, counted, goOn, ending}
 use Rattle.definition.specs.Flat.{letterOf, numbersOfShape, spaced, line, said, lines, flat, shortest}
 use Rattle.laws.proofs.Lists.Range.{All, all-++}
+use Rattle.laws.proofs.Story.Axes.{drawn-within}
 use Rattle.laws.proofs.FlatFile.Again.{digitLetters, decimalLetters, spacedLetters, bytes-++, spaced-bytes}
 use Rattle.definition.proofs.Rows.{same-eq}
 use Rattle.laws.proofs.FlatFile.Shapes.{Formed, shape-read, read-outside}
@@ -189,8 +189,9 @@ abbrev drew-plain : ℕ → List ℕ → Shape ℤ → Event
 drew-plain n l k = drew (record { place = n; chain = []; net = []; layer-of = l; itself = k })
 
 drawn-plain : (n : ℕ) (l : List ℕ) (k : Shape ℤ) → InRange (numbersOfShape k) → drawShape [] [] n l k ≡ drew-plain n l k
-unfolding drawShape
-drawn-plain n l k h = ap (λ (x : Shape ℤ). if any beyond (both (x .points)) then refused (refuse outOfRange n) [] else drew-plain n l x) (unmoved k) ∙ rw (points-beyond k h)
+drawn-plain n l k h =
+    drawn-within [] [] n l k (ap (λ (x : Shape ℤ). any beyond (both (x .points))) (unmoved k) ∙ points-beyond k h)
+    ∙ ap (drew-plain n l) (unmoved k)
 
 -- what happens at letters, read from place n on where the layer stands
 abbrev pub again : Table → List ℕ → ℕ → List Letter → List Event

@@ -22,5 +22,10 @@ unfolding All
 all-to P R f [] x = tt
 all-to P R f (a ∷ l) x = (f a (x .0), all-to P R f l (x .1))
 
+pub all-at : {A : Type 0} (P : A → Type 0) (before : List A) (a : A) (after : List A) → All P (before ++ (a ∷ after)) → P a
+unfolding All
+all-at P [] a after x = x .0
+all-at P (b ∷ before) a after x = all-at P before a after (x .1)
+
 abbrev pub Within : Drawn → Type 0
 Within d = any beyond (both (d .itself .points)) ≡ false

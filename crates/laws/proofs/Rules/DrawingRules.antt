@@ -1,4 +1,4 @@
--- The refusals 10 to 17 as rules of document 01, and 25 of 02, in plain facts, and the theorem that they are the refusals of the drawing: it is stopped with a number and a place
+-- The refusals 10 to 17 as rules of document 01, and 20 and 25 of 02, in plain facts, and the theorem that they are the refusals of the drawing: it is stopped with a number and a place
 -- exactly where the first moment stands that breaks a rule, by the first rule of the order that it breaks; and it finishes exactly when no moment breaks any.
 -- Assumes nothing.
 use mathlib.Core.Path.{_≡_, refl, sym, ap, ap₂, _∙_, subst}
@@ -13,7 +13,7 @@ use lib.ListN.{length}
 use Rattle.definition.specs.declared.Refusal.{Refusal}
 use Rattle.definition.specs.Limits.{mostDefinitions, deepest, mostCalls, mostShapes}
 use Rattle.definition.specs.Words.{if_then_else_, none?}
-use Rattle.definition.specs.Rules.{Rule, tooManyDefinitions, tooFewWords, offTheAxes, undefinedSymbol, beingDrawn, tooDeep, tooManyCalls, outOfRange, tooManyShapes, refuse}
+use Rattle.definition.specs.Rules.{Rule, tooManyDefinitions, tooFewWords, offTheAxes, undefinedSymbol, beingDrawn, tooDeep, tooManyCalls, xOutOfRange, yOutOfRange, tooManyShapes, refuse}
 use Rattle.definition.specs.Commands.{Shape, Turn}
 use Rattle.definition.specs.Turns.{moved}
 use Rattle.definition.specs.Table.{Definition, Table, find, enter}
@@ -23,10 +23,10 @@ use Rattle.definition.specs.Counts.{Counts, counts, End, finished, stopped, cou
 use Rattle.laws.proofs.Lists.Joined.{ending-++}
 use Rattle.laws.proofs.Rules.Order.{rank, Earlier, one-rank, one-rule}
 use Rattle.laws.proofs.Story.Moments.{Act, calling, drawing, entering, removing, Moment, moment, callEvent, eventOf, eventAt, events, events-++, moments, story-events}
-use Rattle.laws.proofs.Story.Decides.{Decides, holds, fails, Among, Askew, Defined, BeingDrawn, FinallyBeyond}
-use Rattle.laws.proofs.Story.Decides.{off-axes-decides, undefined-decides, being-drawn-decides, depth-decides, ltb-decides, final-point-decides}
+use Rattle.laws.proofs.Story.Decides.{Decides, holds, fails, Among, Askew, Defined, BeingDrawn, FinallyBeyondX, FinallyBeyondY}
+use Rattle.laws.proofs.Story.Decides.{off-axes-decides, undefined-decides, being-drawn-decides, depth-decides, ltb-decides, final-x-decides, final-y-decides}
 
--- 01, "Numbers a refusal carries", the rows 10 to 17, and 25 of 02: what an act breaks where so many words are lent, the counts are c, the table t, the
+-- 01, "Numbers a refusal carries", the rows 10 to 17, and 20 and 25 of 02: what an act breaks where so many words are lent, the counts are c, the table t, the
 -- open calls `chain` and their transformations `net`
 pub data Broken (words : ℕ) (c : Counts) (t : Table) (chain : Chain) (net : List (Turn ℤ)) : Act → Rule → Type 0 where
   -- 513 live definitions
@@ -43,8 +43,10 @@ pub data Broken (words : ℕ) (c : Counts) (t : Table) (chain : Chain) (net : Li
   deep : {n : ℕ} {ts : List (Turn ℤ)} → deepest < length chain + 1 → Broken words c t chain net (calling n ts) tooDeep
   -- call 1,048,577
   many-calls : {n : ℕ} {ts : List (Turn ℤ)} → mostCalls < c .calls + 1 → Broken words c t chain net (calling n ts) tooManyCalls
-  -- a final point beyond 16,777,215
-  far : {l : List ℕ} {k : Shape ℤ} → FinallyBeyond net k → Broken words c t chain net (drawing l k) outOfRange
+  -- a final point whose x is beyond 16,777,215
+  far-x : {l : List ℕ} {k : Shape ℤ} → FinallyBeyondX net k → Broken words c t chain net (drawing l k) xOutOfRange
+  -- a final point whose y is; that 16 comes before it the order says
+  far-y : {l : List ℕ} {k : Shape ℤ} → FinallyBeyondY net k → Broken words c t chain net (drawing l k) yOutOfRange
   -- shape 1,048,577
   many-shapes : {l : List ℕ} {k : Shape ℤ} → mostShapes < c .shapes + 1 → Broken words c t chain net (drawing l k) tooManyShapes
 
@@ -141,28 +143,31 @@ module _ (words : ℕ) (c : Counts) (t : Table) (chain : Chain) (net : List (Tur
         go (fails x) (some d) (fails y) = found-met x y d (being-drawn-decides n chain) (depth-decides (length chain))
 
   module _ (l : List ℕ) (k : Shape ℤ) where
-    shape-rule : (top : ℕ) → (rank outOfRange < top → FinallyBeyond net k → ⊥)
+    shape-rule : (top : ℕ) → (rank xOutOfRange < top → FinallyBeyondX net k → ⊥) → (rank yOutOfRange < top → FinallyBeyondY net k → ⊥)
         → (rank tooManyShapes < top → mostShapes < c .shapes + 1 → ⊥) → (i : Rule) → rank i < top → Broken words c t chain net (drawing l k) i → ⊥
-    shape-rule top a b i h (far x) = a h x
-    shape-rule top a b i h (many-shapes x) = b h x
+    shape-rule top a b d i h (far-x x) = a h x
+    shape-rule top a b d i h (far-y x) = b h x
+    shape-rule top a b d i h (many-shapes x) = d h x
 
-    inside : {b : Bool} → (FinallyBeyond net k → ⊥) → Decides (c .shapes < mostShapes) b
+    inside : {b : Bool} → (FinallyBeyondX net k → ⊥) → (FinallyBeyondY net k → ⊥) → Decides (c .shapes < mostShapes) b
         → Met words c (moment t chain net p (drawing l k)) (if b then finished (counts (c .calls) (c .shapes + 1) (c .redefinitions)) else stopped (refuse tooManyShapes p) chain)
     unfolding tallyOf
-    inside x (holds y) = goes-on (λ i. shape-rule (suc (rank i)) (λ h. x) (omega arith) i (omega arith))
-    inside x (fails y) =
+    inside x y (holds z) = goes-on (λ i. shape-rule (suc (rank i)) (λ h. x) (λ h. y) (omega arith) i (omega arith))
+    inside x y (fails z) =
         let many : mostShapes < c .shapes + 1 = omega arith in
-        stops (record { breaks = many-shapes many; none-earlier = shape-rule (rank tooManyShapes) (λ h. x) (omega arith) })
+        stops (record { breaks = many-shapes many; none-earlier = shape-rule (rank tooManyShapes) (λ h. x) (λ h. y) (omega arith) })
 
     shape-met : Met words c (moment t chain net p (drawing l k)) (counted c (eventOf words t chain net p (drawing l k)))
     unfolding eventOf drawShape counted
-    shape-met = go (final-point-decides net k)
+    shape-met = go (final-x-decides net k) (final-y-decides net k)
       where
-        go : {a : Bool} → Decides (FinallyBeyond net k) a
+        go : {a b : Bool} → Decides (FinallyBeyondX net k) a → Decides (FinallyBeyondY net k) b
             → Met words c (moment t chain net p (drawing l k))
-            (counted c (if a then refused (refuse outOfRange p) chain else drew (record { place = p; chain = chain; net = net; layer-of = l; itself = moved net k })))
-        go (holds x) = stops (record { breaks = far x; none-earlier = shape-rule (rank outOfRange) (omega arith) (omega arith) })
-        go (fails x) = inside x (ltb-decides (c .shapes) mostShapes)
+            (counted c (if a then refused (refuse xOutOfRange p) chain else if b then refused (refuse yOutOfRange p) chain
+            else drew (record { place = p; chain = chain; net = net; layer-of = l; itself = moved net k })))
+        go (holds x) y = stops (record { breaks = far-x x; none-earlier = shape-rule (rank xOutOfRange) (omega arith) (omega arith) (omega arith) })
+        go (fails x) (holds y) = stops (record { breaks = far-y y; none-earlier = shape-rule (rank yOutOfRange) (λ h. x) (omega arith) (omega arith) })
+        go (fails x) (fails y) = inside x y (ltb-decides (c .shapes) mostShapes)
 
   enter-rule : (d : Definition) (top : ℕ) → (rank tooManyDefinitions < top → mostDefinitions < length (enter d t) → ⊥)
       → (rank tooFewWords < top → words < wordsIn (enter d t) → ⊥) → (k : Rule) → rank k < top → Broken words c t chain net (entering d) k → ⊥
@@ -192,6 +197,62 @@ module _ (words : ℕ) (c : Counts) (t : Table) (chain : Chain) (net : List (Tur
 
 pub met : (words : ℕ) (c : Counts) (m : Moment) → Met words c m (counted c (eventAt words m))
 met words c m = act-met words c (m .table) (m .chain) (m .net) (m .place) (m .act)
+
+-- 16 and 20: only a shape breaks them; 16 is of one with some x beyond the range, whatever else it breaks, and 20 of one whose x are all good and some y is not
+pub record ShapeFar (Far : List (Turn ℤ) → Shape ℤ → Type 0) (m : Moment) : Type 0 where
+  pub layer : List ℕ
+  pub itself : Shape ℤ
+  pub is : m .act ≡ drawing layer itself
+  pub far : Far (m .net) itself
+
+abbrev pub FarInX : List (Turn ℤ) → Shape ℤ → Type 0
+FarInX net k = FinallyBeyondX net k
+
+abbrev pub FarInY : List (Turn ℤ) → Shape ℤ → Type 0
+FarInY net k = (FinallyBeyondX net k → ⊥) × FinallyBeyondY net k
+
+module _ {words : ℕ} {c : Counts} where
+  pub x-foremost : {t : Table} {chain : Chain} {net : List (Turn ℤ)} {p : ℕ} {l : List ℕ} {k : Shape ℤ} → FarInX net k
+      → Foremost words c (moment t chain net p (drawing l k)) xOutOfRange
+  x-foremost {t} {chain} {net} {p} {l} {k} x =
+      record { breaks = far-x x; none-earlier = shape-rule words c t chain net p l k (rank xOutOfRange) (omega arith) (omega arith) (omega arith) }
+
+  pub y-foremost : {t : Table} {chain : Chain} {net : List (Turn ℤ)} {p : ℕ} {l : List ℕ} {k : Shape ℤ} → FarInY net k
+      → Foremost words c (moment t chain net p (drawing l k)) yOutOfRange
+  y-foremost {t} {chain} {net} {p} {l} {k} y =
+      record { breaks = far-y (y .1); none-earlier = shape-rule words c t chain net p l k (rank yOutOfRange) (λ h. y .0) (omega arith) (omega arith) }
+
+  -- a rule that a call or a definition breaks is neither
+  x-broken : {t : Table} {chain : Chain} {net : List (Turn ℤ)} {p : ℕ} {a : Act} {r : Rule} → Broken words c t chain net a r → r ≡ xOutOfRange → ShapeFar FarInX (moment t chain net p a)
+  x-broken (live x) e = absurd (omega (arith, ap rank e))
+  x-broken (few-words x) e = absurd (omega (arith, ap rank e))
+  x-broken (off-axes x) e = absurd (omega (arith, ap rank e))
+  x-broken (undefined x) e = absurd (omega (arith, ap rank e))
+  x-broken (being-drawn x) e = absurd (omega (arith, ap rank e))
+  x-broken (deep x) e = absurd (omega (arith, ap rank e))
+  x-broken (many-calls x) e = absurd (omega (arith, ap rank e))
+  x-broken (far-x {l} {k} x) e = record { layer = l; itself = k; is = refl; far = x }
+  x-broken (far-y x) e = absurd (omega (arith, ap rank e))
+  x-broken (many-shapes x) e = absurd (omega (arith, ap rank e))
+
+  y-broken : {t : Table} {chain : Chain} {net : List (Turn ℤ)} {p : ℕ} {a : Act} {r : Rule} → Broken words c t chain net a r → r ≡ yOutOfRange
+      → (Broken words c t chain net a xOutOfRange → ⊥) → ShapeFar FarInY (moment t chain net p a)
+  y-broken (live x) e g = absurd (omega (arith, ap rank e))
+  y-broken (few-words x) e g = absurd (omega (arith, ap rank e))
+  y-broken (off-axes x) e g = absurd (omega (arith, ap rank e))
+  y-broken (undefined x) e g = absurd (omega (arith, ap rank e))
+  y-broken (being-drawn x) e g = absurd (omega (arith, ap rank e))
+  y-broken (deep x) e g = absurd (omega (arith, ap rank e))
+  y-broken (many-calls x) e g = absurd (omega (arith, ap rank e))
+  y-broken (far-x x) e g = absurd (omega (arith, ap rank e))
+  y-broken (far-y {l} {k} y) e g = record { layer = l; itself = k; is = refl; far = (λ x. g (far-x x), y) }
+  y-broken (many-shapes x) e g = absurd (omega (arith, ap rank e))
+
+  pub x-only : {m : Moment} → Foremost words c m xOutOfRange → ShapeFar FarInX m
+  x-only {m} f = x-broken {p = m .place} (f .breaks) refl
+
+  pub y-only : {m : Moment} → Foremost words c m yOutOfRange → ShapeFar FarInY m
+  y-only {m} f = y-broken {p = m .place} (f .breaks) refl (f .none-earlier xOutOfRange (omega arith))
 
 -- ---- a list of moments
 

@@ -10,7 +10,7 @@ use lib.Dec.{eqb}
 use lib.ListN.{getD}
 use Rattle.definition.specs.declared.Refusal.{Refusal}
 use Rattle.definition.specs.Rules.{Rule, textTooLong, notInGrammar, numberTooLarge, zeroFactor, scaledTooLarge, degenerateCommand, noLayer}
-use Rattle.definition.specs.Rules.{tooManyParts, tooManyDefinitions, tooFewWords, offTheAxes, undefinedSymbol, beingDrawn, tooDeep, tooManyCalls, outOfRange}
+use Rattle.definition.specs.Rules.{tooManyParts, tooManyDefinitions, tooFewWords, offTheAxes, undefinedSymbol, beingDrawn, tooDeep, tooManyCalls, xOutOfRange, yOutOfRange}
 use Rattle.definition.specs.Rules.{tooManyShapes, flatFileTooLong, numberOf, refuse, order}
 use Rattle.definition.specs.Words.{if_then_else_}
 
@@ -32,8 +32,11 @@ pub record Between (a b r : Rule) : Type 0 where
 abbrev pub ByCommand : Rule → Type 0  -- 01, refusals 3 to 9
 ByCommand r = Between numberTooLarge tooManyParts r
 
-abbrev pub ByDrawing : Rule → Type 0  -- 01, refusals 10 to 17; 02, 25
+abbrev pub ByDrawing : Rule → Type 0  -- 01, refusals 10 to 17; 02, 20 and 25
 ByDrawing r = Between tooManyDefinitions tooManyShapes r
+
+abbrev pub UnderCalls : Rule → Type 0  -- those of them that can be broken where calls are open: 11 to 17, and 20
+UnderCalls r = Between offTheAxes tooManyShapes r
 
 -- every rule stands in the order
 standing-there : (r : Rule) → getD order (rank r) textTooLong ≡ r
@@ -52,7 +55,8 @@ standing-there undefinedSymbol = refl
 standing-there beingDrawn = refl
 standing-there tooDeep = refl
 standing-there tooManyCalls = refl
-standing-there outOfRange = refl
+standing-there xOutOfRange = refl
+standing-there yOutOfRange = refl
 standing-there tooManyShapes = refl
 standing-there flatFileTooLong = refl
 
@@ -82,7 +86,8 @@ number-from-1 undefinedSymbol = omega arith
 number-from-1 beingDrawn = omega arith
 number-from-1 tooDeep = omega arith
 number-from-1 tooManyCalls = omega arith
-number-from-1 outOfRange = omega arith
+number-from-1 xOutOfRange = omega arith
+number-from-1 yOutOfRange = omega arith
 number-from-1 tooManyShapes = omega arith
 number-from-1 flatFileTooLong = omega arith
 
@@ -103,6 +108,7 @@ number-not-5 undefinedSymbol e = omega arith
 number-not-5 beingDrawn e = omega arith
 number-not-5 tooDeep e = omega arith
 number-not-5 tooManyCalls e = omega arith
-number-not-5 outOfRange e = omega arith
+number-not-5 xOutOfRange e = omega arith
+number-not-5 yOutOfRange e = omega arith
 number-not-5 tooManyShapes e = omega arith
 number-not-5 flatFileTooLong e = omega arith

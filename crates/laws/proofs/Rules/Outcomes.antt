@@ -44,7 +44,7 @@ flatLength m = length (flat (shapesOf (drawingOf (commands 0 m))))
 abbrev pub TooLong : (flat-file room : ℕ) → Type 0
 TooLong n room = (room < n) ⊎ (mostBytes < n)
 
--- the ways to a refusal, in the order of 01: 1; then 2; then 3 to 9; then 10 to 17 and 25; then 18
+-- the ways to a refusal, in the order of 01: 1; then 2; then 3 to 9; then 10 to 17, 20 and 25; then 18
 pub data Way (t : List ℕ) (words room : ℕ) : Rule → (place : ℕ) → Chain → Type 0 where
   by-length : mostBytes < length t → Way t words room textTooLong 0 []
   by-grammar : {n : ℕ} → length t ≤ mostBytes → (Grammatical t → ⊥) → LongestViable t n → Way t words room notInGrammar n []

@@ -13,7 +13,7 @@ use lib.IntN.{ℤ, pos, negsuc, natAbs}
 use Rattle.definition.specs.Limits.{largest, deepest}
 use Rattle.definition.specs.Words.{if_then_else_, Placed, Point, any, none?}
 use Rattle.definition.specs.Commands.{Shape, Turn, translate, mirrorX, mirrorY, rotate}
-use Rattle.definition.specs.Faults.{beyond, both, zero?, bearings}
+use Rattle.definition.specs.Faults.{beyond, zero?, bearings}
 use Rattle.definition.specs.Turns.{+x, +y, -x, -y, negative, heading, act, inOrder, moved, offAxes}
 use Rattle.definition.specs.Table.{Definition, Table, find}
 use Rattle.definition.specs.Drawing.{Chain}
@@ -166,40 +166,26 @@ being-drawn-decides n chain = any-decides (λ (c : Placed ℕ). c .what ≡ n) (
 pub depth-decides : (depth : ℕ) → Decides (deepest < depth + 1) (eqb (deepest - depth) 0)
 depth-decides depth = decides (λ e. omega arith) (λ h. omega arith) (eqb-decides (deepest - depth) 0)
 
--- 01, refusal 16: a point beyond 16,777,215
-abbrev pub Beyond : Point ℤ → Type 0
-Beyond p = (largest < natAbs (p .x)) ⊎ (largest < natAbs (p .y))
+-- 01, refusal 16, and 20 of 02: of a shape's points, in their final places, some x, or some y, lies beyond 16,777,215
+module _ (axis : Point ℤ → ℤ) (f : Point ℤ → Point ℤ) where
+  abbrev Out : Point ℤ → Type 0
+  Out p = largest < natAbs (axis (f p))
 
-final-decides : (f : Point ℤ → Point ℤ) (ps : List (Point ℤ)) → Decides (Among (λ (p : Point ℤ). Beyond (f p)) ps) (any beyond (both (map f ps)))
-unfolding any beyond
-final-decides f [] = fails (among-none (λ (p : Point ℤ). Beyond (f p)))
-final-decides f (p ∷ ps) =
-    decides (λ h. among-joined Out (left h)) (λ h. right (among-cases Out h))
-    (decides-or (ltb-decides largest (natAbs (f p .x))) (decides-or (ltb-decides largest (natAbs (f p .y))) (final-decides f ps)))
-  where
-    Out : Point ℤ → Type 0
-    Out q = Beyond (f q)
+  final-decides : (ps : List (Point ℤ)) → Decides (Among Out ps) (any (λ q. beyond (axis q)) (map f ps))
+  unfolding any beyond
+  final-decides [] = fails (among-none Out)
+  final-decides (p ∷ ps) = decides (among-joined Out) (among-cases Out) (decides-or (ltb-decides largest (natAbs (axis (f p)))) (final-decides ps))
 
-    X : Type 0
-    X = largest < natAbs (f p .x)
+abbrev pub FinallyBeyondX : List (Turn ℤ) → Shape ℤ → Type 0
+FinallyBeyondX net k = Among (λ (p : Point ℤ). largest < natAbs (inOrder act net p .x)) (k .points)
 
-    Y : Type 0
-    Y = largest < natAbs (f p .y)
+abbrev pub FinallyBeyondY : List (Turn ℤ) → Shape ℤ → Type 0
+FinallyBeyondY net k = Among (λ (p : Point ℤ). largest < natAbs (inOrder act net p .y)) (k .points)
 
-    left : X ⊎ (Y ⊎ Among Out ps) → (X ⊎ Y) ⊎ Among Out ps
-    left (inl h) = inl (inl h)
-    left (inr (inl h)) = inl (inr h)
-    left (inr (inr h)) = inr h
-
-    right : (X ⊎ Y) ⊎ Among Out ps → X ⊎ (Y ⊎ Among Out ps)
-    right (inl (inl h)) = inl h
-    right (inl (inr h)) = inr (inl h)
-    right (inr h) = inr (inr h)
-
--- a point of the shape, in its final place
-abbrev pub FinallyBeyond : List (Turn ℤ) → Shape ℤ → Type 0
-FinallyBeyond net k = Among (λ (p : Point ℤ). Beyond (inOrder act net p)) (k .points)
-
-pub final-point-decides : (net : List (Turn ℤ)) (k : Shape ℤ) → Decides (FinallyBeyond net k) (any beyond (both (moved net k .points)))
+pub final-x-decides : (net : List (Turn ℤ)) (k : Shape ℤ) → Decides (FinallyBeyondX net k) (any (λ q. beyond (q .x)) (moved net k .points))
 unfolding moved
-final-point-decides net k = final-decides (inOrder act net) (k .points)
+final-x-decides net k = final-decides (λ q. q .x) (inOrder act net) (k .points)
+
+pub final-y-decides : (net : List (Turn ℤ)) (k : Shape ℤ) → Decides (FinallyBeyondY net k) (any (λ q. beyond (q .y)) (moved net k .points))
+unfolding moved
+final-y-decides net k = final-decides (λ q. q .y) (inOrder act net) (k .points)

@@ -1,25 +1,28 @@
--- The calls that are open at a moment: at most 32, no two of one symbol, and each of a symbol that the table defines.
+-- The calls that are open at a moment: at most 32, no two of one symbol, and each of a symbol that the table defines. So whatever happens, and whatever
+-- stops a drawing, at most 32 calls are open there.
 -- Assumes nothing.
 use mathlib.Core.Path.{_≡_, refl, sym, ap, subst}
-use mathlib.Core.Bool.{Bool}
-use mathlib.Core.List.{List, [], _∷_, _++_, List·Memᴰ, List·Memᴰ·append-cases, List·Memᴰ·eq-of-singleton}
+use mathlib.Core.Bool.{Bool, true, false}
+use mathlib.Core.List.{List, [], _∷_, _++_, map, List·Memᴰ, List·Memᴰ·append-cases, List·Memᴰ·eq-of-singleton}
 use mathlib.Core.Logic.{_⊎_, inl, inr}
-use Prim.Native.Nat.{ℕ, zero, suc, _+_, _≤_, _<_}
+use Prim.Native.Nat.{ℕ, zero, suc, _+_, _-_, _≤_, _<_}
 use native.Mathlib.Omega.{arith}
-use lib.Dec.{eqb}
+use lib.Dec.{ltb, eqb}
 use lib.IntN.{ℤ}
 use lib.ListN.{length, length-append}
-use Rattle.definition.specs.Limits.{deepest}
-use Rattle.definition.specs.Rules.{Rule, undefinedSymbol, beingDrawn}
-use Rattle.definition.specs.Words.{Placed, at}
+use Rattle.definition.specs.Limits.{mostDefinitions, deepest}
+use Rattle.definition.specs.Rules.{Rule, tooManyDefinitions, tooFewWords, undefinedSymbol, beingDrawn, refuse}
+use Rattle.definition.specs.Words.{if_then_else_, Placed, at}
 use Rattle.definition.specs.Commands.{Turn}
-use Rattle.definition.specs.Table.{Step, shape, instance, setting, Definition, Table}
-use Rattle.definition.specs.Drawing.{Deed, output, define, remove, Chain, Event, called, drew, entered, removed, refused, tableAfter}
-use Rattle.definition.specs.Counts.{counts, End, finished, counted}
-use Rattle.laws.proofs.Lists.Range.{All, all-++}
-use Rattle.laws.proofs.Story.Moments.{calling, Moment, moment, eventOf, eventAt, followed, stepMoments, bodyMoments, callMoments, deedMoments, moments}
+use Rattle.definition.specs.Table.{Step, shape, instance, setting, Definition, Table, enter}
+use Rattle.definition.specs.Drawing.{Deed, output, define, remove, Chain, Event, called, drew, entered, removed, refused, Passage, barred, leads, passageOf, tableAfter, story}
+use Rattle.definition.specs.Held.{wordsIn, heldTo}
+use Rattle.definition.specs.Counts.{Counts, counts, End, finished, counted}
+use Rattle.laws.proofs.Lists.Range.{All, all-++, all-at}
+use Rattle.laws.proofs.Story.Moments.{Act, calling, drawing, entering, removing, Moment, moment, callEvent, eventOf, eventAt, events, story-events, followed, stepMoments, bodyMoments, callMoments, deedMoments, moments}
 use Rattle.laws.proofs.Story.Decides.{Decides, holds, fails, Among, Defined, BeingDrawn, any-decides, eqb-decides, among-first, among-later, among-none}
-use Rattle.laws.proofs.Rules.DrawingRules.{Breaks, undefined, being-drawn, Met, goes-on, stops, met}
+use Rattle.laws.proofs.Rules.DrawingRules.{Breaks, undefined, being-drawn, Met, goes-on, stops, met, FirstStop}
+use Rattle.laws.proofs.Story.Axes.{by-axes}
 use Rattle.laws.proofs.Story.Counting.{not-finished}
 
 -- no symbol stands twice
@@ -150,3 +153,45 @@ moments-opened t (d ∷ ds) =
     all-++ OpenCalls (deedMoments t d) (moments (tableAfter t d) ds)
     (all-map (OpenedAt t) OpenCalls (λ m x. subst (λ (u : Table). Opened u (m .chain)) (sym (x .table-is)) (x .opened)) (deedMoments t d) (open-deed t d))
     (moments-opened (tableAfter t d) ds)
+
+-- the calls open at what happens; a definition is entered and removed outside of calls
+abbrev pub chainOf : Event → Chain
+chainOf (called p chain d) = chain
+chainOf (drew d) = d .chain
+chainOf (entered d before) = []
+chainOf (removed n before) = []
+chainOf (refused r chain) = chain
+
+abbrev pub Shallow : Event → Type 0
+Shallow e = length (chainOf e) ≤ deepest
+
+call-shallow : (o : Passage) (p : ℕ) (chain : Chain) → length chain ≤ deepest → Shallow (callEvent o p chain)
+unfolding callEvent
+call-shallow (barred r) p chain h = h
+call-shallow (leads d) p chain h = h
+
+act-shallow : (words : ℕ) (t : Table) (chain : Chain) (net : List (Turn ℤ)) (p : ℕ) (a : Act) → length chain ≤ deepest → Shallow (eventOf words t chain net p a)
+unfolding eventOf
+act-shallow words t chain net p (calling n ts) h = call-shallow (passageOf (deepest - length chain) t chain n ts) p chain h
+act-shallow words t chain net p (drawing l k) h = by-axes chain net p l k Shallow h h (λ e. h)
+act-shallow words t chain net p (entering d) h = go (ltb mostDefinitions (length (enter d t))) (ltb words (wordsIn (enter d t)))
+  where
+    go : (a b : Bool) → Shallow (if a then refused (refuse tooManyDefinitions p) chain else if b then refused (refuse tooFewWords p) chain else entered d t)
+    go true b = h
+    go false true = h
+    go false false = omega arith
+act-shallow words t chain net p (removing n) h = omega arith
+
+events-shallow : (words : ℕ) (ms : List Moment) → All OpenCalls ms → All Shallow (events words ms)
+unfolding All
+events-shallow words [] x = tt
+events-shallow words (m ∷ ms) x = (act-shallow words (m .table) (m .chain) (m .net) (m .place) (m .act) (x .0 .few), events-shallow words ms (x .1))
+
+-- 02, P4: at every refusal of a story, and wherever else it comes
+pub story-shallow : (words : ℕ) (t : Table) (ds : List Deed) → All Shallow (map (heldTo words) (story t ds))
+story-shallow words t ds = rw (story-events words t ds) (events-shallow words (moments t ds) (moments-opened t ds))
+
+-- and where a drawing is stopped
+pub stop-shallow : (t : Table) (ds : List Deed) {words : ℕ} {c : Counts} {rule : Rule} {p : ℕ} {chain : Chain} → FirstStop words c (moments t ds) rule p chain → length chain ≤ deepest
+stop-shallow t ds f =
+    subst (λ (x : Chain). length x ≤ deepest) (sym (f .chain-is)) (all-at OpenCalls (f .before) (f .it) (f .after) (subst (All OpenCalls) (f .parts) (moments-opened t ds)) .few)

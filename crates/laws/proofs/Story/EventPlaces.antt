@@ -1,5 +1,5 @@
 -- What holds of the place of every command holds of every place that the drawing names: of what is drawn, of a refusal, and of the calls open
--- there. And a drawing is stopped by a rule of 10 to 17.
+-- there. And a drawing is stopped by a rule of 10 to 17, 20 or 25, with no calls open at 10 and 25.
 -- Assumes nothing.
 use mathlib.Core.Path.{_≡_, refl, subst}
 use mathlib.Core.Bool.{Bool, true, false}
@@ -13,11 +13,10 @@ use lib.ListN.{length}
 use Rattle.definition.specs.declared.Refusal.{Refusal}
 use Rattle.definition.specs.Limits.{mostDefinitions, deepest, mostCalls, mostShapes}
 use Rattle.definition.specs.Words.{if_then_else_, Placed, at, any, those}
-use Rattle.definition.specs.Rules.{Rule, tooManyDefinitions, tooFewWords, offTheAxes, beingDrawn, tooDeep, tooManyCalls, outOfRange, tooManyShapes, refuse}
+use Rattle.definition.specs.Rules.{Rule, tooManyDefinitions, tooFewWords, offTheAxes, beingDrawn, tooDeep, tooManyCalls, xOutOfRange, yOutOfRange, tooManyShapes, refuse}
 use Rattle.definition.specs.Commands.{Shape, Turn, Command, draw, layer, call, start, finish, delete, nothing}
 use Rattle.definition.specs.Standing.{Standing, outside, after}
-use Rattle.definition.specs.Faults.{beyond, both}
-use Rattle.definition.specs.Turns.{moved, offAxes}
+use Rattle.definition.specs.Turns.{offAxes}
 use Rattle.definition.specs.Table.{Step, shape, instance, setting, Definition, Table, find, enter, forget}
 use Rattle.definition.specs.Drawing.{stepOf, retained, Deed, output, define, remove, deedOf, deeds, Chain, Event, called, drew, entered, removed, refused}
 use Rattle.definition.specs.Drawing.{drawShape, drawStep, drawBody, Passage, barred, leads, passageTo, passageOf, through, drawCall, happens, tableAfter, story}
@@ -25,7 +24,8 @@ use Rattle.definition.specs.Held.{wordsIn, heldTo}
 use Rattle.definition.specs.Counts.{Counts, counts, End, finished, stopped, counted, goOn, ending}
 use Rattle.definition.specs.Answer.{drawingOf, heldDrawing}
 use Rattle.laws.proofs.Lists.Range.{All, all-++}
-use Rattle.laws.proofs.Rules.Order.{ByDrawing}
+use Rattle.laws.proofs.Rules.Order.{ByDrawing, UnderCalls}
+use Rattle.laws.proofs.Story.Axes.{by-axes}
 
 -- what holds of every entry of a table is kept as the table changes, and holds of what is found
 module _ (P : Definition → Type 0) where
@@ -84,6 +84,7 @@ module _ (P : ℕ → Type 0) where
     pub is : r ≡ refuse rule (r .place)
     pub place : P (r .place)
     pub open-calls : AtChain chain
+    pub calls-only : (UnderCalls rule → ⊥) → chain ≡ []
 
   abbrev pub AtEvent : Event → Type 0
   AtEvent (called p chain d) = P p × AtChain chain
@@ -133,16 +134,29 @@ module _ (P : ℕ → Type 0) where
 
   -- ---- from deeds to events
 
-  refuses : (r : Rule) {p : ℕ} {chain : Chain} → ByDrawing r → P p → AtChain chain → Refuses (refuse r p) chain
-  refuses r b h x = record { rule = r; by-drawing = b; is = refl; place = h; open-calls = x }
+  refuses : (r : Rule) {p : ℕ} {chain : Chain} → UnderCalls r → P p → AtChain chain → Refuses (refuse r p) chain
+  refuses r b h x =
+      let least = b .least in
+      let most = b .most in
+      record {
+        rule = r;
+        by-drawing = record { least = omega arith; most = omega arith };
+        is = refl;
+        place = h;
+        open-calls = x;
+        calls-only = λ n. absurd (n b);
+      }
+
+  refuses-entry : (r : Rule) {p : ℕ} → ByDrawing r → P p → Refuses (refuse r p) []
+  unfolding All
+  refuses-entry r b h = record { rule = r; by-drawing = b; is = refl; place = h; open-calls = tt; calls-only = λ n. refl }
 
   shape-at : (chain : Chain) (net : List (Turn ℤ)) (p : ℕ) (l : List ℕ) (k : Shape ℤ) → P p → AtChain chain → AtEvent (drawShape chain net p l k)
-  unfolding drawShape
-  shape-at chain net p l k h x = go (any beyond (both (moved net k .points)))
-    where
-      go : (b : Bool) → AtEvent (if b then refused (refuse outOfRange p) chain else drew (record { place = p; chain = chain; net = net; layer-of = l; itself = moved net k }))
-      go true = refuses outOfRange (record { least = omega arith; most = omega arith }) h x
-      go false = (h, x)
+  shape-at chain net p l k h x =
+      by-axes chain net p l k AtEvent
+      (refuses xOutOfRange (record { least = omega arith; most = omega arith }) h x)
+      (refuses yOutOfRange (record { least = omega arith; most = omega arith }) h x)
+      (λ e. (h, x))
 
   module _ (f : ℕ → ℕ → List (Turn ℤ) → List Event) (call-at : (p n : ℕ) (ts : List (Turn ℤ)) → P p → All AtEvent (f p n ts)) (chain : Chain) (calls : AtChain chain) where
     step-at : (net : List (Turn ℤ)) (p : ℕ) (s : Step) → P p → All AtEvent (drawStep f chain net p s)
@@ -158,7 +172,7 @@ module _ (P : ℕ → Type 0) where
 
   -- the rule that bars a call, or the definition that it leads to
   abbrev AtPassage : Passage → Type 0
-  AtPassage (barred r) = ByDrawing r
+  AtPassage (barred r) = UnderCalls r
   AtPassage (leads d) = AtEntry d
 
   passage-at : (left : ℕ) (t : Table) (chain : Chain) (n : ℕ) (ts : List (Turn ℤ)) → All AtEntry t → AtPassage (passageOf left t chain n ts)
@@ -198,7 +212,7 @@ module _ (P : ℕ → Type 0) where
   happens-at t (define d) x h = (go (ltb mostDefinitions (length (enter d t))), tt)
     where
       go : (b : Bool) → AtEvent (if b then refused (refuse tooManyDefinitions (d .place)) [] else entered d t)
-      go true = refuses tooManyDefinitions (record { least = omega arith; most = omega arith }) (h .own) tt
+      go true = refuses-entry tooManyDefinitions (record { least = omega arith; most = omega arith }) (h .own)
       go false = h .own
   happens-at t (remove n) x h = (tt, tt)
 
@@ -224,7 +238,7 @@ module _ (P : ℕ → Type 0) where
   held-one-at words (entered d before) x = go (ltb words (wordsIn (enter d before)))
     where
       go : (b : Bool) → AtEvent (if b then refused (refuse tooFewWords (d .place)) [] else entered d before)
-      go true = refuses tooFewWords (record { least = omega arith; most = omega arith }) x tt
+      go true = refuses-entry tooFewWords (record { least = omega arith; most = omega arith }) x
       go false = x
   held-one-at words (called p chain d) x = x
   held-one-at words (drew d) x = x

@@ -1,6 +1,6 @@
 -- What moving makes of every shape that a step may draw holds of every shape drawn: the one walk through the drawing, for any property of shapes.
 -- Assumes nothing.
-use mathlib.Core.Path.{_≡_, refl}
+use mathlib.Core.Path.{_≡_}
 use mathlib.Core.Bool.{Bool, true, false}
 use mathlib.Core.List.{List, [], _∷_, _++_, map}
 use mathlib.Core.Option.{Option, none, some}
@@ -10,7 +10,7 @@ use lib.IntN.{ℤ}
 use lib.ListN.{length}
 use Rattle.definition.specs.Limits.{mostDefinitions, deepest}
 use Rattle.definition.specs.Words.{if_then_else_, Placed, at, any, those}
-use Rattle.definition.specs.Rules.{tooManyDefinitions, offTheAxes, beingDrawn, tooDeep, outOfRange, refuse}
+use Rattle.definition.specs.Rules.{tooManyDefinitions, offTheAxes, beingDrawn, tooDeep, refuse}
 use Rattle.definition.specs.Commands.{Shape, Turn, Command, draw, layer, call, start, finish, delete, nothing}
 use Rattle.definition.specs.Standing.{Standing, after}
 use Rattle.definition.specs.Faults.{beyond, both, faults, allFaults}
@@ -20,6 +20,7 @@ use Rattle.definition.specs.Drawing.{stepOf, retained, Deed, output, define, re
 use Rattle.definition.specs.Drawing.{drawShape, drawStep, drawBody, Passage, barred, leads, passageTo, passageOf, through, drawCall, happens, tableAfter, story}
 use Rattle.definition.specs.Counts.{shapesOf}
 use Rattle.laws.proofs.Lists.Range.{All, all-++, Within}
+use Rattle.laws.proofs.Story.Axes.{by-axes}
 use Rattle.laws.proofs.Commands.Sizes.{nil-left, nil-right, all-map}
 
 -- a step draws a shape of which P holds, or a call
@@ -90,13 +91,8 @@ module _ (P Q : List ℕ → Shape ℤ → Type 0)
   Fitting (refused r chain) = Unit {0}
 
   fit-shape : (chain : Chain) (net : List (Turn ℤ)) (p : ℕ) (l : List ℕ) (k : Shape ℤ) → P l k → Fitting (drawShape chain net p l k)
-  unfolding drawShape Fitting
-  fit-shape chain net p l k x = go (any beyond (both (moved net k .points))) refl
-    where
-      go : (b : Bool) → any beyond (both (moved net k .points)) ≡ b
-          → Fitting (if b then refused (refuse outOfRange p) chain else drew (record { place = p; chain = chain; net = net; layer-of = l; itself = moved net k }))
-      go true e = tt
-      go false e = moves net l k x e
+  unfolding Fitting
+  fit-shape chain net p l k x = by-axes chain net p l k Fitting tt tt (λ e. moves net l k x e)
 
   module _ (f : ℕ → ℕ → List (Turn ℤ) → List Event) (fits : (p n : ℕ) (ts : List (Turn ℤ)) → All Fitting (f p n ts)) where
     fit-draw : (chain : Chain) (net : List (Turn ℤ)) (p : ℕ) (s : Step) → StepP P s → All Fitting (drawStep f chain net p s)

@@ -1,4 +1,4 @@
--- What happens where a command is output: calls and shapes, and refusals by the rules 11 to 16, and nothing else. So what holds of these, whatever their places and their
+-- What happens where a command is output: calls and shapes, and refusals by the rules 11 to 16 and 20, and nothing else. So what holds of these, whatever their places and their
 -- open calls, holds of all that a call draws.
 -- Assumes nothing.
 use mathlib.Core.Bool.{Bool, true, false}
@@ -10,18 +10,18 @@ use lib.Dec.{eqb}
 use lib.IntN.{ℤ}
 use Rattle.definition.specs.Limits.{deepest}
 use Rattle.definition.specs.Words.{if_then_else_, Placed, at, any}
-use Rattle.definition.specs.Rules.{Rule, offTheAxes, beingDrawn, tooDeep, outOfRange, refuse}
+use Rattle.definition.specs.Rules.{Rule, offTheAxes, beingDrawn, tooDeep, xOutOfRange, yOutOfRange, refuse}
 use Rattle.definition.specs.Commands.{Shape, Turn}
-use Rattle.definition.specs.Faults.{beyond, both}
-use Rattle.definition.specs.Turns.{moved, offAxes}
+use Rattle.definition.specs.Turns.{offAxes}
 use Rattle.definition.specs.Table.{Step, shape, instance, setting, Definition, Table, find}
 use Rattle.definition.specs.Drawing.{output, Chain, Drawn, Event, called, drew, refused}
 use Rattle.definition.specs.Drawing.{drawShape, drawStep, drawBody, Passage, barred, leads, passageTo, passageOf, through, drawCall, happens}
 use Rattle.laws.proofs.Lists.Range.{All, all-++}
 use Rattle.laws.proofs.Rules.Order.{Between}
+use Rattle.laws.proofs.Story.Axes.{by-axes}
 
-abbrev pub ByOutput : Rule → Type 0  -- 01, refusals 11 to 16
-ByOutput r = Between offTheAxes outOfRange r
+abbrev pub ByOutput : Rule → Type 0  -- 01, refusals 11 to 16; 02, 20
+ByOutput r = Between offTheAxes yOutOfRange r
 
 pub record Outputs (P : Event → Type 0) : Type 0 where  -- what holds of a call, a shape and a refusal
   pub of-call : (p : ℕ) (chain : Chain) (d : Definition) → P (called p chain d)
@@ -30,12 +30,11 @@ pub record Outputs (P : Event → Type 0) : Type 0 where  -- what holds of a cal
 
 module _ (P : Event → Type 0) (o : Outputs P) where
   shape-event : (chain : Chain) (net : List (Turn ℤ)) (p : ℕ) (l : List ℕ) (k : Shape ℤ) → P (drawShape chain net p l k)
-  unfolding drawShape
-  shape-event chain net p l k = go (any beyond (both (moved net k .points)))
-    where
-      go : (b : Bool) → P (if b then refused (refuse outOfRange p) chain else drew (record { place = p; chain = chain; net = net; layer-of = l; itself = moved net k }))
-      go true = o .of-refusal outOfRange p chain (record { least = omega arith; most = omega arith })
-      go false = o .of-shape _
+  shape-event chain net p l k =
+      by-axes chain net p l k P
+      (o .of-refusal xOutOfRange p chain (record { least = omega arith; most = omega arith }))
+      (o .of-refusal yOutOfRange p chain (record { least = omega arith; most = omega arith }))
+      (λ e. o .of-shape _)
 
   module _ (f : ℕ → ℕ → List (Turn ℤ) → List Event) (call-events : (p n : ℕ) (ts : List (Turn ℤ)) → All P (f p n ts)) (chain : Chain) (net : List (Turn ℤ)) where
     pub step-events : (p : ℕ) (s : Step) → All P (drawStep f chain net p s)

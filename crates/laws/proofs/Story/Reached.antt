@@ -15,9 +15,9 @@ use Rattle.definition.specs.Commands.{Turn}
 use Rattle.definition.specs.Table.{Definition, Table, enter, forget}
 use Rattle.definition.specs.Drawing.{Deed, output, define, remove, Chain, tableAfter}
 use Rattle.definition.specs.Counts.{Counts, counts, shapesOf}
-use Rattle.laws.proofs.Lists.Range.{All}
+use Rattle.laws.proofs.Lists.Range.{All, all-at}
 use Rattle.laws.proofs.Story.Moments.{Act, entering, Moment, events, deedMoments, moments}
-use Rattle.laws.proofs.Rules.DrawingRules.{Broken, live, few-words, off-axes, undefined, being-drawn, deep, many-calls, far, many-shapes, tallied, tally, Unbroken, FirstStop, unbroken-first, unbroken-rest, passed}
+use Rattle.laws.proofs.Rules.DrawingRules.{Broken, live, few-words, off-axes, undefined, being-drawn, deep, many-calls, far-x, far-y, many-shapes, tallied, tally, Unbroken, FirstStop, unbroken-first, unbroken-rest, passed}
 use Rattle.laws.proofs.Story.Counting.{callsOf, redefinitionsOf, drawing-counts, drawing-few}
 use Rattle.laws.proofs.Story.Depth.{OpenedAt, OpenCalls, open-deed, moments-opened}
 
@@ -78,11 +78,6 @@ small-at words c (b ∷ before) m after x u = small-at words (tallied c b) befor
         λ h. unbroken-first words c b before u tooManyDefinitions (subst (λ (a : Act). Broken words c (b .table) (b .chain) (b .net) a tooManyDefinitions) (sym e) (live h)) in
         omega arith
 
-all-at : {A : Type 0} (P : A → Type 0) (before : List A) (a : A) (after : List A) → All P (before ++ (a ∷ after)) → P a
-unfolding All
-all-at P [] a after x = x .0
-all-at P (b ∷ before) a after x = all-at P before a after (x .1)
-
 -- the counts where a moment is reached are the numbers of the calls, shapes and redefinitions that happened before
 pub reached-counts : (words : ℕ) (before : List Moment) → Unbroken words (counts 0 0 0) before
     → tally (counts 0 0 0) before
@@ -115,7 +110,8 @@ JustOver (undefined x) = Unit {0}
 JustOver (being-drawn x) = Unit {0}
 JustOver {chain} (deep x) = length chain + 1 ≡ deepest + 1
 JustOver {c} (many-calls x) = c .calls + 1 ≡ mostCalls + 1
-JustOver (far x) = Unit {0}
+JustOver (far-x x) = Unit {0}
+JustOver (far-y x) = Unit {0}
 JustOver {c} (many-shapes x) = c .shapes + 1 ≡ mostShapes + 1
 
 just-over : {words : ℕ} {c : Counts} {t : Table} {chain : Chain} {net : List (Turn ℤ)} {a : Act} {rule : Rule}
@@ -128,7 +124,8 @@ just-over f g h i (undefined x) = tt
 just-over f g h i (being-drawn x) = tt
 just-over f g h i (deep x) = omega arith
 just-over f g h i (many-calls x) = omega arith
-just-over f g h i (far x) = tt
+just-over f g h i (far-x x) = tt
+just-over f g h i (far-y x) = tt
 just-over f g h i (many-shapes x) = omega arith
 
 -- the drawing is stopped at 513 live definitions, at depth 33, at call 1,048,577, at shape 1,048,577

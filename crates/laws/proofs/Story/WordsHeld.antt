@@ -11,18 +11,17 @@ use lib.Dec.{ltb, eqb}
 use lib.IntN.{ℤ}
 use lib.ListN.{length}
 use Rattle.definition.specs.Limits.{mostDefinitions, deepest}
-use Rattle.definition.specs.Words.{if_then_else_, Placed, at, any, those}
-use Rattle.definition.specs.Rules.{outOfRange, tooManyDefinitions, refuse}
+use Rattle.definition.specs.Words.{if_then_else_, Placed, at, those}
+use Rattle.definition.specs.Rules.{tooManyDefinitions, refuse}
 use Rattle.definition.specs.Commands.{Shape, Turn, Command, draw, layer, call, start, finish, delete, nothing}
 use Rattle.definition.specs.Standing.{Standing, outside, after}
-use Rattle.definition.specs.Faults.{beyond, both}
-use Rattle.definition.specs.Turns.{moved}
 use Rattle.definition.specs.Table.{Step, shape, instance, setting, Definition, Table, enter, forget}
 use Rattle.definition.specs.Drawing.{stepOf, retained, Deed, output, define, remove, deedOf, deeds, Chain, Event, called, drew, entered, removed, refused}
 use Rattle.definition.specs.Drawing.{drawShape, drawStep, drawBody, Passage, barred, leads, passageOf, through, drawCall, happens, tableAfter, story}
 use Rattle.definition.specs.Held.{total, wordsOfBody, wordsIn, heldTo, wordsAfter, wordsNeeded}
 use Rattle.laws.proofs.Lists.Range.{All, all-++}
 use Rattle.laws.proofs.Commands.Ordered.{Allowed, Ordered, after-inside}
+use Rattle.laws.proofs.Story.Axes.{by-axes}
 
 -- ---- the table
 
@@ -55,12 +54,8 @@ Holds w e = wordsAfter e ≤ w
 
 module _ (w : ℕ) where
   shape-holds : (chain : Chain) (net : List (Turn ℤ)) (p : ℕ) (l : List ℕ) (k : Shape ℤ) → Holds w (drawShape chain net p l k)
-  unfolding drawShape wordsAfter
-  shape-holds chain net p l k = go (any beyond (both (moved net k .points)))
-    where
-      go : (b : Bool) → Holds w (if b then refused (refuse outOfRange p) chain else drew (record { place = p; chain = chain; net = net; layer-of = l; itself = moved net k }))
-      go true = omega arith
-      go false = omega arith
+  unfolding wordsAfter
+  shape-holds chain net p l k = by-axes chain net p l k (Holds w) (omega arith) (omega arith) (λ e. omega arith)
 
   module _ (f : ℕ → ℕ → List (Turn ℤ) → List Event) (holds : (p n : ℕ) (ts : List (Turn ℤ)) → All (Holds w) (f p n ts)) (chain : Chain) (net : List (Turn ℤ)) where
     step-holds : (p : ℕ) (s : Step) → All (Holds w) (drawStep f chain net p s)
