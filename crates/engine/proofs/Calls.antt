@@ -1,21 +1,18 @@
--- One call drawn: refused before its body, or its body drawn one level down with its symbol open, by what `open_call` answers.
+-- One call drawn: refused before its body, or its body drawn one level down with the call open, by what `open_call` answers.
 -- Assumes nothing.
 use mathlib.Core.Path.{_≡_, refl, sym, ap, _∙_, subst}
-use mathlib.Core.List.{List, [], _∷_, _++_, map}
+use mathlib.Core.List.{List, [], _∷_, _++_}
 use Prim.Native.Nat.{ℕ, zero, suc, _+_, _-_, _≤_, _<_}
 use native.Mathlib.Nat.{pos-of-ne-zero}
 use native.Mathlib.Omega.{arith}
 use lib.IntN.{ℤ}
-use lib.ListN.{length, take, set, length-set}
-use lib.Seq.{take-suc-set, take-take, take-set-le}
+use lib.ListN.{length}
 use Rattle.definition.specs.Words.{Placed, at}
 use Rattle.definition.specs.Commands.{Turn}
-use Rattle.definition.specs.Turns.{offAxes}
 use Rattle.definition.specs.Table.{Step, Definition, Table}
 use Rattle.definition.specs.Drawing.{Chain, Event, called, passageOf, through, drawBody, drawCall}
 use Rattle.definition.specs.Counts.{shapesOf}
 use Rattle.definition.specs.declared.Refusal.{Refusal}
-use Rattle.turns.specs.Nets.{Carries}
 use Rattle.counts.specs.declared.Counts.{Counts}
 use Rattle.shapes.specs.declared.Ink.{Ink}
 use Rattle.shapes.specs.declared.Drawn.{Drawn}
@@ -26,36 +23,28 @@ use Rattle.library.specs.Memory.{stepsIn, definitionAt, tableOf, startAt, lengt
 use Rattle.library.specs.Sound.{Sound, Stocked}
 use Rattle.library.specs.declared.Found.the-variants.{Live}
 use Rattle.library.proofs.Looking.{found}
+use Rattle.chain.specs.Chain.{openCalls, Kept, Pushed}
+use Rattle.chain.proofs.Runs.{kept-lower, kept-both}
 use Rattle.opening.specs.declared.Call.{Call}
 use Rattle.opening.specs.declared.Opened.{Opened}
 use Rattle.opening.specs.declared.Opened.the-variants as opened
-use Rattle.opening.specs.Opening.{Fitting, Descent, Opens}
+use Rattle.opening.specs.Opening.{Descent, Opens}
 use Rattle.opening.proofs.Opening.{called-first, counted-few}
-use Rattle.engine.specs.Draws.{OpenAre, Ready, BodyAt, Draws}
+use Rattle.engine.specs.Draws.{openAt, Ready, BodyAt, Draws, CallDraws}
 
--- ---- the symbols being drawn, in a lent run of 32
+-- ---- one level down
 
-pushed : (l : List ℕ) (left n : ℕ) → (left ≡ 0 → ⊥) → left ≤ 32 → length l ≡ 32 → take (32 - (left - 1)) (set l (32 - left) n) ≡ take (32 - left) l ++ (n ∷ [])
-pushed l left n z h e =
-    let q : 0 < left = pos-of-ne-zero z in
-    let f : 32 - (left - 1) ≡ suc (32 - left) = omega arith in
-    rw f (take-suc-set l (32 - left) n (omega arith))
+module _ {left : ℕ} (some-left : left ≡ 0 → ⊥) (deep : left ≤ 32) where
+  one-deeper : 32 - (left - 1) ≡ suc (32 - left)
+  one-deeper = let q : 0 < left = pos-of-ne-zero some-left in omega arith
 
--- what lies below stays
-pub kept-below : (l l′ : List ℕ) (left n : ℕ) → take (32 - (left - 1)) l′ ≡ take (32 - (left - 1)) (set l (32 - left) n) → take (32 - left) l′ ≡ take (32 - left) l
-kept-below l l′ left n h =
-    let s : 32 - left ≤ 32 - (left - 1) = omega arith in
-    sym (take-take (32 - left) (32 - (left - 1)) l′ s)
-    ∙ (ap (take (32 - left)) h ∙ (take-take (32 - left) (32 - (left - 1)) (set l (32 - left) n) s ∙ take-set-le (32 - left) l (32 - left) n (omega arith)))
+  -- the call is open
+  call-open : {place symbol : ℕ} {drawing pushed : List ℕ} → Pushed (32 - left) place symbol drawing pushed → openAt pushed (left - 1) ≡ openAt drawing left ++ (at place symbol ∷ [])
+  call-open {pushed = pushed} p = ap (openCalls pushed) one-deeper ∙ p .deeper
 
-joined-symbols : (chain : Chain) (p n : ℕ) → map (λ c. c .what) (chain ++ (at p n ∷ [])) ≡ map (λ c. c .what) chain ++ (n ∷ [])
-joined-symbols [] p n = refl
-joined-symbols (c ∷ chain) p n = ap (λ (l : List ℕ). c .what ∷ l) (joined-symbols chain p n)
-
--- one level down the call is open
-inner-open : (drawing : List ℕ) (left : ℕ) (chain : Chain) (p n : ℕ) → OpenAre drawing left chain → (left ≡ 0 → ⊥) → left ≤ 32 → length drawing ≡ 32
-    → OpenAre (set drawing (32 - left) n) (left - 1) (chain ++ (at p n ∷ []))
-inner-open drawing left chain p n o z h e = joined-symbols chain p n ∙ (ap (λ (l : List ℕ). l ++ (n ∷ [])) o ∙ sym (pushed drawing left n z h e))
+  -- and what is kept there is kept here
+  pub kept-here : {place symbol : ℕ} {drawing pushed drawing′ : List ℕ} → Pushed (32 - left) place symbol drawing pushed → Kept (32 - (left - 1)) pushed drawing′ → Kept (32 - left) drawing drawing′
+  kept-here p k = kept-both (p .kept) (kept-lower (32 - left) (omega (arith, one-deeper)) k)
 
 -- ---- what the definition says of a call
 
@@ -87,23 +76,21 @@ module _ (t : Table) (chain : Chain) (net : List (Turn ℤ)) (call : Call) (ts :
 
 module _ (rows : List ℕ) (live : ℕ) (drawing : List ℕ) (left : ℕ) (call : Call) (ink : Ink) where
   abbrev Told : Opened → Type 0
-  Told o = Opens rows live (take (32 - left) drawing) left call (ink .counts) o
+  Told o = Opens rows live (openAt drawing left) left call (ink .counts) o
 
   abbrev Led : ℕ → Counts → Type 0
-  Led row more = Descent rows live (take (32 - left) drawing) left call (ink .counts) row more
+  Led row more = Descent rows live (openAt drawing left) left call (ink .counts) row more
 
-  fitting : {chain : Chain} {ts : List (Turn ℤ)} → OpenAre drawing left chain → call .askew ≡ offAxes ts → Fitting (take (32 - left) drawing) call chain ts
-  fitting o e = record { open-are = o; askew = e }
-
-  pub call-stopped : {o : Opened} → Told o → {why : Refusal} → o ≡ opened.Refused why → (b : List ℤ) (room : List ℕ)
-      → (chain : Chain) → OpenAre drawing left chain → (outer ts : List (Turn ℤ)) → call .askew ≡ offAxes ts
-      → Painted ink (drawCall left (tableOf rows b live) chain outer (call .place) (call .symbol) ts) room (Refused why) room
+  pub call-stopped : {o : Opened} → Told o → {why : Refusal} → o ≡ opened.Refused why → {told : Chain} → told ≡ openAt drawing left
+      → (b : List ℤ) (room : List ℕ) → CallDraws rows b live drawing call left ink room told (Refused why) room
   unfolding Opens
-  call-stopped x {why} e b room chain open-are outer ts askew =
+  call-stopped x {why} e stop b room outer ts askew carries =
       let t = tableOf rows b live in
-      let s = subst (λ (o : Opened). Told o) e x b chain ts (fitting open-are askew) (further t chain outer call ts left) in
-      subst (λ (es : List Event). Painted ink es room (Refused why) room) (sym (call-is t chain outer call ts left ∙ s .are))
-      (refusal ink (s .event) (s .rest) room why chain (s .stops))
+      let chain = openAt drawing left in
+      let s = subst (λ (o : Opened). Told o) e x b ts askew (further t chain outer call ts left) in
+      subst (λ (o : Chain). Painted ink (drawCall left t chain outer (call .place) (call .symbol) ts) room o (Refused why) room) (sym stop)
+      (subst (λ (es : List Event). Painted ink es room chain (Refused why) room) (sym (call-is t chain outer call ts left ∙ s .are))
+      (refusal ink (s .event) (s .rest) room why chain (s .stops)))
 
   -- where `open_call` lets a call through
   pub answered-descent : {o : Opened} {row : ℕ} {more : Counts} → Told o → o ≡ opened.Descends row more → Led row more
@@ -117,7 +104,7 @@ module _ (rows : List ℕ) (live : ℕ) (drawing : List ℕ) (left : ℕ) (call 
     -- counts that a call is one of are such as the drawing can come to
     pub descent-reached : Reached ink → Reached (inked more (ink .pen))
     descent-reached k =
-        let (few, same) = counted-few (ink .counts) more (call .place) (led .counts-it) in
+        let (few, same) = counted-few (ink .counts) more (call .place) (openAt drawing left) (led .counts-it) in
         record { calls-most = few; shapes-most = omega (arith, same, k .shapes-most); place-most = omega (arith, same, k .place-most) }
 
     pub body-there : {b : List ℤ} → Stocked rows b live → {from size : ℕ} → from ≡ startAt rows row → size ≡ lengthAt rows row → BodyAt b from (from + size)
@@ -131,34 +118,36 @@ module _ (rows : List ℕ) (live : ℕ) (drawing : List ℕ) (left : ℕ) (call 
         }
 
     -- one level down the drawing is ready too
-    pub ready-below : {b numbers : List ℤ} → Ready rows b live numbers drawing left ink
-        → Ready rows b live numbers (set drawing (32 - left) (call .symbol)) (left - 1) (inked more (ink .pen))
-    ready-below r = record {
+    pub ready-below : {b numbers : List ℤ} → Ready rows b live numbers drawing left ink → (pushed : List ℕ) → length pushed ≡ length drawing
+        → Ready rows b live numbers pushed (left - 1) (inked more (ink .pen))
+    ready-below r pushed e = record {
       sorted = r .sorted;
       stocked = r .stocked;
       short = r .short;
       roomy = r .roomy;
-      levels = length-set drawing (32 - left) (call .symbol) ∙ r .levels;
+      levels = e ∙ r .levels;
       some-left = omega (arith, r .some-left);
       reached = descent-reached (r .reached);
     }
 
     -- a call that is counted draws what its body draws
-    pub body-drawn : left ≤ 32 → length drawing ≡ 32 → Reached ink → (b : List ℤ) {from size : ℕ} {room room′ : List ℕ} {r : Drawn} → from ≡ startAt rows row → size ≡ lengthAt rows row
-        → Draws rows b live (set drawing (32 - left) (call .symbol)) (call .net) (left - 1) from (from + size) (inked more (ink .pen)) room r room′
-        → (chain : Chain) → OpenAre drawing left chain → (outer ts : List (Turn ℤ)) → call .askew ≡ offAxes ts → Carries (ts ++ outer) (call .net)
-        → Painted ink (drawCall left (tableOf rows b live) chain outer (call .place) (call .symbol) ts) room r room′
-    body-drawn h long reach b {from} {size} {room} {room′} {r} e f drawn chain o outer ts askew carries =
+    pub body-drawn : left ≤ 32 → Reached ink → {pushed : List ℕ} → Pushed (32 - left) (call .place) (call .symbol) drawing pushed
+        → (b : List ℤ) {from size : ℕ} {room : List ℕ} {told : Chain} {r : Drawn} {room′ : List ℕ} → from ≡ startAt rows row → size ≡ lengthAt rows row
+        → Draws rows b live pushed (call .net) (left - 1) from (from + size) (inked more (ink .pen)) room told r room′
+        → CallDraws rows b live drawing call left ink room told r room′
+    body-drawn h reach {pushed} push b {from} {size} {room} {told} {r} {room′} e f drawn outer ts askew carries =
         let t = tableOf rows b live in
+        let chain = openAt drawing left in
         let d = definitionAt rows b row in
-        let below = deeper t chain outer call ts in
         let z : from + size - from ≡ lengthAt rows row = omega arith in
         let body : stepsIn b from (from + size - from) ≡ d .body = ap (λ (x : ℕ). stepsIn b from x) z ∙ ap (λ (x : ℕ). stepsIn b x (lengthAt rows row)) e in
-        let inside : Painted (inked more (ink .pen)) (inner t chain outer call ts (left - 1) d) room r room′ =
-        subst (λ (x : List (Placed Step)). Painted (inked more (ink .pen)) (drawBody (drawCall (left - 1) t below (ts ++ outer)) below (ts ++ outer) x) room r room′) body
-        (drawn below (inner-open drawing left chain (call .place) (call .symbol) o (led .some-left) h long) (ts ++ outer) carries) in
-        subst (λ (es : List Event). Painted ink es room r room′)
+        let below : Painted (inked more (ink .pen)) (drawBody (drawCall (left - 1) t (openAt pushed (left - 1)) (ts ++ outer)) (openAt pushed (left - 1)) (ts ++ outer) (d .body)) room told r room′ =
+        subst (λ (x : List (Placed Step)). Painted (inked more (ink .pen)) (drawBody (drawCall (left - 1) t (openAt pushed (left - 1)) (ts ++ outer)) (openAt pushed (left - 1)) (ts ++ outer) x) room told r room′) body
+        (drawn (ts ++ outer) carries) in
+        let inside : Painted (inked more (ink .pen)) (inner t chain outer call ts (left - 1) d) room told r room′ =
+        subst (λ (o : Chain). Painted (inked more (ink .pen)) (drawBody (drawCall (left - 1) t o (ts ++ outer)) o (ts ++ outer) (d .body)) room told r room′) (call-open (led .some-left) h push) below in
+        subst (λ (es : List Event). Painted ink es room told r room′)
         (sym (call-is t chain outer call ts left
-        ∙ called-first (call .place) chain (passageOf left t chain (call .symbol) ts) (further t chain outer call ts left) d (led .no-fault b chain ts (fitting o askew))))
-        (next-drawn (quiet ink more (called (call .place) chain d) room (led .counts-it chain d) (unfold shapesOf in refl) (descent-reached reach)) (further t chain outer call ts left d)
-        (subst (λ (es : List Event). Painted (inked more (ink .pen)) es room r room′) (sym (one-down t chain outer call ts left (led .some-left) d)) inside))
+        ∙ called-first (call .place) chain (passageOf left t chain (call .symbol) ts) (further t chain outer call ts left) d (led .no-fault b ts askew)))
+        (next-drawn (quiet ink more (called (call .place) chain d) room {chain = []} (led .counts-it d) (unfold shapesOf in refl) (descent-reached reach)) (further t chain outer call ts left d)
+        (subst (λ (es : List Event). Painted (inked more (ink .pen)) es room told r room′) (sym (one-down t chain outer call ts left (led .some-left) d)) inside))

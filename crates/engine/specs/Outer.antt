@@ -13,6 +13,7 @@ use Rattle.shapes.specs.declared.Ink.{Ink}
 use Rattle.shapes.specs.declared.Drawn.{Drawn}
 use Rattle.shapes.specs.Painting.{Painted}
 use Rattle.library.specs.Memory.{callLetter, tableOf}
+use Rattle.chain.specs.Chain.{chainIn}
 use Rattle.opening.specs.Calls.{CalledAt}
 
 -- the words after the first two, up to this place, are those of a shape, on the layer that stands, or of a call
@@ -21,6 +22,6 @@ pub data Says (words : List ℤ) (kind end : ℕ) (l : List ℕ) : Step → Type
   a-call : kind ≡ callLetter → (h : CalledAt words end) → Says words kind end l (instance (natAbs (h .symbol)) (h .turns))
 
 -- the contract of `draw_outer`
-abbrev pub OuterDraws : (rows : List ℕ) (b : List ℤ) (live : ℕ) (words : List ℤ) (kind place end layer : ℕ) → Ink → List ℕ → Drawn → List ℕ → Type 0
-OuterDraws rows b live words kind place end layer ink room r room′ =
-    (s : Step) → Says words kind end (nameOf layer) s → Painted ink (happens (tableOf rows b live) (output (at place s))) room r room′
+abbrev pub OuterDraws : (rows : List ℕ) (b : List ℤ) (live : ℕ) (words : List ℤ) (kind place end layer : ℕ) → Ink → List ℕ → List ℕ → Drawn → List ℕ → Type 0
+OuterDraws rows b live words kind place end layer ink room drawing′ r room′ =
+    (s : Step) → Says words kind end (nameOf layer) s → Painted ink (happens (tableOf rows b live) (output (at place s))) room (chainIn drawing′) r room′

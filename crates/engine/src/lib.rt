@@ -1,16 +1,18 @@
 // A body draws its calls and a call draws its body (01, "Drawing"), from the words that hold the bodies: no text is read here, and which calls are
-// refused is asked of crate opening. The same code measures, on an empty part, and writes: what is stored past the room's end is dropped.
+// refused is asked of crate opening. Where a refusal arises the run of open calls is told how many are open (02, P4), and what comes up from below is
+// handed on. The same code measures, on an empty part, and writes: what is stored past the room's end is dropped.
 use shapes::Drawn;
 use shapes::Ink;
 ghost use mathlib.Core.Path.{_≡_};
 ghost use Prim.Native.Nat.{ℕ, _+_, _-_, _*_, _^_, _<_, _≤_};
 ghost use lib.IntN.{pos, natAbs};
-ghost use lib.ListN.{length, take, getD};
+ghost use lib.ListN.{length, getD};
 ghost use Rattle.definition.specs.Limits.{deepest};
 ghost use Rattle.definition.specs.Table.{Step};
 ghost use Rattle.turns.specs.Nets.{Near};
 ghost use Rattle.names.specs.Names.{nameOf};
 ghost use Rattle.library.specs.Memory.{mostWords};
+ghost use Rattle.chain.specs.Chain.{chainIn, Kept};
 ghost use Rattle.engine.specs.Heads.{headIn};
 ghost use Rattle.engine.specs.Draws.{Ready, BodyAt, Draws, CallDraws};
 ghost use Rattle.engine.specs.Outer.{Says, OuterDraws};
@@ -43,7 +45,7 @@ fn name_at(bodies: &[i32], i: usize) -> u32
     bodies[i] as u32
 }
 
-// One call: refused, or its body is drawn one level down, with its symbol open.
+// One call: refused, or its body is drawn one level down, with the call open.
 fn draw_call(
     bodies: &[i32],
     rows: &[usize; library::ROW_NUMBERS],
@@ -56,15 +58,16 @@ fn draw_call(
     ink: Ink,
 ) -> Drawn
     requires { ⌜ Ready (now rows) (now bodies) live (now numbers) (now drawing) left ink × Near ((33 - left) * 2 ^ 36) (call .net) ⌝ }
-    ensures { λ r. ⌜ CallDraws (now (rows .entry)) (now (bodies .entry)) live (now (drawing .entry)) call left ink (now (room .entry)) r (now (room .exit)) ⌝ }
-    ensures { λ r. ⌜ take (deepest - left) (now (drawing .exit)) ≡ take (deepest - left) (now (drawing .entry)) ⌝ }
+    ensures { λ r. ⌜ CallDraws (now (rows .entry)) (now (bodies .entry)) live (now (drawing .entry)) call left ink (now (room .entry)) (chainIn (now (drawing .exit))) r (now (room .exit)) ⌝ }
+    ensures { λ r. ⌜ Kept (deepest - left) (now (drawing .entry)) (now (drawing .exit)) ⌝ }
 {
     match opening::open_call(rows, live, drawing, left, call, ink.counts) {
         opening::Opened::Refused(refusal) => {
+            chain::stop(drawing, definition::DEEPEST - left);
             return Drawn::Refused(refusal);
         }
         opening::Opened::Descends(row, counts) => {
-            drawing[definition::DEEPEST - left] = call.symbol;
+            chain::push(drawing, definition::DEEPEST - left, call.place, call.symbol);
             let from = library::start_at(rows, row);
             let end = from + library::length_at(rows, row);
             let pen = ink.pen;
@@ -101,8 +104,8 @@ fn draw_body(
     before: Ink,
 ) -> Drawn
     requires { ⌜ Ready (now rows) (now bodies) live (now numbers) (now drawing) left before × Near ((deepest - left) * 2 ^ 36) net × BodyAt (now bodies) from end ⌝ }
-    ensures { λ r. ⌜ Draws (now (rows .entry)) (now (bodies .entry)) live (now (drawing .entry)) net left from end before (now (room .entry)) r (now (room .exit)) ⌝ }
-    ensures { λ r. ⌜ take (deepest - left) (now (drawing .exit)) ≡ take (deepest - left) (now (drawing .entry)) ⌝ }
+    ensures { λ r. ⌜ Draws (now (rows .entry)) (now (bodies .entry)) live (now (drawing .entry)) net left from end before (now (room .entry)) (chainIn (now (drawing .exit))) r (now (room .exit)) ⌝ }
+    ensures { λ r. ⌜ Kept (deepest - left) (now (drawing .entry)) (now (drawing .exit)) ⌝ }
 {
     let mut at = from;
     let mut layer: u32 = 0;
@@ -142,6 +145,8 @@ fn draw_body(
                     ink = shown;
                 }
                 Drawn::Refused(refusal) => {
+                    let level = definition::DEEPEST - left;
+                    chain::stop(drawing, level);
                     return Drawn::Refused(refusal);
                 }
             }
@@ -167,7 +172,7 @@ pub fn draw_outer(
 ) -> Drawn
     requires { ⌜ Ready (now rows) (now bodies) live (now numbers) (now drawing) deepest ink ⌝ }
     requires { ⌜ ((s : Step) × Says (now words) kind end (nameOf layer) s) ⌝ }
-    ensures { λ r. ⌜ OuterDraws (now (rows .entry)) (now (bodies .entry)) live (now (words .entry)) kind place end layer ink (now (room .entry)) r (now (room .exit)) ⌝ }
+    ensures { λ r. ⌜ OuterDraws (now (rows .entry)) (now (bodies .entry)) live (now (words .entry)) kind place end layer ink (now (room .entry)) (now (drawing .exit)) r (now (room .exit)) ⌝ }
 {
     let still = turns::still();
     if kind == b'C' {
@@ -184,5 +189,7 @@ pub fn draw_outer(
             ink,
         );
     }
+    // no call is open, should the shape be refused
+    chain::stop(drawing, 0);
     shapes::draw_shape(words, numbers, room, kind, end, still, layer, place, ink)
 }

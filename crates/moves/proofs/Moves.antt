@@ -1,7 +1,7 @@
--- Points moved one by one, and a shape's numbers: they stand in their final places, and it is known whether a point is beyond the range. A part of
--- them is the definition's `numbersOfShape` of the moved shape.
+-- Points moved one by one, and a shape's numbers: they stand in their final places, and it is known whether some x is beyond the range and whether some
+-- y is. A part of them is the definition's `numbersOfShape` of the moved shape.
 -- Assumes nothing.
-use mathlib.Core.Path.{_≡_, refl, sym, ap, _∙_}
+use mathlib.Core.Path.{_≡_, refl, sym, ap, _∙_, subst}
 use mathlib.Core.Bool.{Bool, true, false, _||_}
 use mathlib.Core.List.{List, [], _∷_, _++_, map, append-assoc, append-nil}
 use Prim.Native.Nat.{ℕ, suc, _+_, _-_, _*_, _^_, _≤_, _<_}
@@ -20,8 +20,9 @@ use Rattle.definition.specs.Faults.{beyond, both}
 use Rattle.turns.specs.Nets.{asPoint, apply, turned}
 use Rattle.turns.specs.declared.Net.{Net}
 use Rattle.turns.specs.declared.Pair.{Pair}
+use Rattle.turns.specs.declared.Beyond.{Beyond}
 use Rattle.turns.proofs.Signed.{told}
-use Rattle.moves.specs.Moves.{sizeCount, directionCount, BeginAt, EndAt, Copied, Pointed, Moves, ShapedAt, MovesShape}
+use Rattle.moves.specs.Moves.{sizeCount, directionCount, BeginAt, EndAt, Copied, Pointed, Judges, Moves, ShapedAt, MovesShape}
 use Rattle.digits.proofs.Writing.{sets-append}
 
 both-++ : (a b : List (Point ℤ)) → both (a ++ b) ≡ both a ++ both b
@@ -41,8 +42,18 @@ any-++ t (x ∷ a) b = ap (λ (r : Bool). t x || r) (any-++ t a b) ∙ go (t x)
     go true = refl
     go false = refl
 
+-- a test of the points so far, and of one more
+judged : (t : Point ℤ → Bool) (d : List (Point ℤ)) (p : Point ℤ) {before here after : Bool} → before ≡ any t d → here ≡ t p → after ≡ (before || here) → after ≡ any t (d ++ (p ∷ []))
+unfolding any
+judged t d p b h a = a ∙ ((λ k. b k || h k) ∙ (alone (any t d) (t p) ∙ sym (any-++ t d (p ∷ []))))
+  where
+    alone : (s r : Bool) → (s || r) ≡ (s || (r || false))
+    alone true r = refl
+    alone false true = refl
+    alone false false = refl
+
 -- between two points: those done are in their places, and those left stand from here on
-pub record Moving (words : List ℤ) (end : ℕ) (net : Net) (points : List (Point ℤ)) (numbers₀ : List ℤ) (from i : ℕ) (far : Bool) (numbers : List ℤ) : Type 0 where
+pub record Moving (words : List ℤ) (end : ℕ) (net : Net) (points : List (Point ℤ)) (numbers₀ : List ℤ) (from i : ℕ) (far : Beyond) (numbers : List ℤ) : Type 0 where
   pub done : List (Point ℤ)
   pub left : List (Point ℤ)
   pub rest : List ℤ
@@ -50,10 +61,10 @@ pub record Moving (words : List ℤ) (end : ℕ) (net : Net) (points : List (Poi
   pub are : drop i words ≡ both left ++ rest
   pub here : i ≡ from + length (both done)
   pub ends : i + length (both left) ≡ end
-  pub test : far ≡ any beyond (both done)
+  pub test : Judges done far
   pub laid : numbers ≡ sets numbers₀ from (both done)
 
-pub begin : {words : List ℤ} {from end : ℕ} (net : Net) (numbers : List ℤ) (h : Pointed words from end) → Moving words end net (h .points) numbers from from false numbers
+pub begin : {words : List ℤ} {from end : ℕ} (net : Net) (numbers : List ℤ) (h : Pointed words from end) → Moving words end net (h .points) numbers from from (record { x = false; y = false }) numbers
 unfolding any
 begin {from = from} net numbers h = record {
   done = [];
@@ -63,7 +74,7 @@ begin {from = from} net numbers h = record {
   are = h .are;
   here = sym (add-zero from);
   ends = h .ends;
-  test = refl;
+  test = record { xs = refl; ys = refl };
   laid = refl;
 }
 
@@ -86,7 +97,7 @@ next-of words i end (p ∷ q) rest h e f = record {
     on : (k n : ℕ) → n ≡ i + k → getD words n (pos 0) ≡ getD (p .x ∷ p .y ∷ (both q ++ rest)) k (pos 0)
     on k n g = ap (λ (m : ℕ). getD words m (pos 0)) g ∙ (sym (getD-drop i words k (pos 0)) ∙ ap (λ (l : List ℤ). getD l k (pos 0)) e)
 
-module _ {words : List ℤ} {end : ℕ} {net : Net} {points : List (Point ℤ)} {numbers₀ : List ℤ} {from i : ℕ} {far : Bool} {numbers : List ℤ}
+module _ {words : List ℤ} {end : ℕ} {net : Net} {points : List (Point ℤ)} {numbers₀ : List ℤ} {from i : ℕ} {far : Beyond} {numbers : List ℤ}
     (g : Moving words end net points numbers₀ from i far numbers) where
   pub numbers-length : length numbers ≡ length numbers₀
   numbers-length = ap length (g .laid) ∙ length-sets numbers₀ from (both (g .done))
@@ -95,11 +106,10 @@ module _ {words : List ℤ} {end : ℕ} {net : Net} {points : List (Point ℤ)} 
   pair-fits h = let n = next-of words i end (g .left) (g .rest) h (g .are) (g .ends) in omega (arith, n .ends)
 
   -- one point more, as `place_at` tells it
-  pub one-point : i < end → (b : Bool) (numbers′ : List ℤ)
-      → ((p : Point ℤ) → p ≡ apply net (point (getD words i (pos 0)) (getD words (i + 1) (pos 0))) → (b ≡ (beyond (p .x) || beyond (p .y))) × (numbers′ ≡ sets numbers i (p .x ∷ p .y ∷ [])))
-      → (far′ : Bool) → far′ ≡ (far || b) → Moving words end net points numbers₀ from (i + 2) far′ numbers′
-  unfolding any
-  one-point h b numbers′ told far′ e =
+  pub one-point : i < end → (b : Beyond) (numbers′ : List ℤ)
+      → ((p : Point ℤ) → p ≡ apply net (point (getD words i (pos 0)) (getD words (i + 1) (pos 0))) → (b .x ≡ beyond (p .x)) × (b .y ≡ beyond (p .y)) × (numbers′ ≡ sets numbers i (p .x ∷ p .y ∷ [])))
+      → (x y : Bool) → x ≡ (far .x || b .x) → y ≡ (far .y || b .y) → Moving words end net points numbers₀ from (i + 2) (record { x = x; y = y }) numbers′
+  one-point h b numbers′ told x y ex ey =
       let n = next-of words i end (g .left) (g .rest) h (g .are) (g .ends) in
       let p = apply net (point (getD words i (pos 0)) (getD words (i + 1) (pos 0))) in
       let new = p .x ∷ p .y ∷ [] in
@@ -115,44 +125,28 @@ module _ {words : List ℤ} {end : ℕ} {net : Net} {points : List (Point ℤ)} 
         are = n .then-on;
         here = omega (arith, g .here, ap length joined, length-append d new);
         ends = n .ends;
-        test =
-            e
-            ∙ (ap (λ (t : Bool). far || t) (told p refl .0)
-            ∙ (ap (λ (t : Bool). t || (beyond (p .x) || beyond (p .y))) (g .test)
-            ∙ (two (any beyond d) (beyond (p .x)) (beyond (p .y)) ∙ (sym (any-++ beyond d new) ∙ ap (any beyond) (sym joined)))));
+        test = record {
+          xs = judged (λ q. beyond (q .x)) (g .done) p (g .test .xs) (told p refl .0) ex;
+          ys = judged (λ q. beyond (q .y)) (g .done) p (g .test .ys) (told p refl .1) ey;
+        };
         laid =
-            told p refl .1
+            told p refl .2
             ∙ (ap (λ (m : List ℤ). sets m i new) (g .laid)
             ∙ (ap (λ (m : ℕ). sets (sets numbers₀ from d) m new) (g .here) ∙ (sets-append numbers₀ from d new ∙ ap (sets numbers₀ from) (sym joined))));
       }
-    where
-      two : (t x y : Bool) → (t || (x || y)) ≡ (t || (x || (y || false)))
-      two true x y = refl
-      two false true y = refl
-      two false false true = refl
-      two false false false = refl
 
   pub all-moved : end ≤ i → Moves net points numbers₀ from far numbers
   all-moved h =
       let z : g .left ≡ [] = none-left (g .left) (omega (arith, g .ends)) in
       let e : map (apply net) points ≡ g .done = g .parts ∙ (ap (λ (l : List (Point ℤ)). g .done ++ map (apply net) l) z ∙ append-nil (g .done)) in
       record {
-        test = g .test ∙ ap (λ (l : List (Point ℤ)). any beyond (both l)) (sym e);
+        test = subst (λ (l : List (Point ℤ)). Judges l far) (sym e) (g .test);
         laid = g .laid ∙ ap (λ (l : List (Point ℤ)). sets numbers₀ from (both l)) (sym e);
       }
     where
       none-left : (l : List (Point ℤ)) → length (both l) ≡ 0 → l ≡ []
       none-left [] q = refl
       none-left (p ∷ l) q = absurd (omega (arith, q))
-
--- whether any was beyond, and one more
-pub one-far : (far b : Bool) → b ≡ true → true ≡ (far || b)
-one-far true b e = refl
-one-far false b e = sym e
-
-pub none-far : (far b : Bool) → b ≡ false → far ≡ (far || b)
-none-far true b e = refl
-none-far false b e = sym e
 
 -- what a call gets and gives, unwrapped from its bits
 pub point-told : (net : Net) (r : Pair) (x y : ℤ) → mag x < 2 ^ 31 → mag y < 2 ^ 31 → asPoint r ≡ apply net (point (toZ w32 (ofZ w32 x)) (toZ w32 (ofZ w32 y))) → asPoint r ≡ apply net (point x y)
@@ -323,7 +317,7 @@ module _ {words : List ℤ} {letter end : ℕ} (h : ShapedAt words letter end) w
         ∙ (getD-append-add P D j (pos 0) ∙ ap (λ (l : List (Point ℤ)). getD (both l ++ h .rest) j (pos 0)) e))))
 
     -- sizes, then points, then directions
-    module _ (net : Net) (numbers : List ℤ) {numbers₁ numbers₂ numbers₃ : List ℤ} {far : Bool} (s : Copied words numbers from numbers₁)
+    module _ (net : Net) (numbers : List ℤ) {numbers₁ numbers₂ numbers₃ : List ℤ} {far : Beyond} (s : Copied words numbers from numbers₁)
         (m : Moves net (k .points) numbers₁ from far numbers₂) where
       shape-moved : numbers₃ ≡ sets numbers₂ last (both (map (turned net) (k .directions))) → MovesShape net k numbers far numbers₃
       shape-moved e =

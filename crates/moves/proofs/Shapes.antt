@@ -2,7 +2,6 @@
 -- moved shape under every list of transformations that the net carries.
 -- Assumes nothing.
 use mathlib.Core.Path.{_≡_, sym, ap, _∙_}
-use mathlib.Core.Bool.{Bool}
 use mathlib.Core.List.{List, [], _∷_, _++_, map}
 use Prim.Native.Nat.{ℕ, _+_, _-_, _≤_}
 use native.Mathlib.Omega.{arith}
@@ -15,6 +14,7 @@ use Rattle.definition.specs.Flat.{numbersOfShape}
 use Rattle.definition.specs.Turns.{moved}
 use Rattle.turns.specs.Nets.{apply, turned, Carries}
 use Rattle.turns.specs.declared.Net.{Net}
+use Rattle.turns.specs.declared.Beyond.{Beyond}
 use Rattle.turns.proofs.Nets.{moved-by}
 use Rattle.moves.specs.Moves.{mostValues, ShapedAt, placed, placedNumbers, MovesShape}
 use Rattle.moves.proofs.Moves.{map-both}
@@ -39,7 +39,7 @@ module _ {words : List ℤ} {letter end : ℕ} (h : ShapedAt words letter end) w
   pub part-few : (l : List ℤ) → length (take (end - 2) (drop 2 l)) ≤ mostValues
   part-few l = let e = length-take (end - 2) (drop 2 l) in omega (arith, h .ends, h .few, e)
 
-  module _ (net : Net) {numbers : List ℤ} {far : Bool} {numbers′ : List ℤ} (m : MovesShape net (h .shape) numbers far numbers′) where
+  module _ (net : Net) {numbers : List ℤ} {far : Beyond} {numbers′ : List ℤ} (m : MovesShape net (h .shape) numbers far numbers′) where
     -- the numbers that are written
     pub part-placed : end ≤ length numbers → take (end - 2) (drop 2 numbers′) ≡ placedNumbers net (h .shape)
     part-placed l =
@@ -54,7 +54,10 @@ module _ {words : List ℤ} {letter end : ℕ} (h : ShapedAt words letter end) w
             ap (λ (z : List ℤ). take j (drop 2 z)) (q ∙ sets-eq ns (x ∷ y ∷ l) 2 (omega (arith, b)))
             ∙ (ap (λ (i : ℕ). take i (ns ++ drop (2 + length ns) (x ∷ y ∷ l))) n ∙ take-append-seam ns (drop (2 + length ns) (x ∷ y ∷ l)))
 
--- what a shape's words and the net are settles the numbers and whether the shape is far
-pub one-move : {net : Net} {k : Shape ℤ} {numbers : List ℤ} {far far′ : Bool} {n n′ : List ℤ} → MovesShape net k numbers far n → MovesShape net k numbers far′ n′
+-- what a shape's words and the net are settles the numbers and which of them are beyond the range
+pub one-move : {net : Net} {k : Shape ℤ} {numbers : List ℤ} {far far′ : Beyond} {n n′ : List ℤ} → MovesShape net k numbers far n → MovesShape net k numbers far′ n′
     → (far ≡ far′) × (n ≡ n′)
-one-move v w = (v .test ∙ sym (w .test), v .laid ∙ sym (w .laid))
+one-move v w =
+    let x = v .test .xs ∙ sym (w .test .xs) in
+    let y = v .test .ys ∙ sym (w .test .ys) in
+    (λ i. record { x = x i; y = y i }, v .laid ∙ sym (w .laid))

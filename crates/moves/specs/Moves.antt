@@ -14,6 +14,7 @@ use Rattle.definition.specs.Faults.{beyond, both}
 use Rattle.definition.specs.Flat.{letterOf, numbersOfShape}
 use Rattle.turns.specs.Nets.{apply, turned}
 use Rattle.turns.specs.declared.Net.{Net}
+use Rattle.turns.specs.declared.Beyond.{Beyond}
 
 -- ---- the words
 
@@ -73,9 +74,14 @@ pub record Pointed (words : List ℤ) (from end : ℕ) : Type 0 where
 pub record Copied (words numbers : List ℤ) (from : ℕ) (numbers′ : List ℤ) : Type 0 where
   pub laid : numbers′ ≡ sets numbers 2 (take (from - 2) (drop 2 words))
 
--- all points stand in their places, and whether one of them is beyond the range
-pub record Moves (net : Net) (points : List (Point ℤ)) (numbers : List ℤ) (from : ℕ) (far : Bool) (numbers′ : List ℤ) : Type 0 where
-  pub test : far ≡ any beyond (both (map (apply net) points))
+-- whether some x of these points is beyond the range, and whether some y is
+pub record Judges (points : List (Point ℤ)) (far : Beyond) : Type 0 where
+  pub xs : far .x ≡ any (λ q. beyond (q .x)) points
+  pub ys : far .y ≡ any (λ q. beyond (q .y)) points
+
+-- all points stand in their places, and are judged
+pub record Moves (net : Net) (points : List (Point ℤ)) (numbers : List ℤ) (from : ℕ) (far : Beyond) (numbers′ : List ℤ) : Type 0 where
+  pub test : Judges (map (apply net) points) far
   pub laid : numbers′ ≡ sets numbers from (both (map (apply net) points))
 
 -- a shape in its final place
@@ -85,9 +91,6 @@ placed net k = shapeOf (k .kind) (k .sizes) (map (apply net) (k .points)) (map (
 abbrev pub placedNumbers : Net → Shape ℤ → List ℤ
 placedNumbers net k = numbersOfShape (placed net k)
 
-abbrev pub isFar : Net → Shape ℤ → Bool
-isFar net k = any beyond (both (placed net k .points))
-
-pub record MovesShape (net : Net) (k : Shape ℤ) (numbers : List ℤ) (far : Bool) (numbers′ : List ℤ) : Type 0 where
-  pub test : far ≡ isFar net k
+pub record MovesShape (net : Net) (k : Shape ℤ) (numbers : List ℤ) (far : Beyond) (numbers′ : List ℤ) : Type 0 where
+  pub test : Judges (placed net k .points) far
   pub laid : numbers′ ≡ sets numbers 2 (placedNumbers net k)

@@ -1,7 +1,6 @@
 // A shape's numbers moved from its words to their final places, under a net transformation (01, "Drawing"). Each number comes to stand where its word
 // stands, so that a line of them has them in written order.
 ghost use mathlib.Core.Path.{_≡_};
-ghost use mathlib.Core.Bool.{_||_};
 ghost use mathlib.Core.List.{_∷_, []};
 ghost use Prim.Native.Nat.{_+_, _^_, _≤_, _<_};
 ghost use lib.IntN.{ℤ, pos};
@@ -46,11 +45,11 @@ fn set_point(numbers: &mut [i64], i: usize, p: turns::Pair)
     numbers[j] = y;
 }
 
-// A point takes the turns and the step; whether it comes to lie beyond the range.
-fn place_at(words: &[i32], numbers: &mut [i64], i: usize, net: turns::Net) -> bool
+// A point takes the turns and the step; which of its numbers come to lie beyond the range.
+fn place_at(words: &[i32], numbers: &mut [i64], i: usize, net: turns::Net) -> turns::Beyond
     requires { ⌜ (i + 1 < length (now words)) × (i + 1 < length (now numbers)) ⌝ }
     requires { ⌜ Near (2 ^ 61) net ⌝ }
-    ensures { λ r. ⌜ ((p : Point ℤ) → p ≡ apply net (point (getD (now (words .entry)) i (pos 0)) (getD (now (words .entry)) (i + 1) (pos 0))) → (r ≡ (beyond (p .x) || beyond (p .y))) × (now (numbers .exit) ≡ sets (now (numbers .entry)) i (p .x ∷ p .y ∷ []))) ⌝ }
+    ensures { λ r. ⌜ ((p : Point ℤ) → p ≡ apply net (point (getD (now (words .entry)) i (pos 0)) (getD (now (words .entry)) (i + 1) (pos 0))) → (r .x ≡ beyond (p .x)) × (r .y ≡ beyond (p .y)) × (now (numbers .exit) ≡ sets (now (numbers .entry)) i (p .x ∷ p .y ∷ []))) ⌝ }
 {
     let j = i + 1;
     let p = turns::place_point(net, words[i], words[j]);
@@ -68,22 +67,29 @@ fn aim_at(words: &[i32], numbers: &mut [i64], i: usize, net: turns::Net)
     set_point(numbers, i, d);
 }
 
-// Points go to their final places; whether one of them is beyond the range (refusal 16).
-fn move_points(words: &[i32], numbers: &mut [i64], from: usize, end: usize, net: turns::Net) -> bool
+// Points go to their final places; whether some x is beyond the range (refusal 16), and whether some y is (refusal 20).
+fn move_points(
+    words: &[i32],
+    numbers: &mut [i64],
+    from: usize,
+    end: usize,
+    net: turns::Net,
+) -> turns::Beyond
     requires { ⌜ Pointed (now words) from end × (end ≤ length (now numbers)) ⌝ }
     requires { ⌜ Near (2 ^ 61) net ⌝ }
     ensures { λ r. ⌜ ((h : Pointed (now (words .entry)) from end) → Moves net (h .points) (now (numbers .entry)) from r (now (numbers .exit))) ⌝ }
 {
-    let mut far = false;
+    let mut x = false;
+    let mut y = false;
     let mut next = from;
     while next < end {
         let i = next;
         next += 2;
-        if place_at(words, numbers, i, net) {
-            far = true;
-        }
+        let far = place_at(words, numbers, i, net);
+        x = turns::either(x, far.x);
+        y = turns::either(y, far.y);
     }
-    far
+    turns::Beyond { x, y }
 }
 
 // Where a shape's points begin: behind its sizes. A polygon has none, a box two, the others one.
@@ -118,7 +124,7 @@ pub fn move_shape(
     letter: u8,
     end: usize,
     net: turns::Net,
-) -> bool
+) -> turns::Beyond
     requires { ⌜ ShapedAt (now words) letter end × (end ≤ length (now numbers)) ⌝ }
     requires { ⌜ Near (2 ^ 61) net ⌝ }
     ensures { λ r. ⌜ ((h : ShapedAt (now (words .entry)) letter end) → MovesShape net (h .shape) (now (numbers .entry)) r (now (numbers .exit))) ⌝ }

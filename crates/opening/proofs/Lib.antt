@@ -1,4 +1,3 @@
-pub mod Searching
 pub mod CallWords
 pub mod Opening
 pub mod Witnesses

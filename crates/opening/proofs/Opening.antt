@@ -2,8 +2,8 @@
 -- another, and whoever draws a call goes on from `Opens` alone.
 -- Assumes nothing.
 use mathlib.Core.Path.{_≡_, refl, sym, ap, _∙_, subst}
-use mathlib.Core.Bool.{Bool, true, false, _||_}
-use mathlib.Core.List.{List, [], _∷_, map}
+use mathlib.Core.Bool.{Bool, true, false}
+use mathlib.Core.List.{List, [], _∷_}
 use mathlib.Core.Option.{some}
 use Prim.Native.Nat.{ℕ, _+_, _≤_}
 use native.Mathlib.Omega.{arith}
@@ -12,6 +12,7 @@ use lib.Dec.{eqb, ltb}
 use lib.IntN.{ℤ}
 use Rattle.definition.specs.Words.{if_then_else_, any}
 use Rattle.definition.specs.Commands.{Turn}
+use Rattle.definition.specs.Turns.{offAxes}
 use Rattle.definition.specs.Table.{Definition, find}
 use Rattle.definition.specs.Drawing.{Chain, Event, called, refused, Passage, barred, leads, passageTo, passageOf, through}
 use Rattle.definition.specs.Counts.{finished, stopped, counted}
@@ -30,13 +31,7 @@ use Rattle.library.specs.declared.Found.the-variants.{Live, Nothing}
 use Rattle.library.proofs.Looking.{not-found, found}
 use Rattle.opening.specs.declared.Call.{Call}
 use Rattle.opening.specs.declared.Opened.the-variants.{Refused, Descends}
-use Rattle.opening.specs.Opening.{Fitting, Stops, Opens}
-
--- the symbols of the open calls
-symbols-any : (n : ℕ) (chain : Chain) → any (λ c. eqb (c .what) n) chain ≡ any (λ x. eqb x n) (map (λ c. c .what) chain)
-unfolding any
-symbols-any n [] = refl
-symbols-any n (c ∷ chain) = ap (λ (r : Bool). eqb (c .what) n || r) (symbols-any n chain)
+use Rattle.opening.specs.Opening.{Stops, Opens}
 
 -- ---- the definition's events of a call
 
@@ -51,70 +46,66 @@ module _ (p : ℕ) (chain : Chain) where
 
 -- ---- test after test
 
-module _ (rows : List ℕ) (live : ℕ) (busy : List ℕ) (call : Call) (left : ℕ) where
+module _ (rows : List ℕ) (live : ℕ) (chain : Chain) (call : Call) (left : ℕ) where
   faulty : (c : Counts) (r : Rule)
-      → ((b : List ℤ) (chain : Chain) (ts : List (Turn ℤ)) → Fitting busy call chain ts → passageOf left (tableOf rows b live) chain (call .symbol) ts ≡ barred r)
-      → Opens rows live busy left call c (Refused (refuse r (call .place)))
+      → ((b : List ℤ) (ts : List (Turn ℤ)) → call .askew ≡ offAxes ts → passageOf left (tableOf rows b live) chain (call .symbol) ts ≡ barred r)
+      → Opens rows live chain left call c (Refused (refuse r (call .place)))
   unfolding Opens
-  faulty c r f b chain ts h go = refused-first (call .place) chain c r (passageOf left (tableOf rows b live) chain (call .symbol) ts) go (f b chain ts h)
+  faulty c r f b ts h go = refused-first (call .place) chain c r (passageOf left (tableOf rows b live) chain (call .symbol) ts) go (f b ts h)
 
-  pub askew-call : (c : Counts) → call .askew ≡ true → Opens rows live busy left call c (Refused (refuse offTheAxes (call .place)))
-  askew-call c e = faulty c offTheAxes (λ b chain ts h. unfold passageOf in rw (sym (h .askew) ∙ e))
+  pub askew-call : (c : Counts) → call .askew ≡ true → Opens rows live chain left call c (Refused (refuse offTheAxes (call .place)))
+  askew-call c e = faulty c offTheAxes (λ b ts h. unfold passageOf in rw (sym h ∙ e))
 
   module _ (straight : call .askew ≡ false) {r : Found} (finds : Finds rows live (call .symbol) r) where
-    pub unknown-call : (c : Counts) → r ≡ Nothing → Opens rows live busy left call c (Refused (refuse undefinedSymbol (call .place)))
+    pub unknown-call : (c : Counts) → r ≡ Nothing → Opens rows live chain left call c (Refused (refuse undefinedSymbol (call .place)))
     unknown-call c q =
         faulty c undefinedSymbol
-        (λ b chain ts h. unfold passageOf passageTo in rw (sym (h .askew) ∙ straight, not-found rows b (call .symbol) live r finds q))
+        (λ b ts h. unfold passageOf passageTo in rw (sym h ∙ straight, not-found rows b (call .symbol) live r finds q))
 
-    module _ {row : ℕ} (q : r ≡ Live row) {o : Bool} (busy-is : o ≡ any (λ x. eqb x (call .symbol)) busy) where
-      -- what is found, and whether the symbol is among the open ones
+    module _ {row : ℕ} (q : r ≡ Live row) {o : Bool} (is-open : o ≡ any (λ c. eqb (c .what) (call .symbol)) chain) where
       is-known : (b : List ℤ) → find (call .symbol) (tableOf rows b live) ≡ some (definitionAt rows b row)
       is-known b = found rows b (call .symbol) live r row finds q .1
 
-      is-busy : {chain : Chain} {ts : List (Turn ℤ)} → Fitting busy call chain ts → any (λ c. eqb (c .what) (call .symbol)) chain ≡ o
-      is-busy {chain} h = symbols-any (call .symbol) chain ∙ ap (any (λ x. eqb x (call .symbol))) (h .open-are) ∙ sym busy-is
-
-      pub open-call : (c : Counts) → o ≡ true → Opens rows live busy left call c (Refused (refuse beingDrawn (call .place)))
-      open-call c e = faulty c beingDrawn (λ b chain ts h. unfold passageOf passageTo in rw (sym (h .askew) ∙ straight, is-known b, is-busy h ∙ e))
+      pub open-call : (c : Counts) → o ≡ true → Opens rows live chain left call c (Refused (refuse beingDrawn (call .place)))
+      open-call c e = faulty c beingDrawn (λ b ts h. unfold passageOf passageTo in rw (sym h ∙ straight, is-known b, sym is-open ∙ e))
 
       module _ (idle : o ≡ false) where
-        pub deep-call : (c : Counts) → left ≡ 0 → Opens rows live busy left call c (Refused (refuse tooDeep (call .place)))
-        deep-call c e = faulty c tooDeep (λ b chain ts h. unfold passageOf passageTo in rw (sym (h .askew) ∙ straight, is-known b, is-busy h ∙ idle, eq-eqb left 0 e))
+        pub deep-call : (c : Counts) → left ≡ 0 → Opens rows live chain left call c (Refused (refuse tooDeep (call .place)))
+        deep-call c e = faulty c tooDeep (λ b ts h. unfold passageOf passageTo in rw (sym h ∙ straight, is-known b, sym is-open ∙ idle, eq-eqb left 0 e))
 
         module _ (some-left : left ≡ 0 → ⊥) where
-          faultless : (b : List ℤ) {chain : Chain} {ts : List (Turn ℤ)} → Fitting busy call chain ts
+          faultless : (b : List ℤ) (ts : List (Turn ℤ)) → call .askew ≡ offAxes ts
               → passageOf left (tableOf rows b live) chain (call .symbol) ts ≡ leads (definitionAt rows b row)
-          faultless b h = unfold passageOf passageTo in rw (sym (h .askew) ∙ straight, is-known b, is-busy h ∙ idle, ne-eqb left 0 some-left)
+          faultless b ts h = unfold passageOf passageTo in rw (sym h ∙ straight, is-known b, sym is-open ∙ idle, ne-eqb left 0 some-left)
 
           module _ {c : Counts} {a : Counted} (count : CountsCall c a) where
-            pub many-calls : {number : ℕ} → a ≡ Full number → Opens rows live busy left call c (Refused (record { number = number; place = call .place }))
+            pub many-calls : {number : ℕ} → a ≡ Full number → Opens rows live chain left call c (Refused (record { number = number; place = call .place }))
             unfolding Opens
-            many-calls {number} full b chain ts h go =
+            many-calls {number} full b ts h go =
                 let d = definitionAt rows b row in
                 record {
                   event = called (call .place) chain d;
                   rest = go d;
-                  are = called-first (call .place) chain (passageOf left (tableOf rows b live) chain (call .symbol) ts) go d (faultless b h);
+                  are = called-first (call .place) chain (passageOf left (tableOf rows b live) chain (call .symbol) ts) go d (faultless b ts h);
                   stops = call-stops c count number full (call .place) chain d;
                 }
 
-            pub goes-down : {more : Counts} → a ≡ More more → Opens rows live busy left call c (Descends row more)
+            pub goes-down : {more : Counts} → a ≡ More more → Opens rows live chain left call c (Descends row more)
             unfolding Opens
             goes-down {more} e = record {
               finds = subst (Finds rows live (call .symbol)) q finds;
               some-left = some-left;
-              no-fault = λ b chain ts h. faultless b h;
-              counts-it = λ chain d. call-goes c count more e (call .place) chain d;
+              no-fault = faultless;
+              counts-it = λ d. call-goes c count more e (call .place) chain d;
             }
 
 -- counts that a call is counted in are no more than there may be
-pub counted-few : (c more : Counts) (p : ℕ) → ((chain : Chain) (d : Definition) → counted (tally c) (called p chain d) ≡ finished (tally more))
+pub counted-few : (c more : Counts) (p : ℕ) (chain : Chain) → ((d : Definition) → counted (tally c) (called p chain d) ≡ finished (tally more))
     → (more .calls ≤ mostCalls) × (more .shapes ≡ c .shapes)
 unfolding counted
-counted-few c more p e = go (ltb (c .calls) mostCalls) refl (e [] (record { symbol = 0; place = 0; body = [] }))
+counted-few c more p chain e = go (ltb (c .calls) mostCalls) refl (e (record { symbol = 0; place = 0; body = [] }))
   where
-    go : (b : Bool) → ltb (c .calls) mostCalls ≡ b → (if b then finished (tallied (c .calls + 1) (c .shapes) (c .redefinitions)) else stopped (refuse tooManyCalls p) []) ≡ finished (tally more)
+    go : (b : Bool) → ltb (c .calls) mostCalls ≡ b → (if b then finished (tallied (c .calls + 1) (c .shapes) (c .redefinitions)) else stopped (refuse tooManyCalls p) chain) ≡ finished (tally more)
         → (more .calls ≤ mostCalls) × (more .shapes ≡ c .shapes)
     go true f q =
         let same : tallied (c .calls + 1) (c .shapes) (c .redefinitions) ≡ tally more = cc in

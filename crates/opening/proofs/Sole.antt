@@ -22,17 +22,9 @@ use Rattle.opening.specs.declared.Call.{Call}
 use Rattle.opening.specs.declared.Opened.{Opened}
 use Rattle.opening.specs.declared.Opened.the-variants.{Refused, Descends}
 use Rattle.opening.specs.Calls.{ReadsCall}
-use Rattle.opening.specs.Opening.{Fitting, Stops, Descent, Opens}
+use Rattle.opening.specs.Opening.{Stops, Descent, Opens}
 use Rattle.opening.proofs.Opening.{called-first}
-use Rattle.opening.proofs.Witnesses.{some-list, some-chain, turned-by, turned-so}
-
--- ---- there are open calls and a list that fit
-
-abbrev chained : List ℕ → Chain
-chained busy = some-chain busy .0
-
-fits : (busy : List ℕ) (call : Call) → Fitting busy call (chained busy) (turned-by (call .askew))
-fits busy call = record { open-are = some-chain busy .1; askew = turned-so (call .askew) }
+use Rattle.opening.proofs.Witnesses.{some-list, turned-by, turned-so}
 
 -- ---- the first row of a number is one
 
@@ -49,30 +41,33 @@ stops-once {c} {es} {why} {other} {chain} x y =
     let q : stopped why chain ≡ stopped other chain = sym (x .stops) ∙ (ap (counted (tally c)) e ∙ y .stops) in
     cc
 
-module _ (rows : List ℕ) (live : ℕ) (busy : List ℕ) (left : ℕ) (call : Call) (c : Counts) where
+module _ (rows : List ℕ) (live : ℕ) (chain : Chain) (left : ℕ) (call : Call) (c : Counts) where
+  -- a list that fits
+  abbrev fitting : List (Turn ℤ)
+  fitting = turned-by (call .askew)
+
   -- what is refused leads nowhere
-  refused-or-led : (why : Refusal) (row : ℕ) (more : Counts) → Opens rows live busy left call c (Refused why) → Descent rows live busy left call c row more → ⊥
+  refused-or-led : (why : Refusal) (row : ℕ) (more : Counts) → Opens rows live chain left call c (Refused why) → Descent rows live chain left call c row more → ⊥
   unfolding Opens
   refused-or-led why row more x y =
-      let chain = chained busy in
-      let ts = turned-by (call .askew) in
+      let fits = turned-so (call .askew) in
       let d = definitionAt rows [] row in
-      let s = x [] chain ts (fits busy call) (λ e. []) in
+      let s = x [] fitting fits (λ e. []) in
       let e : s .event ≡ called (call .place) chain d =
-      head-eq-of-cons-eq (sym (s .are) ∙ called-first (call .place) chain (passageOf left (tableOf rows [] live) chain (call .symbol) ts) (λ e. []) d (y .no-fault [] chain ts (fits busy call))) in
-      never why chain (tally more) (sym (s .stops) ∙ (ap (counted (tally c)) e ∙ y .counts-it chain d))
+      head-eq-of-cons-eq (sym (s .are) ∙ called-first (call .place) chain (passageOf left (tableOf rows [] live) chain (call .symbol) fitting) (λ e. []) d (y .no-fault [] fitting fits)) in
+      never why chain (tally more) (sym (s .stops) ∙ (ap (counted (tally c)) e ∙ y .counts-it d))
 
-  pub opens-sole : (r s : Opened) → Opens rows live busy left call c r → Opens rows live busy left call c s → r ≡ s
+  pub opens-sole : (r s : Opened) → Opens rows live chain left call c r → Opens rows live chain left call c s → r ≡ s
   unfolding Opens
   opens-sole (Refused why) (Refused other) x y =
-      let f = fits busy call in
-      ap Refused (stops-once (x [] (chained busy) (turned-by (call .askew)) f (λ e. [])) (y [] (chained busy) (turned-by (call .askew)) f (λ e. [])))
+      let fits = turned-so (call .askew) in
+      ap Refused (stops-once (x [] fitting fits (λ e. [])) (y [] fitting fits (λ e. [])))
   opens-sole (Refused why) (Descends row more) x y = absurd (refused-or-led why row more x y)
   opens-sole (Descends row more) (Refused why) x y = absurd (refused-or-led why row more y x)
   opens-sole (Descends row more) (Descends other less) x y =
       let e : row ≡ other = first-row rows live (call .symbol) row other (x .finds) (y .finds) in
       let d = definitionAt rows [] row in
-      let q : more ≡ less = counts-told more less (sym (x .counts-it [] d) ∙ y .counts-it [] d) in
+      let q : more ≡ less = counts-told more less (sym (x .counts-it d) ∙ y .counts-it d) in
       cc
 
 -- ---- what a call's words say

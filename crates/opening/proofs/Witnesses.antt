@@ -1,16 +1,14 @@
--- What the contracts speak of and no memory holds is there: a list for every net transformation, open calls for every run of symbols, and a list that is
--- off the axes or not. So a contract over all of them says something.
+-- What the contracts speak of and no memory holds is there: a list for every net transformation, and a list that is off the axes or not. So a contract
+-- over all of them says something.
 -- Assumes nothing.
 use mathlib.Core.Path.{_≡_, refl, sym, ap}
 use mathlib.Core.Bool.{Bool, true, false}
-use mathlib.Core.List.{List, [], _∷_, _++_, map}
-use Prim.Native.Nat.{ℕ}
+use mathlib.Core.List.{List, [], _∷_, _++_}
 use lib.IntN.{ℤ, pos, negsuc, _+ℤ_, negℤ-negℤ}
-use Rattle.definition.specs.Words.{any, at, point}
+use Rattle.definition.specs.Words.{any, point}
 use Rattle.definition.specs.Commands.{Turn, translate, mirrorX, mirrorY, rotate}
 use Rattle.definition.specs.Faults.{bearings}
 use Rattle.definition.specs.Turns.{negative, heading, rotated, act, aim, inOrder, offAxes}
-use Rattle.definition.specs.Drawing.{Chain}
 use Rattle.turns.specs.declared.Net.{Net}
 use Rattle.turns.specs.Nets.{net, signed, turned, apply, Carries}
 
@@ -38,12 +36,6 @@ listed true false false dx dy = (
 
 pub some-list : (n : Net) → (ts : List (Turn ℤ)) × Carries ts n
 some-list n = listed (n .swap) (n .negx) (n .negy) (n .tx) (n .ty)
-
--- ---- open calls of these symbols
-
-pub some-chain : (l : List ℕ) → (chain : Chain) × (map (λ c. c .what) chain ≡ l)
-some-chain [] = ([], refl)
-some-chain (n ∷ l) = let r = some-chain l in (at 0 n ∷ r .0, ap (λ (x : List ℕ). n ∷ x) (r .1))
 
 -- ---- a call's own list: an R off the axes moves nothing
 

@@ -2,11 +2,10 @@
 // its row is asked, so that every engine that draws calls asks the same leaf.
 ghost use mathlib.Core.Path.{_≡_};
 ghost use Prim.Native.Nat.{_-_, _*_, _^_, _≤_};
-ghost use lib.Dec.{eqb};
-ghost use lib.ListN.{length, take};
-ghost use Rattle.definition.specs.Words.{any};
+ghost use lib.ListN.{length};
 ghost use Rattle.definition.specs.Limits.{deepest};
 ghost use Rattle.turns.specs.Nets.{Near};
+ghost use Rattle.chain.specs.Chain.{runLength, openCalls};
 ghost use Rattle.library.specs.Rows.{Sorted};
 ghost use Rattle.opening.specs.Calls.{CalledAt, ReadsCall};
 ghost use Rattle.opening.specs.Opening.{Opens};
@@ -41,22 +40,7 @@ pub fn read_call(words: &[i32], end: usize, outer: turns::Net, place: usize) -> 
     }
 }
 
-// Whether a symbol is being drawn: the first `level` of these are (refusal 13).
-fn is_open(symbols: &[usize], level: usize, symbol: usize) -> bool
-    requires { ⌜ level ≤ length (now symbols) ⌝ }
-    ensures { λ r. ⌜ r ≡ any (λ x. eqb x symbol) (take level (now (symbols .entry))) ⌝ }
-{
-    let mut i = 0;
-    while i < level {
-        if symbols[i] == symbol {
-            return true;
-        }
-        i += 1;
-    }
-    false
-}
-
-// Refusals 11 to 15 of one call, with so many levels left: the symbols of the open calls are the first of `drawing`.
+// Refusals 11 to 15 of one call, with so many levels left: the open calls are the first of the run `drawing`.
 pub fn open_call(
     rows: &[usize; library::ROW_NUMBERS],
     live: usize,
@@ -65,8 +49,8 @@ pub fn open_call(
     call: Call,
     counts: counts::Counts,
 ) -> Opened
-    requires { ⌜ Sorted (now rows) live × (left ≤ deepest) × (deepest - left ≤ length (now drawing)) ⌝ }
-    ensures { λ r. ⌜ Opens (now (rows .entry)) live (take (deepest - left) (now (drawing .entry))) left call counts r ⌝ }
+    requires { ⌜ Sorted (now rows) live × (left ≤ deepest) × (length (now drawing) ≡ runLength) ⌝ }
+    ensures { λ r. ⌜ Opens (now (rows .entry)) live (openCalls (now (drawing .entry)) (deepest - left)) left call counts r ⌝ }
 {
     let place = call.place;
     let symbol = call.symbol;
@@ -79,7 +63,7 @@ pub fn open_call(
         }
         library::Found::Live(row) => {
             let level = definition::DEEPEST - left;
-            if is_open(drawing, level, symbol) {
+            if chain::is_open(drawing, level, symbol) {
                 return Opened::Refused(definition::Refusal { number: 13, place });
             }
             if left == 0 {

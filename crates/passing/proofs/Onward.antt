@@ -15,7 +15,7 @@ use Rattle.definition.specs.Rules.{tooManyDefinitions, tooFewWords, refuse}
 use Rattle.definition.specs.Commands.{Command, layer, start, delete, commands}
 use Rattle.definition.specs.Standing.{Standing, outside, after}
 use Rattle.definition.specs.Table.{Step, Definition, Table, enter, forget}
-use Rattle.definition.specs.Drawing.{retained, Deed, output, define, remove, deedOf, deeds, Event, entered, removed, refused, happens, tableAfter, story}
+use Rattle.definition.specs.Drawing.{retained, Deed, output, define, remove, deedOf, deeds, Chain, Event, entered, removed, refused, happens, tableAfter, story}
 use Rattle.definition.specs.Counts.{counted, shapesOf}
 use Rattle.definition.specs.Held.{wordsIn, heldTo}
 use Rattle.definition.specs.declared.Refusal.{Refusal}
@@ -31,6 +31,7 @@ use Rattle.rules.specs.Letters.{letterD, letterL}
 use Rattle.rules.specs.Written.{written}
 use Rattle.counts.specs.declared.Counts.{Counts}
 use Rattle.moves.specs.Moves.{mostValues}
+use Rattle.chain.specs.Chain.{chainIn}
 use Rattle.shapes.specs.declared.Ink.{Ink}
 use Rattle.shapes.specs.declared.Drawn.{Drawn}
 use Rattle.shapes.specs.declared.Drawn.the-variants.{Done, Refused}
@@ -144,7 +145,7 @@ module _ {t : List ℕ} {w : ℕ} {all : List Event} {room₀ rows : List ℕ} {
   After table ds ink′ room′ = Going (map (heldTo w) all) dry room₀ (map (heldTo w) (story table ds)) ink′ room′
 
   -- no command is left
-  pub text-out : written (stream t spot) ≡ [] → Painted dry (map (heldTo w) all) room₀ (Done ink) room
+  pub text-out : written (stream t spot) ≡ [] → {chain : Chain} → Painted dry (map (heldTo w) all) room₀ chain (Done ink) room
   unfolding deeds story
   text-out e = over (g .going) (ap (λ (ds : List (Placed Command)). map (heldTo w) (story (g .table) (deeds σ ds))) (none-met t spot (g .told) e))
 
@@ -157,11 +158,12 @@ module _ {t : List ℕ} {w : ℕ} {all : List Event} {room₀ rows : List ℕ} {
     left-is = ap (λ (x : List Deed). map (heldTo w) (story (g .table) x)) e ∙ held-story w (g .table) d ds
 
     -- it does a deed, which happens
-    does : {ink′ : Ink} {room′ : List ℕ} → Painted ink (map (heldTo w) (happens (g .table) d)) room (Done ink′) room′ → After (tableAfter (g .table) d) ds ink′ room′
+    does : {chain : Chain} {ink′ : Ink} {room′ : List ℕ} → Painted ink (map (heldTo w) (happens (g .table) d)) room chain (Done ink′) room′ → After (tableAfter (g .table) d) ds ink′ room′
     does x = goes-on (g .going) _ _ left-is x
 
     -- or is refused
-    ends : {why : Refusal} {room′ : List ℕ} → Painted ink (map (heldTo w) (happens (g .table) d)) room (Refused why) room′ → Painted dry (map (heldTo w) all) room₀ (Refused why) room′
+    ends : {chain : Chain} {why : Refusal} {room′ : List ℕ} → Painted ink (map (heldTo w) (happens (g .table) d)) room chain (Refused why) room′
+        → Painted dry (map (heldTo w) all) room₀ chain (Refused why) room′
     ends x = stops (g .going) _ _ left-is x
 
   module _ {k p n : ℕ} {to : Spot} {words : List ℤ} (m : Met t σ (g .commands) k p n to words) where
@@ -208,7 +210,7 @@ module _ {t : List ℕ} {w : ℕ} {all : List Event} {room₀ rows : List ℕ} {
       going =
           let x = at p (natAbs (i .what)) in
           does (remove x) (deeds σ (m .rest)) (deeds-are e)
-          (subst (λ (es : List Event). Painted ink es room (Done ink) room) (sym (held-remove w (g .table) x))
+          (subst (λ (es : List Event). Painted ink es room [] (Done ink) room) (sym (held-remove w (g .table) x))
           (quiet ink (ink .counts) (removed x (g .table)) room refl refl (so-far (g .going))));
     }
 
@@ -284,24 +286,24 @@ module _ {t : List ℕ} {w : ℕ} {all : List Event} {room₀ rows : List ℕ} {
             going =
                 subst (λ (ds : List Deed). After (enter made (g .table)) ds (inked c′ (ink .pen)) room) (x .passes .left)
                 (does (define made) (deeds open-there (m .rest)) deed-is
-                (subst (λ (es : List Event). Painted ink es room (Done (inked c′ (ink .pen))) room)
+                (subst (λ (es : List Event). Painted ink es room [] (Done (inked c′ (ink .pen))) room)
                 (sym (defined-is w (g .table) made (x .few) (let h = x .kept .enough in omega (arith, size, h))))
                 (quiet ink c′ (entered made (g .table)) room (x .counts-so) refl
                 (record { calls-most = omega (arith, r .calls-most, x .same-calls); shapes-most = omega (arith, r .shapes-most, x .same-shapes); place-most = omega (arith, r .place-most, x .same-shapes) }))));
           }
 
-      pub text-overfull : mostDefinitions < length (enter made (g .table)) → Painted dry (map (heldTo w) all) room₀ (Refused (record { number = 10; place = p })) room
+      -- refused outside of every call
+      text-refused : (why : Refusal) → map (heldTo w) (happens (g .table) (define made)) ≡ refused why [] ∷ [] → Painted dry (map (heldTo w) all) room₀ [] (Refused why) room
       unfolding counted
-      text-overfull h =
-          ends (define made) (deeds open-there (m .rest)) deed-is
-          (subst (λ (es : List Event). Painted ink es room (Refused (record { number = 10; place = p })) room) (sym (overfull-is w (g .table) made h)) (refusal ink _ [] room _ [] refl))
+      text-refused why is =
+          ends (define made) (deeds open-there (m .rest)) deed-is (subst (λ (es : List Event). Painted ink es room [] (Refused why) room) (sym is) (refusal ink _ [] room _ [] refl))
+
+      pub text-overfull : mostDefinitions < length (enter made (g .table)) → Painted dry (map (heldTo w) all) room₀ [] (Refused (record { number = 10; place = p })) room
+      text-overfull h = text-refused _ (overfull-is w (g .table) made h)
 
       pub text-short : length (enter made (g .table)) ≤ mostDefinitions → w < wordsIn (enter made (g .table))
-          → Painted dry (map (heldTo w) all) room₀ (Refused (record { number = 25; place = p })) room
-      unfolding counted
-      text-short h j =
-          ends (define made) (deeds open-there (m .rest)) deed-is
-          (subst (λ (es : List Event). Painted ink es room (Refused (record { number = 25; place = p })) room) (sym (short-is w (g .table) made h j)) (refusal ink _ [] room _ [] refl))
+          → Painted dry (map (heldTo w) all) room₀ [] (Refused (record { number = 25; place = p })) room
+      text-short h j = text-refused _ (short-is w (g .table) made h j)
 
     -- ---- any other command
 
@@ -331,15 +333,15 @@ module _ {t : List ℕ} {w : ℕ} {all : List Event} {room₀ rows : List ℕ} {
             subst (λ (x : List ℕ). Says words k n x shown) (sym (g .layer-is))
             (is-output (g .closed) p (m .rest) (m .voice) e no-l no-d no-s .said words (m .behind-it) n (m .laid) (m .ends) (m .few) long)
 
-        module _ {r : Drawn} {room′ : List ℕ} (x : OuterDraws rows b (stock .live) words k p n l ink room r room′) where
+        module _ (drawing′ : List ℕ) {r : Drawn} {room′ : List ℕ} (x : OuterDraws rows b (stock .live) words k p n l ink room drawing′ r room′) where
           -- drawn from the lean table, it is drawn as from the whole
-          text-painted : Painted ink (happens (g .table) (output (at p shown))) room r room′
+          text-painted : Painted ink (happens (g .table) (output (at p shown))) room (chainIn drawing′) r room′
           text-painted =
               alike-painted (alike-output (g .table) (at p shown)) ink
-              (subst (λ (y : Table). Painted ink (happens y (output (at p shown))) room r room′) (held-table (g .kept .holds)) (x shown text-says))
+              (subst (λ (y : Table). Painted ink (happens y (output (at p shown))) room (chainIn drawing′) r room′) (held-table (g .kept .holds)) (x shown text-says))
 
-          held-painted : Painted ink (map (heldTo w) (happens (g .table) (output (at p shown)))) room r room′
-          held-painted = subst (λ (es : List Event). Painted ink es room r room′) (sym (held-output w (g .table) (at p shown))) text-painted
+          held-painted : Painted ink (map (heldTo w) (happens (g .table) (output (at p shown)))) room (chainIn drawing′) r room′
+          held-painted = subst (λ (es : List Event). Painted ink es room (chainIn drawing′) r room′) (sym (held-output w (g .table) (at p shown))) text-painted
 
           deed-shown : deeds σ (g .commands) ≡ output (at p shown) ∷ deeds σ (m .rest)
           deed-shown = deeds-are refl ∙ is-output (g .closed) p (m .rest) (m .voice) e no-l no-d no-s .deed
@@ -361,10 +363,10 @@ module _ {t : List ℕ} {w : ℕ} {all : List Event} {room₀ rows : List ℕ} {
             kept = g .kept;
             going =
                 does (output (at p shown)) (deeds σ (m .rest)) deed-shown
-                (subst (λ (y : Drawn). Painted ink (map (heldTo w) (happens (g .table) (output (at p shown)))) room y room′) q held-painted);
+                (subst (λ (y : Drawn). Painted ink (map (heldTo w) (happens (g .table) (output (at p shown)))) room (chainIn drawing′) y room′) q held-painted);
           }
 
-          pub text-stopped : {why : Refusal} → r ≡ Refused why → Painted dry (map (heldTo w) all) room₀ (Refused why) room′
+          pub text-stopped : {why : Refusal} → r ≡ Refused why → Painted dry (map (heldTo w) all) room₀ (chainIn drawing′) (Refused why) room′
           text-stopped {why} q =
               ends (output (at p shown)) (deeds σ (m .rest)) deed-shown
-              (subst (λ (y : Drawn). Painted ink (map (heldTo w) (happens (g .table) (output (at p shown)))) room y room′) q held-painted)
+              (subst (λ (y : Drawn). Painted ink (map (heldTo w) (happens (g .table) (output (at p shown)))) room (chainIn drawing′) y room′) q held-painted)

@@ -3,7 +3,7 @@
 -- Assumes nothing.
 use mathlib.Core.Path.{_≡_, refl, sym, ap, _∙_, subst}
 use mathlib.Core.Bool.{true, false}
-use mathlib.Core.List.{List}
+use mathlib.Core.List.{List, [], map}
 use Prim.Native.Nat.{ℕ, _+_, _-_, _^_, _≤_, _<_}
 use native.Mathlib.Omega.{arith}
 use lib.Dec.{T}
@@ -16,6 +16,8 @@ use mir.Facts.{toZ-ofZ}
 use Rattle.definition.specs.Limits.{deepest}
 use Rattle.definition.specs.Commands.{layer}
 use Rattle.definition.specs.Table.{Step}
+use Rattle.definition.specs.Drawing.{Chain}
+use Rattle.definition.specs.Held.{heldTo}
 use Rattle.definition.specs.declared.Refusal.{Refusal}
 use Rattle.names.specs.Names.{nameOf}
 use Rattle.pieces.specs.Pieces.{letterS, tooLarge, Fit}
@@ -28,10 +30,11 @@ use Rattle.commands.specs.declared.Read.the-variants.{Nothing}
 use Rattle.commands.specs.Words.{DecodedOne, ReadsCommand}
 use Rattle.counts.specs.declared.Counts.{Counts}
 use Rattle.moves.specs.Moves.{mostValues}
+use Rattle.chain.specs.Chain.{runLength, chainIn}
 use Rattle.shapes.specs.declared.Ink.{Ink}
 use Rattle.shapes.specs.declared.Drawn.{Drawn}
 use Rattle.shapes.specs.declared.Drawn.the-variants.{Done, Refused}
-use Rattle.shapes.specs.Painting.{inked}
+use Rattle.shapes.specs.Painting.{inked, Painted}
 use Rattle.shapes.proofs.Painting.{so-far, room-kept}
 use Rattle.library.specs.Memory.{rowNumbers, neededIn}
 use Rattle.library.specs.Rows.{Sorted}
@@ -42,7 +45,7 @@ use Rattle.keeping.specs.declared.Defined.{Defined}
 use Rattle.keeping.specs.declared.Defined.the-variants.{Taken, Overfull, Short}
 use Rattle.engine.specs.Draws.{Ready}
 use Rattle.engine.specs.Outer.{Says, OuterDraws}
-use Rattle.passing.specs.Passed.{Passed, toDraw, dry, outputs, startIn, Deletes, TextDraws}
+use Rattle.passing.specs.Passed.{Passed, toDraw, dry, outputs, startIn, Deletes, TextDraws, RefusedOutside}
 use Rattle.passing.proofs.Letters.{is-delete}
 use Rattle.passing.proofs.Reading.{Met, meets, run-kept, read-none, third-word, met-layer}
 use Rattle.passing.proofs.Onward.{Onward, start-text, needed-now, text-out, text-layer, text-delete, most-in, text-opens, text-defined, text-overfull, text-short, text-idle, text-says, text-same, text-drawn, text-stopped}
@@ -101,7 +104,7 @@ module _ {t : List ℕ} {w : ℕ} {words₀ numbers₀ : List ℤ} {drawing₀ r
   pub deletable : Sorted rows (stock .live) × (stock .needed ≡ neededIn rows (stock .live)) × (stock .needed < 2 ^ 64)
   deletable = let k = here .kept in (k .sorted, needed-now k, omega (arith, k .needs, k .enough, k .short))
 
-  pub ready : mostValues + 2 ≤ length numbers₀ → length drawing₀ ≡ deepest → Ready rows b (stock .live) numbers drawing deepest ink
+  pub ready : mostValues + 2 ≤ length numbers₀ → length drawing₀ ≡ runLength → Ready rows b (stock .live) numbers drawing deepest ink
   ready roomy levels =
       let k = here .kept in
       record {
@@ -115,7 +118,7 @@ module _ {t : List ℕ} {w : ℕ} {words₀ numbers₀ : List ℤ} {drawing₀ r
       }
 
   -- nothing is left
-  pub passing-out : (r : Read) (words′ : List ℤ) → ReadsCommand t spot 1 1 words r words′ → r ≡ Nothing → TextDraws t w room₀ (Done ink) room
+  pub passing-out : (r : Read) (words′ : List ℤ) → ReadsCommand t spot 1 1 words r words′ → r ≡ Nothing → TextDraws t w room₀ drawing (Done ink) room
   passing-out r words′ x e p = text-out (u .onward p) (read-none t spot 1 1 words r words′ x e)
 
   module _ {account : Written} {kind place n : ℕ} {to : Spot} {words′ : List ℤ} (big : mostValues + 2 ≤ length words₀) (r : DecodedOne t spot 1 1 account words kind place n to words′) where
@@ -205,13 +208,24 @@ module _ {t : List ℕ} {w : ℕ} {words₀ numbers₀ : List ℤ} {drawing₀ r
               redefined = omega (arith, u .redefined, k .redefined, k .ahead, r .ahead);
             }
 
-        pub passing-overfull : d ≡ Overfull → TextDraws t w room₀ (Refused (record { number = 10; place = place })) room
-        unfolding Defines
-        passing-overfull f p = let g = u .onward p in text-overfull g (met g) e (comes p f)
+        -- refused outside of every call, as the run tells it
+        told-so : {number : ℕ} {r : Drawn} {drawing′ : List ℕ} → RefusedOutside number place r drawing′ → (p : Passed t)
+            → Painted dry (map (heldTo w) (toDraw p)) room₀ [] (Refused (record { number = number; place = place })) room
+            → Painted dry (map (heldTo w) (toDraw p)) room₀ (chainIn drawing′) r room
+        told-so {number} {r} {drawing′} o p x =
+            subst (λ (y : Drawn). Painted dry (map (heldTo w) (toDraw p)) room₀ (chainIn drawing′) y room) (sym (o .is))
+            (subst (λ (chain : Chain). Painted dry (map (heldTo w) (toDraw p)) room₀ chain (Refused (record { number = number; place = place })) room) (sym (o .none-open)) x)
 
-        pub passing-short : d ≡ Short → TextDraws t w room₀ (Refused (record { number = 25; place = place })) room
+        pub passing-overfull : {r : Drawn} {drawing′ : List ℕ} → RefusedOutside 10 place r drawing′ → d ≡ Overfull → TextDraws t w room₀ drawing′ r room
         unfolding Defines
-        passing-short f p = let g = u .onward p in let k = comes p f in text-short g (met g) e (k .0) (let s = size-then in let h = k .1 in omega (arith, s, h))
+        passing-overfull o f p = let g = u .onward p in told-so o p (text-overfull g (met g) e (comes p f))
+
+        pub passing-short : {r : Drawn} {drawing′ : List ℕ} → RefusedOutside 25 place r drawing′ → d ≡ Short → TextDraws t w room₀ drawing′ r room
+        unfolding Defines
+        passing-short o f p =
+            let g = u .onward p in
+            let k = comes p f in
+            told-so o p (text-short g (met g) e (k .0) (let s = size-then in let h = k .1 in omega (arith, s, h)))
 
     -- ---- any other command
 
@@ -223,19 +237,19 @@ module _ {t : List ℕ} {w : ℕ} {words₀ numbers₀ : List ℤ} {drawing₀ r
         pub passing-says : (s : Step) × Says words′ kind n (nameOf l) s
         passing-says = (_, text-says here (met here) no-l no-d no-s e words-then)
 
-        module _ {room′ : List ℕ} {d : Drawn} (draws : OuterDraws rows b (stock .live) words′ kind place n l ink room d room′) where
-          pub passing-drawn : {ink′ : Ink} {ns : List ℤ} {drawing′ : List ℕ} → d ≡ Done ink′ → length ns ≡ length numbers → length drawing′ ≡ length drawing
+        module _ (drawing′ : List ℕ) {room′ : List ℕ} {d : Drawn} (draws : OuterDraws rows b (stock .live) words′ kind place n l ink room drawing′ d room′) where
+          pub passing-drawn : {ink′ : Ink} {ns : List ℤ} → d ≡ Done ink′ → length ns ≡ length numbers → length drawing′ ≡ length drawing
               → Next rows b words′ ns drawing′ room′ to l stock ink′
           passing-drawn q kn kd = record {
             passed = u .passed;
-            onward = λ p. let g = u .onward p in text-drawn g (met g) no-l no-d no-s e words-then draws q;
+            onward = λ p. let g = u .onward p in text-drawn g (met g) no-l no-d no-s e words-then drawing′ draws q;
             fit = r .fit;
             bodies-kept = u .bodies-kept;
             words-kept = run-kept r ∙ u .words-kept;
             numbers-kept = kn ∙ u .numbers-kept;
             drawing-kept = kd ∙ u .drawing-kept;
-            redefined = omega (arith, u .redefined, r .ahead, text-same here (met here) no-l no-d no-s e words-then draws q);
+            redefined = omega (arith, u .redefined, r .ahead, text-same here (met here) no-l no-d no-s e words-then drawing′ draws q);
           }
 
-          pub passing-stopped : {why : Refusal} → d ≡ Refused why → TextDraws t w room₀ (Refused why) room′
-          passing-stopped q p = let g = u .onward p in text-stopped g (met g) no-l no-d no-s e words-then draws q
+          pub passing-stopped : {why : Refusal} → d ≡ Refused why → TextDraws t w room₀ drawing′ (Refused why) room′
+          passing-stopped q p = let g = u .onward p in text-stopped g (met g) no-l no-d no-s e words-then drawing′ draws q

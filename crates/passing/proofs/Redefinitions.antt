@@ -7,7 +7,7 @@ use native.Mathlib.Omega.{arith}
 use lib.ListN.{length}
 use Rattle.definition.specs.Words.{Placed}
 use Rattle.definition.specs.Table.{Step, Table}
-use Rattle.definition.specs.Drawing.{Event, called, drew, entered, removed, refused, output, happens}
+use Rattle.definition.specs.Drawing.{Chain, Event, called, drew, entered, removed, refused, output, happens}
 use Rattle.laws.proofs.Lists.Range.{All}
 use Rattle.laws.proofs.Story.Counting.{redefinitionsOf, counted-all}
 use Rattle.laws.proofs.Story.Outputs.{Outputs, output-events}
@@ -43,7 +43,7 @@ output-same t s {ink} {ink′} g =
     omega (arith, k .redefinitions-are, n)
 
 -- so a command that is output leaves the count as it is
-pub painted-same : (t : Table) (s : Placed Step) {ink ink′ : Ink} {room room′ : List ℕ} {d : Drawn} → Painted ink (happens t (output s)) room d room′ → d ≡ Done ink′
+pub painted-same : (t : Table) (s : Placed Step) {ink ink′ : Ink} {room room′ : List ℕ} {chain : Chain} {d : Drawn} → Painted ink (happens t (output s)) room chain d room′ → d ≡ Done ink′
     → ink′ .counts .redefinitions ≡ ink .counts .redefinitions
 unfolding Answered
-painted-same t s {ink} x e = output-same t s (subst (λ (y : Drawn). Answered ink (happens t (output s)) y) e (x .answer))
+painted-same t s {ink} {chain = chain} x e = output-same t s (subst (λ (y : Drawn). Answered ink (happens t (output s)) chain y) e (x .answer))

@@ -3,7 +3,7 @@
 -- Assumes nothing.
 use mathlib.Core.Path.{_≡_}
 use mathlib.Core.Bool.{Bool, _||_}
-use mathlib.Core.List.{List, map}
+use mathlib.Core.List.{List, [], map}
 use mathlib.Core.Option.{none}
 use Prim.Native.Nat.{ℕ, _≤_}
 use lib.Dec.{ltb, eqb}
@@ -25,8 +25,10 @@ use Rattle.library.specs.Rows.{Forgets}
 use Rattle.keeping.specs.Keeping.{mostWords}
 use Rattle.keeping.specs.declared.Start.{Start}
 use Rattle.keeping.specs.declared.Stock.{Stock}
+use Rattle.chain.specs.Chain.{chainIn}
 use Rattle.shapes.specs.declared.Ink.{Ink}
 use Rattle.shapes.specs.declared.Drawn.{Drawn}
+use Rattle.shapes.specs.declared.Drawn.the-variants.{Refused}
 use Rattle.shapes.specs.Painting.{Painted}
 
 -- a text that refusals 1 to 9 let pass
@@ -44,8 +46,13 @@ abbrev pub dry : Ink
 dry = record { counts = record { calls = 0; shapes = 0; redefinitions = 0 }; pen = record { at = 0; layer = 0 } }
 
 -- the contract of `draw`, with so many words lent
-abbrev pub TextDraws : (t : List ℕ) (words : ℕ) (room : List ℕ) → Drawn → List ℕ → Type 0
-TextDraws t words room r room′ = (p : Passed t) → Painted dry (map (heldTo words) (toDraw p)) room r room′
+abbrev pub TextDraws : (t : List ℕ) (words : ℕ) (room drawing′ : List ℕ) → Drawn → List ℕ → Type 0
+TextDraws t words room drawing′ r room′ = (p : Passed t) → Painted dry (map (heldTo words) (toDraw p)) room (chainIn drawing′) r room′
+
+-- a definition is refused: it stands outside of every call
+pub record RefusedOutside (number place : ℕ) (r : Drawn) (drawing′ : List ℕ) : Type 0 where
+  pub is : r ≡ Refused (record { number = number; place = place })
+  pub none-open : chainIn drawing′ ≡ []
 
 -- as many of the words lent as bodies can need
 abbrev pub lentOf : ℕ → ℕ

@@ -9,12 +9,12 @@ ghost use Prim.Native.Nat.{_+_, _≤_, _^_, _<_};
 ghost use mathlib.Core.Path.{_≡_};
 ghost use lib.ListN.{length};
 ghost use Rattle.grammar.specs.Steps.{KindsLent, NextLent};
-ghost use Rattle.definition.specs.Limits.{deepest};
 ghost use Rattle.moves.specs.Moves.{mostValues};
 ghost use Rattle.library.specs.Memory.{rowNumbers, neededIn};
 ghost use Rattle.library.specs.Rows.{Sorted};
 ghost use Rattle.keeping.specs.Keeping.{mostWords};
-ghost use Rattle.passing.specs.Passed.{Passed, TextDraws, outputs, startIn, Deletes, lentOf};
+ghost use Rattle.chain.specs.Chain.{runLength};
+ghost use Rattle.passing.specs.Passed.{Passed, TextDraws, outputs, startIn, Deletes, RefusedOutside, lentOf};
 
 // A command has at most 2,049 numbers (01, refusal 9: 1,024 points, and a width), and two words in front.
 const COMMAND_WORDS: usize = 2051;
@@ -61,6 +61,15 @@ fn delete(rows: &[usize; library::ROW_NUMBERS], stock: Stock, symbol: usize) -> 
     }
 }
 
+// A definition is refused, where no call is open (refusals 10 and 25).
+fn refuse_definition(drawing: &mut [usize], number: usize, place: usize) -> Drawn
+    requires { ⌜ length (now drawing) ≡ runLength ⌝ }
+    ensures { λ r. ⌜ RefusedOutside number place r (now (drawing .exit)) ⌝ }
+{
+    chain::stop(drawing, 0);
+    Drawn::Refused(definition::Refusal { number, place })
+}
+
 // The commands of a text from its start on: layers, definitions and deletions change what stands, all else is drawn.
 fn draw_text(
     text: &[u8],
@@ -75,8 +84,8 @@ fn draw_text(
 ) -> Drawn
     requires { ⌜ KindsLent (now kinds) × NextLent (now next) ⌝ }
     requires { ⌜ Passed (now text) × (length (now rows) ≡ rowNumbers) × (length (now bodies) ≤ mostWords) ⌝ }
-    requires { ⌜ (mostValues + 2 ≤ length (now words)) × (mostValues + 2 ≤ length (now numbers)) × (length (now drawing) ≡ deepest) ⌝ }
-    ensures { λ r. ⌜ TextDraws (now (text .entry)) (length (now (bodies .entry))) (now (room .entry)) r (now (room .exit)) ⌝ }
+    requires { ⌜ (mostValues + 2 ≤ length (now words)) × (mostValues + 2 ≤ length (now numbers)) × (length (now drawing) ≡ runLength) ⌝ }
+    ensures { λ r. ⌜ TextDraws (now (text .entry)) (length (now (bodies .entry))) (now (room .entry)) (now (drawing .exit)) r (now (room .exit)) ⌝ }
 {
     let mut spot = pieces::Spot { at: 0, state: 0 };
     let mut layer: u32 = 0;
@@ -120,10 +129,10 @@ fn draw_text(
                             ink = Ink { counts, pen };
                         }
                         Defined::Overfull => {
-                            return Drawn::Refused(definition::Refusal { number: 10, place });
+                            return refuse_definition(drawing, 10, place);
                         }
                         Defined::Short => {
-                            return Drawn::Refused(definition::Refusal { number: 25, place });
+                            return refuse_definition(drawing, 25, place);
                         }
                     }
                 } else if draws(kind) {
@@ -164,17 +173,17 @@ fn at_most(n: usize) -> usize
     MOST_WORDS
 }
 
-// All that a text draws, counted, and its lines in the room up to the first refusal. Lines past the room's end are counted and dropped.
-pub fn draw(text: &[u8], bodies: &mut [i32], room: &mut [u8]) -> Drawn
-    requires { ⌜ Passed (now text) ⌝ }
-    ensures { λ r. ⌜ TextDraws (now (text .entry)) (length (now (bodies .entry))) (now (room .entry)) r (now (room .exit)) ⌝ }
+// All that a text draws, counted, and its lines in the room up to the first refusal. Lines past the room's end are counted and dropped. The run of the open
+// calls is lent, since it tells the calls that are open at a refusal (02, request 4).
+pub fn draw(text: &[u8], bodies: &mut [i32], drawing: &mut [usize], room: &mut [u8]) -> Drawn
+    requires { ⌜ Passed (now text) × (length (now drawing) ≡ runLength) ⌝ }
+    ensures { λ r. ⌜ TextDraws (now (text .entry)) (length (now (bodies .entry))) (now (room .entry)) (now (drawing .exit)) r (now (room .exit)) ⌝ }
 {
     let kinds = grammar::tables::KINDS;
     let next = grammar::tables::NEXT;
     let mut rows = [0usize; library::ROW_NUMBERS];
     let mut words = [0i32; COMMAND_WORDS];
     let mut numbers = [0i64; COMMAND_WORDS];
-    let mut drawing = [0usize; definition::DEEPEST];
     let lent = at_most(bodies.len());
     draw_text(
         text,
@@ -184,7 +193,7 @@ pub fn draw(text: &[u8], bodies: &mut [i32], room: &mut [u8]) -> Drawn
         &mut bodies[0..lent],
         &mut words,
         &mut numbers,
-        &mut drawing,
+        drawing,
         room,
     )
 }

@@ -6,7 +6,7 @@ use mathlib.Core.List.{List, _++_}
 use Prim.Native.Nat.{ℕ, _+_}
 use lib.ListN.{length}
 use lib.Seq.{sets}
-use Rattle.definition.specs.Drawing.{Event, called}
+use Rattle.definition.specs.Drawing.{Chain, Event, called}
 use Rattle.definition.specs.Drawing.{Drawn as Shown}
 use Rattle.definition.specs.Counts.{End, finished, stopped, counted}
 use Rattle.definition.specs.Counts.{Counts as Tally}
@@ -46,13 +46,13 @@ module _ {a b : List Event} (h : Alike a b) (ink : Ink) where
         reached = g .reached;
       }
 
-  alike-answer : (r : Drawn) → Answered ink a r → Answered ink b r
+  alike-answer : (chain : Chain) (r : Drawn) → Answered ink a chain r → Answered ink b chain r
   unfolding Answered
-  alike-answer (Done ink′) g = alike-goes g
-  alike-answer (Refused why) g = (g .0, sym (alike-ending h (tally (ink .counts))) ∙ g .1)
+  alike-answer chain (Done ink′) g = alike-goes g
+  alike-answer chain (Refused why) g = sym (alike-ending h (tally (ink .counts))) ∙ g
 
-  pub alike-painted : {room : List ℕ} {r : Drawn} {room′ : List ℕ} → Painted ink a room r room′ → Painted ink b room r room′
-  alike-painted {room} {r} x = record {
-    answer = alike-answer r (x .answer);
+  pub alike-painted : {room : List ℕ} {chain : Chain} {r : Drawn} {room′ : List ℕ} → Painted ink a room chain r room′ → Painted ink b room chain r room′
+  alike-painted {room} {chain} {r} x = record {
+    answer = alike-answer chain r (x .answer);
     laid = x .laid ∙ ap (λ (s : List Shown). sets room (ink .pen .at) (lines (nameOf (ink .pen .layer)) s)) (alike-shapes (alike-until h (tally (ink .counts))));
   }

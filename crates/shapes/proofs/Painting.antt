@@ -55,7 +55,7 @@ until-all c (x ∷ es) c′ e = go (counted c x) (λ d. until-all d es c′) e
 -- ---- one after another
 
 -- nothing happens
-pub still : (ink : Ink) (room : List ℕ) → Reached ink → Painted ink [] room (Done ink) room
+pub still : (ink : Ink) (room : List ℕ) {chain : Chain} → Reached ink → Painted ink [] room chain (Done ink) room
 unfolding Answered until ending shapesOf lines
 still ink room h = record {
   answer = record { ends = refl; next = sym (add-zero (ink .pen .at)); on = λ ds. refl; reached = h };
@@ -63,8 +63,8 @@ still ink room h = record {
 }
 
 -- an event that is counted and no shape
-pub quiet : (ink : Ink) (c : Counts) (e : Event) (room : List ℕ) → counted (tally (ink .counts)) e ≡ finished (tally c) → shapesOf (e ∷ []) ≡ [] → Reached (inked c (ink .pen))
-    → Painted ink (e ∷ []) room (Done (inked c (ink .pen))) room
+pub quiet : (ink : Ink) (c : Counts) (e : Event) (room : List ℕ) {chain : Chain} → counted (tally (ink .counts)) e ≡ finished (tally c) → shapesOf (e ∷ []) ≡ [] → Reached (inked c (ink .pen))
+    → Painted ink (e ∷ []) room chain (Done (inked c (ink .pen))) room
 unfolding Answered until ending lines goingBy goOn
 quiet ink c e room h n k = record {
   answer = record {
@@ -78,25 +78,30 @@ quiet ink c e room h n k = record {
 
 -- a refusal, before anything is drawn
 pub refusal : (ink : Ink) (e : Event) (es : List Event) (room : List ℕ) (why : Refusal) (chain : Chain) → counted (tally (ink .counts)) e ≡ stopped why chain
-    → Painted ink (e ∷ es) room (Refused why) room
+    → Painted ink (e ∷ es) room chain (Refused why) room
 unfolding Answered until ending goingBy goOn shapesOf lines
-refusal ink e es room why chain h = record { answer = (chain, rw h); laid = rw h }
+refusal ink e es room why chain h = record { answer = rw h; laid = rw h }
 
-module _ {ink : Ink} {a : List Event} {room : List ℕ} where
+module _ {ink : Ink} {a : List Event} {room : List ℕ} {chain : Chain} where
   -- what is refused stays so, whatever would come
-  pub cut : (b : List Event) {why : Refusal} {room′ : List ℕ} → Painted ink a room (Refused why) room′ → Painted ink (a ++ b) room (Refused why) room′
+  pub cut : (b : List Event) {why : Refusal} {room′ : List ℕ} → Painted ink a room chain (Refused why) room′ → Painted ink (a ++ b) room chain (Refused why) room′
   unfolding Answered
   cut b {why} {room′} x =
-      let e = x .answer .1 in
+      let e = x .answer in
       record {
-        answer = (x .answer .0, ending-++ (tally (ink .counts)) a b ∙ (ap (λ (y : End). goOn y (λ d. ending d b)) e ∙ (unfold goOn in refl)));
+        answer = ending-++ (tally (ink .counts)) a b ∙ (ap (λ (y : End). goOn y (λ d. ending d b)) e ∙ (unfold goOn in refl));
         laid =
             x .laid
             ∙ ap (λ (es : List Event). sets room (ink .pen .at) (lines (nameOf (ink .pen .layer)) (shapesOf es)))
             (sym (append-nil (until (tally (ink .counts)) a)) ∙ sym (until-++ (tally (ink .counts)) a b ∙ (ap (λ (y : End). until (tally (ink .counts)) a ++ further y b) e ∙ (unfold further in refl))));
       }
 
-  module _ {ink′ : Ink} {room′ : List ℕ} (x : Painted ink a room (Done ink′) room′) where
+  module _ {ink′ : Ink} {room′ : List ℕ} (x : Painted ink a room chain (Done ink′) room′) where
+    -- what is done is so whatever calls a refusal would be told with
+    pub for-any : {other : Chain} → Painted ink a room other (Done ink′) room′
+    unfolding Answered
+    for-any = record { answer = x .answer; laid = x .laid }
+
     -- what is done, and what is done then
     went : Goes ink a ink′
     unfolding Answered
@@ -139,20 +144,20 @@ module _ {ink : Ink} {a : List Event} {room : List ℕ} where
           reached = g .reached;
         }
 
-    answer-then : (b : List Event) (r : Drawn) → Answered ink′ b r → Answered ink (a ++ b) r
+    answer-then : (b : List Event) (open-calls : Chain) (r : Drawn) → Answered ink′ b open-calls r → Answered ink (a ++ b) open-calls r
     unfolding Answered
-    answer-then b (Done ink″) g = goes-then b g
-    answer-then b (Refused why) g = (g .0, ends-then b ∙ g .1)
+    answer-then b open-calls (Done ink″) g = goes-then b g
+    answer-then b open-calls (Refused why) g = ends-then b ∙ g
 
-    pub next-drawn : (b : List Event) {r : Drawn} {room″ : List ℕ} → Painted ink′ b room′ r room″ → Painted ink (a ++ b) room r room″
-    next-drawn b {r} y = record { answer = answer-then b r (y .answer); laid = laid-both b (y .laid) }
+    pub next-drawn : (b : List Event) {open-calls : Chain} {r : Drawn} {room″ : List ℕ} → Painted ink′ b room′ open-calls r room″ → Painted ink (a ++ b) room open-calls r room″
+    next-drawn b {open-calls} {r} y = record { answer = answer-then b open-calls r (y .answer); laid = laid-both b (y .laid) }
 
--- ---- a loop that draws: what is to be drawn in all, and what of it is left
+-- ---- a loop that draws: what is to be drawn in all, and what of it is left. Nothing is refused yet, so that the calls of a refusal are told as none
 
 pub record Going (all : List Event) (ink₀ : Ink) (room₀ : List ℕ) (left : List Event) (ink : Ink) (room : List ℕ) : Type 0 where
   pub done : List Event
   pub parts : done ++ left ≡ all
-  pub drawn : Painted ink₀ done room₀ (Done ink) room
+  pub drawn : Painted ink₀ done room₀ [] (Done ink) room
 
 pub begun : (all : List Event) (ink : Ink) (room : List ℕ) → Reached ink → Going all ink room all ink room
 begun all ink room h = record { done = []; parts = refl; drawn = still ink room h }
@@ -168,20 +173,20 @@ module _ {all : List Event} {ink₀ : Ink} {room₀ : List ℕ} {left : List Eve
   parts-then : (now rest : List Event) → left ≡ now ++ rest → (g .done ++ now) ++ rest ≡ all
   parts-then now rest e = append-assoc (g .done) now rest ∙ (ap (λ (l : List Event). g .done ++ l) (sym e) ∙ g .parts)
 
-  pub goes-on : (now rest : List Event) → left ≡ now ++ rest → {ink′ : Ink} {room′ : List ℕ} → Painted ink now room (Done ink′) room′
+  pub goes-on : (now rest : List Event) → left ≡ now ++ rest → {chain : Chain} {ink′ : Ink} {room′ : List ℕ} → Painted ink now room chain (Done ink′) room′
       → Going all ink₀ room₀ rest ink′ room′
-  goes-on now rest e x = record { done = g .done ++ now; parts = parts-then now rest e; drawn = next-drawn (g .drawn) now x }
+  goes-on now rest e x = record { done = g .done ++ now; parts = parts-then now rest e; drawn = next-drawn (g .drawn) now (for-any x) }
 
   -- what is left draws nothing
   pub skips : (rest : List Event) → left ≡ rest → Going all ink₀ room₀ rest ink room
   skips rest e = subst (λ (l : List Event). Going all ink₀ room₀ l ink room) e g
 
-  pub stops : (now rest : List Event) → left ≡ now ++ rest → {why : Refusal} {room′ : List ℕ} → Painted ink now room (Refused why) room′
-      → Painted ink₀ all room₀ (Refused why) room′
-  stops now rest e {why} {room′} x =
-      subst (λ (l : List Event). Painted ink₀ l room₀ (Refused why) room′) (parts-then now rest e) (cut rest (next-drawn (g .drawn) now x))
+  pub stops : (now rest : List Event) → left ≡ now ++ rest → {chain : Chain} {why : Refusal} {room′ : List ℕ} → Painted ink now room chain (Refused why) room′
+      → Painted ink₀ all room₀ chain (Refused why) room′
+  stops now rest e {chain} {why} {room′} x =
+      subst (λ (l : List Event). Painted ink₀ l room₀ chain (Refused why) room′) (parts-then now rest e) (cut rest (next-drawn (g .drawn) now x))
 
-  pub over : left ≡ [] → Painted ink₀ all room₀ (Done ink) room
-  over e =
-      subst (λ (l : List Event). Painted ink₀ l room₀ (Done ink) room)
-      (sym (append-nil (g .done)) ∙ (ap (λ (l : List Event). g .done ++ l) (sym e) ∙ g .parts)) (g .drawn)
+  pub over : left ≡ [] → {chain : Chain} → Painted ink₀ all room₀ chain (Done ink) room
+  over e {chain} =
+      subst (λ (l : List Event). Painted ink₀ l room₀ chain (Done ink) room)
+      (sym (append-nil (g .done)) ∙ (ap (λ (l : List Event). g .done ++ l) (sym e) ∙ g .parts)) (for-any (g .drawn))

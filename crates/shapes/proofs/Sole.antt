@@ -1,5 +1,5 @@
 -- Two outcomes that the contract of a function that draws allows are one: the answer, with the counts, the next place and the last layer or with the
--- refusal, and every byte of the room. The last layer is told by what would be written after it.
+-- refusal and the calls open there, and every byte of the room. The last layer is told by what would be written after it.
 -- Assumes nothing.
 use mathlib.Core.Path.{_≡_, refl, sym, ap, _∙_, subst}
 use mathlib.Core.Bool.{Bool, true, false}
@@ -10,10 +10,11 @@ use lib.Dec.{T}
 use lib.ListN.{length, length-append}
 use Rattle.definition.specs.Words.{if_then_else_, same}
 use Rattle.definition.specs.Commands.{polygon, shapeOf}
-use Rattle.definition.specs.Drawing.{Event}
+use Rattle.definition.specs.Drawing.{Chain, Event}
 use Rattle.definition.specs.Drawing.{Drawn as Shown}
 use Rattle.definition.specs.Counts.{finished, stopped, shapesOf}
 use Rattle.definition.specs.Flat.{letterOf, line, spaced, said, lines}
+use Rattle.definition.specs.declared.Refusal.{Refusal}
 use Rattle.definition.proofs.Rows.{same-eq}
 use Rattle.pen.specs.Names.{nameOf}
 use Rattle.pen.proofs.Names.{name-same, same-refl}
@@ -59,13 +60,19 @@ goes-once {ink} {es} {a} {b} x y =
     let layer : a .pen .layer ≡ b .pen .layer = name-same (a .pen .layer) (b .pen .layer) (layer-told (nameOf (a .pen .layer)) (nameOf (b .pen .layer)) names-so) in
     λ i. inked (counts i) (record { at = place i; layer = layer i })
 
-answered-once : (ink : Ink) (es : List Event) (r s : Drawn) → Answered ink es r → Answered ink es s → r ≡ s
+answered-once : (ink : Ink) (es : List Event) (chain open-calls : Chain) (r s : Drawn) → Answered ink es chain r → Answered ink es open-calls s → r ≡ s
 unfolding Answered
-answered-once ink es (Done a) (Done b) x y = ap Done (goes-once x y)
-answered-once ink es (Done a) (Refused why) x y = absurd (never why (y .0) (tally (a .counts)) (sym (y .1) ∙ x .ends))
-answered-once ink es (Refused why) (Done b) x y = absurd (never why (x .0) (tally (b .counts)) (sym (x .1) ∙ y .ends))
-answered-once ink es (Refused why) (Refused other) x y = let e : stopped why (x .0) ≡ stopped other (y .0) = sym (x .1) ∙ y .1 in cc
+answered-once ink es chain open-calls (Done a) (Done b) x y = ap Done (goes-once x y)
+answered-once ink es chain open-calls (Done a) (Refused why) x y = absurd (never why open-calls (tally (a .counts)) (sym y ∙ x .ends))
+answered-once ink es chain open-calls (Refused why) (Done b) x y = absurd (never why chain (tally (b .counts)) (sym x ∙ y .ends))
+answered-once ink es chain open-calls (Refused why) (Refused other) x y = let e : stopped why chain ≡ stopped other open-calls = sym x ∙ y in cc
 
-pub painted-once : {ink : Ink} {es : List Event} {room : List ℕ} {r s : Drawn} {room′ room″ : List ℕ} → Painted ink es room r room′ → Painted ink es room s room″
-    → (r ≡ s) × (room′ ≡ room″)
-painted-once {ink} {es} {r = r} {s} x y = (answered-once ink es r s (x .answer) (y .answer), x .laid ∙ sym (y .laid))
+module _ {ink : Ink} {es : List Event} {room : List ℕ} {chain open-calls : Chain} where
+  pub painted-once : {r s : Drawn} {room′ room″ : List ℕ} → Painted ink es room chain r room′ → Painted ink es room open-calls s room″ → (r ≡ s) × (room′ ≡ room″)
+  painted-once {r} {s} x y = (answered-once ink es chain open-calls r s (x .answer) (y .answer), x .laid ∙ sym (y .laid))
+
+  -- and the calls that are open where it is refused
+  pub chain-once : {why other : Refusal} {room′ room″ : List ℕ} → Painted ink es room chain (Refused why) room′ → Painted ink es room open-calls (Refused other) room″
+      → chain ≡ open-calls
+  unfolding Answered
+  chain-once {why} {other} x y = let e : stopped why chain ≡ stopped other open-calls = sym (x .answer) ∙ y .answer in cc

@@ -58,16 +58,17 @@ pub record Goes (ink : Ink) (es : List Event) (ink′ : Ink) : Type 0 where
   pub on : (ds : List Shown) → lines (nameOf (ink .pen .layer)) (shapesOf es ++ ds) ≡ lines (nameOf (ink .pen .layer)) (shapesOf es) ++ lines (nameOf (ink′ .pen .layer)) ds
   pub reached : Reached ink′
 
-unfoldable pub Answered : Ink → List Event → Drawn → Type 0
-Answered ink es (Done ink′) = Goes ink es ink′
-Answered ink es (Refused why) = (chain : Chain) × (ending (tally (ink .counts)) es ≡ stopped why chain)
+-- where one of them is refused, these calls are open
+unfoldable pub Answered : Ink → List Event → Chain → Drawn → Type 0
+Answered ink es chain (Done ink′) = Goes ink es ink′
+Answered ink es chain (Refused why) = ending (tally (ink .counts)) es ≡ stopped why chain
 
 -- the contract of every function that draws
-pub record Painted (ink : Ink) (es : List Event) (room : List ℕ) (r : Drawn) (room′ : List ℕ) : Type 0 where
-  pub answer : Answered ink es r
+pub record Painted (ink : Ink) (es : List Event) (room : List ℕ) (chain : Chain) (r : Drawn) (room′ : List ℕ) : Type 0 where
+  pub answer : Answered ink es chain r
   pub laid : room′ ≡ sets room (ink .pen .at) (bytesOf ink es)
 
 -- the contract of `draw_shape`, whatever calls are open, and for every list that does what the net transformation does
 abbrev pub ShapeDraws : (words : List ℤ) (letter end : ℕ) (net : Net) (layer place : ℕ) → Ink → List ℕ → Drawn → List ℕ → Type 0
 ShapeDraws words letter end net layer place ink room r room′ =
-    (h : ShapedAt words letter end) (chain : Chain) (ts : List (Turn ℤ)) → Carries ts net → Painted ink (drawShape chain ts place (nameOf layer) (h .shape) ∷ []) room r room′
+    (h : ShapedAt words letter end) (chain : Chain) (ts : List (Turn ℤ)) → Carries ts net → Painted ink (drawShape chain ts place (nameOf layer) (h .shape) ∷ []) room chain r room′

@@ -1,4 +1,4 @@
-// One shape drawn: refusals 16 and 17, or its lines (01, "Drawing"). And what every function that draws takes and gives: the pen, and the answer.
+// One shape drawn: refusals 16, 20 and 17, or its lines (01, "Drawing"). And what every function that draws takes and gives: the pen, and the answer.
 ghost use mathlib.Core.Path.{_≡_};
 ghost use Prim.Native.Nat.{_^_, _<_, _≤_};
 ghost use lib.IntN.{pos, natAbs};
@@ -25,7 +25,7 @@ pub enum Drawn {
     Refused(definition::Refusal),
 }
 
-// One shape (refusals 16 and 17): an L line, if its layer is not the last one's, and its own line.
+// One shape (refusals 16, 20 and 17): an L line, if its layer is not the last one's, and its own line.
 pub fn draw_shape(
     words: &[i32],
     numbers: &mut [i64],
@@ -41,8 +41,12 @@ pub fn draw_shape(
     requires { ⌜ Near (2 ^ 61) net × Reached ink ⌝ }
     ensures { λ r. ⌜ ShapeDraws (now (words .entry)) letter end net layer place ink (now (room .entry)) r (now (room .exit)) ⌝ }
 {
-    if moves::move_shape(words, numbers, letter, end, net) {
+    let far = moves::move_shape(words, numbers, letter, end, net);
+    if far.x {
         return Drawn::Refused(definition::Refusal { number: 16, place });
+    }
+    if far.y {
+        return Drawn::Refused(definition::Refusal { number: 20, place });
     }
     let had = ink.counts;
     match counts::count_shape(had) {

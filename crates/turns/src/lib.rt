@@ -43,6 +43,12 @@ pub struct Listed {
     pub askew: bool,
 }
 
+// Whether a final point is beyond the range, by its x and by its y: they are refusals of their own (02, request 4).
+pub struct Beyond {
+    pub x: bool,
+    pub y: bool,
+}
+
 // The letters of a call's words (specs/Words.antt).
 const LETTER_T: i32 = 84;
 
@@ -151,18 +157,18 @@ pub fn is_far(x: i64) -> bool
     x < -16777215 || 16777215 < x
 }
 
-// Is a final point beyond the range?
-pub fn is_beyond(p: Pair) -> bool
-    ensures { λ r. ⌜ r ≡ (beyond (p .x) || beyond (p .y)) ⌝ }
+// Which numbers of a final point are beyond the range?
+pub fn is_beyond(p: Pair) -> Beyond
+    ensures { λ r. ⌜ (r .x ≡ beyond (p .x)) × (r .y ≡ beyond (p .y)) ⌝ }
 {
-    if is_far(p.x) {
-        return true;
+    Beyond {
+        x: is_far(p.x),
+        y: is_far(p.y),
     }
-    is_far(p.y)
 }
 
-// Does one of the two hold?
-fn either(a: bool, b: bool) -> bool
+// Does one of the two hold? With no branch, so that a loop that asks it goes one way.
+pub fn either(a: bool, b: bool) -> bool
     ensures { λ r. ⌜ r ≡ (a || b) ⌝ }
 {
     a || b

@@ -1,13 +1,12 @@
 -- `draw_body` and `draw_call` meet their contracts: a body keeps what is left to draw (proofs/Underway.antt), a call is refused or draws its body one
 -- level down (proofs/Calls.antt).
 -- Assumes nothing.
-use mathlib.Core.Path.{refl, _∙_}
+use mathlib.Core.Path.{_∙_}
 use native.Mathlib.Nat.{pos-of-ne-zero}
 use native.Mathlib.Omega.{arith}
-use borrow.Author.Needs.{needs}
-use lib.ListN.{length-set}
 use Rattle.turns.proofs.Nets.{near-more}
-use Rattle.engine.proofs.Calls.{answered-descent, row-live, call-stopped, body-there, ready-below, body-drawn, kept-below}
+use Rattle.chain.proofs.Runs.{kept-both}
+use Rattle.engine.proofs.Calls.{answered-descent, row-live, call-stopped, body-there, ready-below, body-drawn, kept-here}
 use Rattle.engine.proofs.Underway.{Underway, started, reached-here, ready-here, room-here, was-all, two-more, met, layer-asked, was-layer, shape-asked, was-shape, shape-refused, call-asked, call-near, was-call, call-refused}
 use Prim.Native.Nat.{ℕ, _+_, _-_, _*_, _<_}
 use borrow.Fn.Kinds.{In}
@@ -18,6 +17,8 @@ use Rattle.engine.proofs.+draw_body+draw_call.Lts-draw_body as draw-bod
 use Rattle.engine.proofs.draw_call.Reads as draw-call
 use Rattle.engine.proofs.draw_call.Kinds as draw-call-kinds
 use Rattle.engine.proofs.+draw_body+draw_call.Lts-draw_call as draw-call-lts
+use Rattle.chain.proofs.push.Reads as push-reads
+use Rattle.chain.proofs.stop.Reads as stop-reads
 use Rattle.engine.proofs.head_at.Reads as head-at-reads
 use Rattle.engine.proofs.name_at.Reads as name-at-reads
 use Rattle.library.proofs.length_at.Reads as length-at-reads
@@ -60,12 +61,18 @@ body-claims t = (
   draw-call.Post,
   draw-shape-reads.Asked,
   draw-shape-reads.Learnt,
+  stop-reads.Asked,
+  stop-reads.Learnt,
 )
 
 abbrev call-claims : ℕ → draw-call-lts.Claims
 call-claims t = (
   open-call-reads.Asked,
   open-call-reads.Learnt,
+  stop-reads.Asked,
+  stop-reads.Learnt,
+  push-reads.Asked,
+  push-reads.Learnt,
   start-at-reads.Asked,
   start-at-reads.Learnt,
   length-at-reads.Asked,
@@ -143,7 +150,7 @@ draw-body-same-length-3 : (t : ℕ) → draw-body-lts.Need-same-length-3 (body-c
 draw-body-same-length-3 t c = c .before .before .before .before .before .before .before .before .draw-call .kept .1 .1 .1 .1 .1 .0 ∙ room-here (c .before .before .before .before .before .before .before .before .before .before .before .before .before .before .before .before .before .before .loop .inv)
 
 draw-body-returns : (t : ℕ) → draw-body-lts.Need-returns (body-claims t) (draw-body-at t) draw-body.Post draw-body-Inv-loop draw-body-μ-loop
-draw-body-returns t c = (call-refused (c .before .before .before .before .before .before .before .before .before .before .before .before .before .before .before .before .before .before .loop .inv) (met (c .before .before .before .before .before .before .before .before .before .before .before .before .before .before .before .before .before .before .loop .inv) (omega (arith, c .before .before .before .before .before .before .before .before .before .before .before .before .before .before .before .before .before .loop-test .taken)) (c .before .before .before .before .before .before .before .before .before .before .before .before .before .before .before .before .head-at .ensures)) (c .before .before .before .before .before .before .before .before .before .before .before .before .before .before .before .before .before .before .before .before .before .pre .1 .2 .within) (c .before .before .before .before .before .before .before .before .before .before .before .before .before .before .if2 .taken) (c .before .before .before .before .before .before .before .before .before .before .before .before .read-call .ensures) (c .before .before .before .before .before .before .before .before .draw-call .ensures .0) (c .before .refusal .given .1), c .before .before .before .before .before .before .before .before .draw-call .ensures .1 ∙ c .before .before .before .before .before .before .before .before .before .before .before .before .before .before .before .before .before .before .loop .inv .open-kept)
+draw-body-returns t c = (call-refused (c .before .before .before .before .before .before .before .before .before .before .before .before .before .before .before .before .before .before .loop .inv) (met (c .before .before .before .before .before .before .before .before .before .before .before .before .before .before .before .before .before .before .loop .inv) (omega (arith, c .before .before .before .before .before .before .before .before .before .before .before .before .before .before .before .before .before .loop-test .taken)) (c .before .before .before .before .before .before .before .before .before .before .before .before .before .before .before .before .head-at .ensures)) (c .before .before .before .before .before .before .before .before .before .before .before .before .before .before .before .before .before .before .before .before .before .pre .1 .2 .within) (c .before .before .before .before .before .before .before .before .before .before .before .before .before .before .if2 .taken) (c .before .before .before .before .before .before .before .before .before .before .before .before .read-call .ensures) (c .before .before .before .before .before .before .before .before .draw-call .ensures .0) (c .before .refusal .given .1), kept-both (c .before .before .before .before .before .before .before .before .before .before .before .before .before .before .before .before .before .before .loop .inv .open-kept) (c .before .before .before .before .before .before .before .before .draw-call .ensures .1))
 
 draw-body-mul-draw-shape : (t : ℕ) → draw-body-lts.Need-mul-draw-shape (body-claims t) (draw-body-at t) draw-body.Post draw-body-Inv-loop draw-body-μ-loop
 draw-body-mul-draw-shape t c = let m = met (c .before .before .before .before .loop .inv) (omega (arith, c .before .before .before .loop-test .taken)) (c .before .before .head-at .ensures) in omega (arith, m .next, m .within, c .before .before .before .before .before .before .before .pre .1 .2 .within, c .before .before .before .before .before .before .before .pre .1 .0 .short)
@@ -175,17 +182,23 @@ draw-body-loop-again-3 t c = was-shape (c .before .before .before .before .befor
 draw-body-enum-known-refusal-2 : (t : ℕ) → draw-body-lts.Need-enum-known-refusal-2 (body-claims t) (draw-body-at t) draw-body.Post draw-body-Inv-loop draw-body-μ-loop
 draw-body-enum-known-refusal-2 t c = c .match2 .keys2
 
+draw-body-sub-level : (t : ℕ) → draw-body-lts.Need-sub-level (body-claims t) (draw-body-at t) draw-body.Post draw-body-Inv-loop draw-body-μ-loop
+draw-body-sub-level t c = omega (arith, c .before .before .before .before .before .before .before .before .before .before .before .before .before .before .before .before .before .pre .1 .0 .some-left)
+
+draw-body-stop-requires : (t : ℕ) → draw-body-lts.Need-stop-requires (body-claims t) (draw-body-at t) draw-body.Post draw-body-Inv-loop draw-body-μ-loop
+draw-body-stop-requires t c κs = (omega (arith, c .before .before .before .before .before .before .before .before .before .before .before .before .before .before .before .before .before .before .pre .1 .0 .some-left), c .before .before .before .before .before .before .before .before .before .before .before .before .before .before .before .loop .inv .drawing-kept ∙ c .before .before .before .before .before .before .before .before .before .before .before .before .before .before .before .before .before .before .pre .1 .0 .levels)
+
 draw-body-same-length-4 : (t : ℕ) → draw-body-lts.Need-same-length-4 (body-claims t) (draw-body-at t) draw-body.Post draw-body-Inv-loop draw-body-μ-loop
-draw-body-same-length-4 t c = c .before .before .before .before .before .before .draw-shape .kept .1 .0 ∙ c .before .before .before .before .before .before .before .before .before .before .before .before .before .before .loop .inv .numbers-kept
+draw-body-same-length-4 t c = c .before .before .before .before .before .before .before .before .before .before .draw-shape .kept .1 .0 ∙ c .before .before .before .before .before .before .before .before .before .before .before .before .before .before .before .before .before .before .loop .inv .numbers-kept
 
 draw-body-same-length-5 : (t : ℕ) → draw-body-lts.Need-same-length-5 (body-claims t) (draw-body-at t) draw-body.Post draw-body-Inv-loop draw-body-μ-loop
-draw-body-same-length-5 t c = c .before .before .before .before .before .before .before .before .before .before .before .before .before .before .loop .inv .drawing-kept
+draw-body-same-length-5 t c = c .before .before .stop .kept .0 ∙ c .before .before .before .before .before .before .before .before .before .before .before .before .before .before .before .before .before .before .loop .inv .drawing-kept
 
 draw-body-same-length-6 : (t : ℕ) → draw-body-lts.Need-same-length-6 (body-claims t) (draw-body-at t) draw-body.Post draw-body-Inv-loop draw-body-μ-loop
-draw-body-same-length-6 t c = c .before .before .before .before .before .before .draw-shape .kept .1 .1 .0 ∙ room-here (c .before .before .before .before .before .before .before .before .before .before .before .before .before .before .loop .inv)
+draw-body-same-length-6 t c = c .before .before .before .before .before .before .before .before .before .before .draw-shape .kept .1 .1 .0 ∙ room-here (c .before .before .before .before .before .before .before .before .before .before .before .before .before .before .before .before .before .before .loop .inv)
 
 draw-body-returns-2 : (t : ℕ) → draw-body-lts.Need-returns-2 (body-claims t) (draw-body-at t) draw-body.Post draw-body-Inv-loop draw-body-μ-loop
-draw-body-returns-2 t c = (shape-refused (c .before .before .before .before .before .before .before .before .before .before .before .before .before .before .loop .inv) (met (c .before .before .before .before .before .before .before .before .before .before .before .before .before .before .loop .inv) (omega (arith, c .before .before .before .before .before .before .before .before .before .before .before .before .before .loop-test .taken)) (c .before .before .before .before .before .before .before .before .before .before .before .before .head-at .ensures)) (c .before .before .before .before .before .before .before .before .before .before .before .before .before .before .before .before .before .pre .1 .2 .within) (c .before .before .before .before .before .before .before .before .before .before .before .if1 .left) (c .before .before .before .before .before .before .before .before .before .before .if2 .left) (c .before .before .before .before .before .before .draw-shape .ensures) (c .before .refusal2 .given .1), c .before .before .before .before .before .before .before .before .before .before .before .before .before .before .loop .inv .open-kept)
+draw-body-returns-2 t c = (shape-refused (c .before .before .before .before .before .before .before .before .before .before .before .before .before .before .before .before .before .before .loop .inv) (met (c .before .before .before .before .before .before .before .before .before .before .before .before .before .before .before .before .before .before .loop .inv) (omega (arith, c .before .before .before .before .before .before .before .before .before .before .before .before .before .before .before .before .before .loop-test .taken)) (c .before .before .before .before .before .before .before .before .before .before .before .before .before .before .before .before .head-at .ensures)) (c .before .before .before .before .before .before .before .before .before .before .before .before .before .before .before .before .before .before .before .before .before .pre .1 .2 .within) (c .before .before .before .before .before .before .before .before .before .before .before .before .before .before .before .if1 .left) (c .before .before .before .before .before .before .before .before .before .before .before .before .before .before .if2 .left) (c .before .before .before .before .before .before .before .before .before .before .draw-shape .ensures) (c .before .before .stop .ensures .chain-is) (c .before .before .before .before .before .refusal2 .given .1), kept-both (c .before .before .before .before .before .before .before .before .before .before .before .before .before .before .before .before .before .before .loop .inv .open-kept) (c .before .before .stop .ensures .kept))
 
 draw-body-same-length-7 : (t : ℕ) → draw-body-lts.Need-same-length-7 (body-claims t) (draw-body-at t) draw-body.Post draw-body-Inv-loop draw-body-μ-loop
 draw-body-same-length-7 t c = c .before .loop .inv .numbers-kept
@@ -200,55 +213,58 @@ draw-body-returns-3 : (t : ℕ) → draw-body-lts.Need-returns-3 (body-claims t)
 draw-body-returns-3 t c = (was-all (c .before .loop .inv) (omega (arith, c .loop-test .left)), c .before .loop .inv .open-kept)
 
 draw-call-open-call-requires : (t : ℕ) → draw-call-lts.Need-open-call-requires (call-claims t) (draw-call-at t) draw-call.Post
-draw-call-open-call-requires t c κs = (c .before .before .before .pre .1 .0 .sorted, c .before .before .before .pre .1 .0 .some-left, omega (arith, c .before .before .before .pre .1 .0 .levels))
+draw-call-open-call-requires t c κs = (c .before .before .before .pre .1 .0 .sorted, c .before .before .before .pre .1 .0 .some-left, c .before .before .before .pre .1 .0 .levels)
 
 draw-call-enum-known-refusal : (t : ℕ) → draw-call-lts.Need-enum-known-refusal (call-claims t) (draw-call-at t) draw-call.Post
 draw-call-enum-known-refusal t c = c .match .keys1
 
+draw-call-sub-stop : (t : ℕ) → draw-call-lts.Need-sub-stop (call-claims t) (draw-call-at t) draw-call.Post
+draw-call-sub-stop t c = omega (arith, c .before .before .before .before .before .before .before .before .pre .1 .0 .some-left)
+
+draw-call-stop-requires : (t : ℕ) → draw-call-lts.Need-stop-requires (call-claims t) (draw-call-at t) draw-call.Post
+draw-call-stop-requires t c κs = (omega (arith, c .before .before .before .before .before .before .before .before .pre .1 .0 .some-left), c .before .before .before .before .before .before .before .before .pre .1 .0 .levels)
+
 draw-call-same-length : (t : ℕ) → draw-call-lts.Need-same-length (call-claims t) (draw-call-at t) draw-call.Post
-draw-call-same-length t c = refl
+draw-call-same-length t c = c .before .before .stop .kept .0
 
 draw-call-returns : (t : ℕ) → draw-call-lts.Need-returns (call-claims t) (draw-call-at t) draw-call.Post
-draw-call-returns t c = (λ chain o outer ts e h. call-stopped (c .before .before .before .before .before .before .before .args .rows .now) (c .before .before .before .before .before .before .before .args .live) (c .before .before .before .before .before .before .before .args .drawing .now) (c .before .before .before .before .before .before .before .args .left) (c .before .before .before .before .before .before .before .args .call) (c .before .before .before .before .before .before .before .args .ink) (c .before .before .before .open-call .ensures) (c .before .refusal .given .1) (c .before .before .before .before .before .before .before .args .bodies .now) (c .before .before .before .before .before .before .before .args .room .now) chain o outer ts e, refl)
+draw-call-returns t c = (call-stopped (c .before .before .before .before .before .before .before .before .before .before .before .args .rows .now) (c .before .before .before .before .before .before .before .before .before .before .before .args .live) (c .before .before .before .before .before .before .before .before .before .before .before .args .drawing .now) (c .before .before .before .before .before .before .before .before .before .before .before .args .left) (c .before .before .before .before .before .before .before .before .before .before .before .args .call) (c .before .before .before .before .before .before .before .before .before .before .before .args .ink) (c .before .before .before .before .before .before .before .open-call .ensures) (c .before .before .before .before .before .refusal .given .1) (c .before .before .stop .ensures .chain-is) (c .before .before .before .before .before .before .before .before .before .before .before .args .bodies .now) (c .before .before .before .before .before .before .before .before .before .before .before .args .room .now), c .before .before .stop .ensures .kept)
 
 draw-call-enum-known-row : (t : ℕ) → draw-call-lts.Need-enum-known-row (call-claims t) (draw-call-at t) draw-call.Post
 draw-call-enum-known-row t c = c .match .keys2
 
-draw-call-sub-drawing : (t : ℕ) → draw-call-lts.Need-sub-drawing (call-claims t) (draw-call-at t) draw-call.Post
-draw-call-sub-drawing t c = omega (arith, c .before .before .before .before .before .before .before .pre .1 .0 .some-left)
+draw-call-sub-push : (t : ℕ) → draw-call-lts.Need-sub-push (call-claims t) (draw-call-at t) draw-call.Post
+draw-call-sub-push t c = omega (arith, pos-of-ne-zero (answered-descent (c .before .before .before .before .before .before .before .before .args .rows .now) (c .before .before .before .before .before .before .before .before .args .live) (c .before .before .before .before .before .before .before .before .args .drawing .now) (c .before .before .before .before .before .before .before .before .args .left) (c .before .before .before .before .before .before .before .before .args .call) (c .before .before .before .before .before .before .before .before .args .ink) (c .before .before .before .before .open-call .ensures) (c .before .before .row .given .1) .some-left), c .before .before .before .before .before .before .before .before .pre .1 .0 .some-left)
 
-draw-call-mul-drawing : (t : ℕ) → draw-call-lts.Need-mul-drawing (call-claims t) (draw-call-at t) draw-call.Post
-draw-call-mul-drawing t c = search needs
-
-draw-call-slice-write-drawing : (t : ℕ) → draw-call-lts.Need-slice-write-drawing (call-claims t) (draw-call-at t) draw-call.Post
-draw-call-slice-write-drawing t c = omega (arith, pos-of-ne-zero (answered-descent (c .before .before .before .before .before .before .before .args .rows .now) (c .before .before .before .before .before .before .before .args .live) (c .before .before .before .before .before .before .before .args .drawing .now) (c .before .before .before .before .before .before .before .args .left) (c .before .before .before .before .before .before .before .args .call) (c .before .before .before .before .before .before .before .args .ink) (c .before .before .before .open-call .ensures) (c .before .row .given .1) .some-left), c .before .before .before .before .before .before .before .pre .1 .0 .some-left, c .before .before .before .before .before .before .before .pre .1 .0 .levels)
+draw-call-push-requires : (t : ℕ) → draw-call-lts.Need-push-requires (call-claims t) (draw-call-at t) draw-call.Post
+draw-call-push-requires t c κs = (omega (arith, pos-of-ne-zero (answered-descent (c .before .before .before .before .before .before .before .before .args .rows .now) (c .before .before .before .before .before .before .before .before .args .live) (c .before .before .before .before .before .before .before .before .args .drawing .now) (c .before .before .before .before .before .before .before .before .args .left) (c .before .before .before .before .before .before .before .before .args .call) (c .before .before .before .before .before .before .before .before .args .ink) (c .before .before .before .before .open-call .ensures) (c .before .before .row .given .1) .some-left), c .before .before .before .before .before .before .before .before .pre .1 .0 .some-left), c .before .before .before .before .before .before .before .before .pre .1 .0 .levels)
 
 draw-call-start-at-requires : (t : ℕ) → draw-call-lts.Need-start-at-requires (call-claims t) (draw-call-at t) draw-call.Post
-draw-call-start-at-requires t c κs = omega (arith, row-live (c .before .before .before .before .before .before .before .args .rows .now) (c .before .before .before .before .before .before .before .args .live) (c .before .before .before .before .before .before .before .args .drawing .now) (c .before .before .before .before .before .before .before .args .left) (c .before .before .before .before .before .before .before .args .call) (c .before .before .before .before .before .before .before .args .ink) (answered-descent (c .before .before .before .before .before .before .before .args .rows .now) (c .before .before .before .before .before .before .before .args .live) (c .before .before .before .before .before .before .before .args .drawing .now) (c .before .before .before .before .before .before .before .args .left) (c .before .before .before .before .before .before .before .args .call) (c .before .before .before .before .before .before .before .args .ink) (c .before .before .before .open-call .ensures) (c .before .row .given .1)), c .before .before .before .before .before .before .before .pre .1 .0 .sorted .few)
+draw-call-start-at-requires t c κs = omega (arith, row-live (c .before .before .before .before .before .before .before .before .before .before .before .args .rows .now) (c .before .before .before .before .before .before .before .before .before .before .before .args .live) (c .before .before .before .before .before .before .before .before .before .before .before .args .drawing .now) (c .before .before .before .before .before .before .before .before .before .before .before .args .left) (c .before .before .before .before .before .before .before .before .before .before .before .args .call) (c .before .before .before .before .before .before .before .before .before .before .before .args .ink) (answered-descent (c .before .before .before .before .before .before .before .before .before .before .before .args .rows .now) (c .before .before .before .before .before .before .before .before .before .before .before .args .live) (c .before .before .before .before .before .before .before .before .before .before .before .args .drawing .now) (c .before .before .before .before .before .before .before .before .before .before .before .args .left) (c .before .before .before .before .before .before .before .before .before .before .before .args .call) (c .before .before .before .before .before .before .before .before .before .before .before .args .ink) (c .before .before .before .before .before .before .before .open-call .ensures) (c .before .before .before .before .before .row .given .1)), c .before .before .before .before .before .before .before .before .before .before .before .pre .1 .0 .sorted .few)
 
 draw-call-length-at-requires : (t : ℕ) → draw-call-lts.Need-length-at-requires (call-claims t) (draw-call-at t) draw-call.Post
-draw-call-length-at-requires t c κs = omega (arith, row-live (c .before .before .before .before .before .before .before .before .args .rows .now) (c .before .before .before .before .before .before .before .before .args .live) (c .before .before .before .before .before .before .before .before .args .drawing .now) (c .before .before .before .before .before .before .before .before .args .left) (c .before .before .before .before .before .before .before .before .args .call) (c .before .before .before .before .before .before .before .before .args .ink) (answered-descent (c .before .before .before .before .before .before .before .before .args .rows .now) (c .before .before .before .before .before .before .before .before .args .live) (c .before .before .before .before .before .before .before .before .args .drawing .now) (c .before .before .before .before .before .before .before .before .args .left) (c .before .before .before .before .before .before .before .before .args .call) (c .before .before .before .before .before .before .before .before .args .ink) (c .before .before .before .before .open-call .ensures) (c .before .before .row .given .1)), c .before .before .before .before .before .before .before .before .pre .1 .0 .sorted .few)
+draw-call-length-at-requires t c κs = omega (arith, row-live (c .before .before .before .before .before .before .before .before .before .before .before .before .args .rows .now) (c .before .before .before .before .before .before .before .before .before .before .before .before .args .live) (c .before .before .before .before .before .before .before .before .before .before .before .before .args .drawing .now) (c .before .before .before .before .before .before .before .before .before .before .before .before .args .left) (c .before .before .before .before .before .before .before .before .before .before .before .before .args .call) (c .before .before .before .before .before .before .before .before .before .before .before .before .args .ink) (answered-descent (c .before .before .before .before .before .before .before .before .before .before .before .before .args .rows .now) (c .before .before .before .before .before .before .before .before .before .before .before .before .args .live) (c .before .before .before .before .before .before .before .before .before .before .before .before .args .drawing .now) (c .before .before .before .before .before .before .before .before .before .before .before .before .args .left) (c .before .before .before .before .before .before .before .before .before .before .before .before .args .call) (c .before .before .before .before .before .before .before .before .before .before .before .before .args .ink) (c .before .before .before .before .before .before .before .before .open-call .ensures) (c .before .before .before .before .before .before .row .given .1)), c .before .before .before .before .before .before .before .before .before .before .before .before .pre .1 .0 .sorted .few)
 
 draw-call-add-end : (t : ℕ) → draw-call-lts.Need-add-end (call-claims t) (draw-call-at t) draw-call.Post
-draw-call-add-end t c = let k = body-there (c .before .before .before .before .before .before .before .before .before .args .rows .now) (c .before .before .before .before .before .before .before .before .before .args .live) (c .before .before .before .before .before .before .before .before .before .args .drawing .now) (c .before .before .before .before .before .before .before .before .before .args .left) (c .before .before .before .before .before .before .before .before .before .args .call) (c .before .before .before .before .before .before .before .before .before .args .ink) (answered-descent (c .before .before .before .before .before .before .before .before .before .args .rows .now) (c .before .before .before .before .before .before .before .before .before .args .live) (c .before .before .before .before .before .before .before .before .before .args .drawing .now) (c .before .before .before .before .before .before .before .before .before .args .left) (c .before .before .before .before .before .before .before .before .before .args .call) (c .before .before .before .before .before .before .before .before .before .args .ink) (c .before .before .before .before .before .open-call .ensures) (c .before .before .before .row .given .1)) (c .before .before .before .before .before .before .before .before .before .pre .1 .0 .stocked) (c .before .start-at .ensures) (c .length-at .ensures) in omega (arith, k .within, c .before .before .before .before .before .before .before .before .before .pre .1 .0 .short)
+draw-call-add-end t c = let k = body-there (c .before .before .before .before .before .before .before .before .before .before .before .before .before .args .rows .now) (c .before .before .before .before .before .before .before .before .before .before .before .before .before .args .live) (c .before .before .before .before .before .before .before .before .before .before .before .before .before .args .drawing .now) (c .before .before .before .before .before .before .before .before .before .before .before .before .before .args .left) (c .before .before .before .before .before .before .before .before .before .before .before .before .before .args .call) (c .before .before .before .before .before .before .before .before .before .before .before .before .before .args .ink) (answered-descent (c .before .before .before .before .before .before .before .before .before .before .before .before .before .args .rows .now) (c .before .before .before .before .before .before .before .before .before .before .before .before .before .args .live) (c .before .before .before .before .before .before .before .before .before .before .before .before .before .args .drawing .now) (c .before .before .before .before .before .before .before .before .before .before .before .before .before .args .left) (c .before .before .before .before .before .before .before .before .before .before .before .before .before .args .call) (c .before .before .before .before .before .before .before .before .before .before .before .before .before .args .ink) (c .before .before .before .before .before .before .before .before .before .open-call .ensures) (c .before .before .before .before .before .before .before .row .given .1)) (c .before .before .before .before .before .before .before .before .before .before .before .before .before .pre .1 .0 .stocked) (c .before .start-at .ensures) (c .length-at .ensures) in omega (arith, k .within, c .before .before .before .before .before .before .before .before .before .before .before .before .before .pre .1 .0 .short)
 
 draw-call-sub-draw-body : (t : ℕ) → draw-call-lts.Need-sub-draw-body (call-claims t) (draw-call-at t) draw-call.Post
-draw-call-sub-draw-body t c = omega (arith, pos-of-ne-zero (answered-descent (c .before .before .before .before .before .before .before .before .before .before .before .before .before .args .rows .now) (c .before .before .before .before .before .before .before .before .before .before .before .before .before .args .live) (c .before .before .before .before .before .before .before .before .before .before .before .before .before .args .drawing .now) (c .before .before .before .before .before .before .before .before .before .before .before .before .before .args .left) (c .before .before .before .before .before .before .before .before .before .before .before .before .before .args .call) (c .before .before .before .before .before .before .before .before .before .before .before .before .before .args .ink) (c .before .before .before .before .before .before .before .before .before .open-call .ensures) (c .before .before .before .before .before .before .before .row .given .1) .some-left))
+draw-call-sub-draw-body t c = omega (arith, pos-of-ne-zero (answered-descent (c .before .before .before .before .before .before .before .before .before .before .before .before .before .before .before .before .before .args .rows .now) (c .before .before .before .before .before .before .before .before .before .before .before .before .before .before .before .before .before .args .live) (c .before .before .before .before .before .before .before .before .before .before .before .before .before .before .before .before .before .args .drawing .now) (c .before .before .before .before .before .before .before .before .before .before .before .before .before .before .before .before .before .args .left) (c .before .before .before .before .before .before .before .before .before .before .before .before .before .before .before .before .before .args .call) (c .before .before .before .before .before .before .before .before .before .before .before .before .before .before .before .before .before .args .ink) (c .before .before .before .before .before .before .before .before .before .before .before .before .before .open-call .ensures) (c .before .before .before .before .before .before .before .before .before .before .before .row .given .1) .some-left))
 
 draw-call-draw-body-requires : (t : ℕ) → draw-call-lts.Need-draw-body-requires (call-claims t) (draw-call-at t) draw-call.Post
-draw-call-draw-body-requires t c κs = let led = answered-descent (c .before .before .before .before .before .before .before .before .before .before .before .before .before .args .rows .now) (c .before .before .before .before .before .before .before .before .before .before .before .before .before .args .live) (c .before .before .before .before .before .before .before .before .before .before .before .before .before .args .drawing .now) (c .before .before .before .before .before .before .before .before .before .before .before .before .before .args .left) (c .before .before .before .before .before .before .before .before .before .before .before .before .before .args .call) (c .before .before .before .before .before .before .before .before .before .before .before .before .before .args .ink) (c .before .before .before .before .before .before .before .before .before .open-call .ensures) (c .before .before .before .before .before .before .before .row .given .1) in let k = body-there (c .before .before .before .before .before .before .before .before .before .before .before .before .before .args .rows .now) (c .before .before .before .before .before .before .before .before .before .before .before .before .before .args .live) (c .before .before .before .before .before .before .before .before .before .before .before .before .before .args .drawing .now) (c .before .before .before .before .before .before .before .before .before .before .before .before .before .args .left) (c .before .before .before .before .before .before .before .before .before .before .before .before .before .args .call) (c .before .before .before .before .before .before .before .before .before .before .before .before .before .args .ink) led (c .before .before .before .before .before .before .before .before .before .before .before .before .before .pre .1 .0 .stocked) (c .before .before .before .before .before .start-at .ensures) (c .before .before .before .before .length-at .ensures) in (omega (arith, c .before .before .before .before .before .before .before .before .before .before .before .before .before .pre .0, k .within, c .before .before .before .before .before .before .before .before .before .before .before .before .before .pre .1 .0 .short, pos-of-ne-zero (led .some-left)), (ready-below (c .before .before .before .before .before .before .before .before .before .before .before .before .before .args .rows .now) (c .before .before .before .before .before .before .before .before .before .before .before .before .before .args .live) (c .before .before .before .before .before .before .before .before .before .before .before .before .before .args .drawing .now) (c .before .before .before .before .before .before .before .before .before .before .before .before .before .args .left) (c .before .before .before .before .before .before .before .before .before .before .before .before .before .args .call) (c .before .before .before .before .before .before .before .before .before .before .before .before .before .args .ink) led (c .before .before .before .before .before .before .before .before .before .before .before .before .before .pre .1 .0), near-more (omega (arith, pos-of-ne-zero (led .some-left), c .before .before .before .before .before .before .before .before .before .before .before .before .before .pre .1 .0 .some-left)) (c .before .before .before .before .before .before .before .before .before .before .before .before .before .pre .1 .1), k))
+draw-call-draw-body-requires t c κs = let led = answered-descent (c .before .before .before .before .before .before .before .before .before .before .before .before .before .before .before .before .before .args .rows .now) (c .before .before .before .before .before .before .before .before .before .before .before .before .before .before .before .before .before .args .live) (c .before .before .before .before .before .before .before .before .before .before .before .before .before .before .before .before .before .args .drawing .now) (c .before .before .before .before .before .before .before .before .before .before .before .before .before .before .before .before .before .args .left) (c .before .before .before .before .before .before .before .before .before .before .before .before .before .before .before .before .before .args .call) (c .before .before .before .before .before .before .before .before .before .before .before .before .before .before .before .before .before .args .ink) (c .before .before .before .before .before .before .before .before .before .before .before .before .before .open-call .ensures) (c .before .before .before .before .before .before .before .before .before .before .before .row .given .1) in let k = body-there (c .before .before .before .before .before .before .before .before .before .before .before .before .before .before .before .before .before .args .rows .now) (c .before .before .before .before .before .before .before .before .before .before .before .before .before .before .before .before .before .args .live) (c .before .before .before .before .before .before .before .before .before .before .before .before .before .before .before .before .before .args .drawing .now) (c .before .before .before .before .before .before .before .before .before .before .before .before .before .before .before .before .before .args .left) (c .before .before .before .before .before .before .before .before .before .before .before .before .before .before .before .before .before .args .call) (c .before .before .before .before .before .before .before .before .before .before .before .before .before .before .before .before .before .args .ink) led (c .before .before .before .before .before .before .before .before .before .before .before .before .before .before .before .before .before .pre .1 .0 .stocked) (c .before .before .before .before .before .start-at .ensures) (c .before .before .before .before .length-at .ensures) in (omega (arith, c .before .before .before .before .before .before .before .before .before .before .before .before .before .before .before .before .before .pre .0, k .within, c .before .before .before .before .before .before .before .before .before .before .before .before .before .before .before .before .before .pre .1 .0 .short, pos-of-ne-zero (led .some-left)), (ready-below (c .before .before .before .before .before .before .before .before .before .before .before .before .before .before .before .before .before .args .rows .now) (c .before .before .before .before .before .before .before .before .before .before .before .before .before .before .before .before .before .args .live) (c .before .before .before .before .before .before .before .before .before .before .before .before .before .before .before .before .before .args .drawing .now) (c .before .before .before .before .before .before .before .before .before .before .before .before .before .before .before .before .before .args .left) (c .before .before .before .before .before .before .before .before .before .before .before .before .before .before .before .before .before .args .call) (c .before .before .before .before .before .before .before .before .before .before .before .before .before .before .before .before .before .args .ink) led (c .before .before .before .before .before .before .before .before .before .before .before .before .before .before .before .before .before .pre .1 .0) _ (c .before .before .before .before .before .before .before .before .push .kept .0), near-more (omega (arith, pos-of-ne-zero (led .some-left), c .before .before .before .before .before .before .before .before .before .before .before .before .before .before .before .before .before .pre .1 .0 .some-left)) (c .before .before .before .before .before .before .before .before .before .before .before .before .before .before .before .before .before .pre .1 .1), k))
 
 draw-call-same-length-2 : (t : ℕ) → draw-call-lts.Need-same-length-2 (call-claims t) (draw-call-at t) draw-call.Post
 draw-call-same-length-2 t c = c .before .before .before .before .before .draw-body .kept .1 .1 .1 .0
 
 draw-call-same-length-3 : (t : ℕ) → draw-call-lts.Need-same-length-3 (call-claims t) (draw-call-at t) draw-call.Post
-draw-call-same-length-3 t c = c .before .before .before .before .before .draw-body .kept .1 .1 .1 .1 .0 ∙ length-set (c .before .before .before .before .before .before .before .before .before .before .before .before .before .before .before .before .before .before .before .args .drawing .now) (32 - c .before .before .before .before .before .before .before .before .before .before .before .before .before .before .before .before .before .before .before .args .left) (c .before .before .before .before .before .before .before .before .before .before .before .before .before .before .before .before .before .before .before .args .call .symbol)
+draw-call-same-length-3 t c = c .before .before .before .before .before .draw-body .kept .1 .1 .1 .1 .0 ∙ c .before .before .before .before .before .before .before .before .before .before .before .before .before .before .push .kept .0
 
 draw-call-same-length-4 : (t : ℕ) → draw-call-lts.Need-same-length-4 (call-claims t) (draw-call-at t) draw-call.Post
 draw-call-same-length-4 t c = c .before .before .before .before .before .draw-body .kept .1 .1 .1 .1 .1 .0
 
 draw-call-returns-2 : (t : ℕ) → draw-call-lts.Need-returns-2 (call-claims t) (draw-call-at t) draw-call.Post
-draw-call-returns-2 t c = (λ chain o outer ts e h. body-drawn (c .before .before .before .before .before .before .before .before .before .before .before .before .before .before .before .before .before .before .before .args .rows .now) (c .before .before .before .before .before .before .before .before .before .before .before .before .before .before .before .before .before .before .before .args .live) (c .before .before .before .before .before .before .before .before .before .before .before .before .before .before .before .before .before .before .before .args .drawing .now) (c .before .before .before .before .before .before .before .before .before .before .before .before .before .before .before .before .before .before .before .args .left) (c .before .before .before .before .before .before .before .before .before .before .before .before .before .before .before .before .before .before .before .args .call) (c .before .before .before .before .before .before .before .before .before .before .before .before .before .before .before .before .before .before .before .args .ink) (answered-descent (c .before .before .before .before .before .before .before .before .before .before .before .before .before .before .before .before .before .before .before .args .rows .now) (c .before .before .before .before .before .before .before .before .before .before .before .before .before .before .before .before .before .before .before .args .live) (c .before .before .before .before .before .before .before .before .before .before .before .before .before .before .before .before .before .before .before .args .drawing .now) (c .before .before .before .before .before .before .before .before .before .before .before .before .before .before .before .before .before .before .before .args .left) (c .before .before .before .before .before .before .before .before .before .before .before .before .before .before .before .before .before .before .before .args .call) (c .before .before .before .before .before .before .before .before .before .before .before .before .before .before .before .before .before .before .before .args .ink) (c .before .before .before .before .before .before .before .before .before .before .before .before .before .before .before .open-call .ensures) (c .before .before .before .before .before .before .before .before .before .before .before .before .before .row .given .1)) (c .before .before .before .before .before .before .before .before .before .before .before .before .before .before .before .before .before .before .before .pre .1 .0 .some-left) (c .before .before .before .before .before .before .before .before .before .before .before .before .before .before .before .before .before .before .before .pre .1 .0 .levels) (c .before .before .before .before .before .before .before .before .before .before .before .before .before .before .before .before .before .before .before .pre .1 .0 .reached) (c .before .before .before .before .before .before .before .before .before .before .before .before .before .before .before .before .before .before .before .args .bodies .now) (c .before .before .before .before .before .before .before .before .before .before .before .start-at .ensures) (c .before .before .before .before .before .before .before .before .before .before .length-at .ensures) (c .before .before .before .before .before .draw-body .ensures .0) chain o outer ts e h, kept-below (c .before .before .before .before .before .before .before .before .before .before .before .before .before .before .before .before .before .before .before .args .drawing .now) _ (c .before .before .before .before .before .before .before .before .before .before .before .before .before .before .before .before .before .before .before .args .left) (c .before .before .before .before .before .before .before .before .before .before .before .before .before .before .before .before .before .before .before .args .call .symbol) (c .before .before .before .before .before .draw-body .ensures .1))
+draw-call-returns-2 t c = let led = answered-descent (c .before .before .before .before .before .before .before .before .before .before .before .before .before .before .before .before .before .before .before .before .before .before .before .args .rows .now) (c .before .before .before .before .before .before .before .before .before .before .before .before .before .before .before .before .before .before .before .before .before .before .before .args .live) (c .before .before .before .before .before .before .before .before .before .before .before .before .before .before .before .before .before .before .before .before .before .before .before .args .drawing .now) (c .before .before .before .before .before .before .before .before .before .before .before .before .before .before .before .before .before .before .before .before .before .before .before .args .left) (c .before .before .before .before .before .before .before .before .before .before .before .before .before .before .before .before .before .before .before .before .before .before .before .args .call) (c .before .before .before .before .before .before .before .before .before .before .before .before .before .before .before .before .before .before .before .before .before .before .before .args .ink) (c .before .before .before .before .before .before .before .before .before .before .before .before .before .before .before .before .before .before .before .open-call .ensures) (c .before .before .before .before .before .before .before .before .before .before .before .before .before .before .before .before .before .row .given .1) in (body-drawn (c .before .before .before .before .before .before .before .before .before .before .before .before .before .before .before .before .before .before .before .before .before .before .before .args .rows .now) (c .before .before .before .before .before .before .before .before .before .before .before .before .before .before .before .before .before .before .before .before .before .before .before .args .live) (c .before .before .before .before .before .before .before .before .before .before .before .before .before .before .before .before .before .before .before .before .before .before .before .args .drawing .now) (c .before .before .before .before .before .before .before .before .before .before .before .before .before .before .before .before .before .before .before .before .before .before .before .args .left) (c .before .before .before .before .before .before .before .before .before .before .before .before .before .before .before .before .before .before .before .before .before .before .before .args .call) (c .before .before .before .before .before .before .before .before .before .before .before .before .before .before .before .before .before .before .before .before .before .before .before .args .ink) led (c .before .before .before .before .before .before .before .before .before .before .before .before .before .before .before .before .before .before .before .before .before .before .before .pre .1 .0 .some-left) (c .before .before .before .before .before .before .before .before .before .before .before .before .before .before .before .before .before .before .before .before .before .before .before .pre .1 .0 .reached) (c .before .before .before .before .before .before .before .before .before .before .before .before .before .before .push .ensures) (c .before .before .before .before .before .before .before .before .before .before .before .before .before .before .before .before .before .before .before .before .before .before .before .args .bodies .now) (c .before .before .before .before .before .before .before .before .before .before .before .start-at .ensures) (c .before .before .before .before .before .before .before .before .before .before .length-at .ensures) (c .before .before .before .before .before .draw-body .ensures .0), kept-here (led .some-left) (c .before .before .before .before .before .before .before .before .before .before .before .before .before .before .before .before .before .before .before .before .before .before .before .pre .1 .0 .some-left) (c .before .before .before .before .before .before .before .before .before .before .before .before .before .before .push .ensures) (c .before .before .before .before .before .draw-body .ensures .1))
 
 pub +draw-body+draw-call-spec : {M : Type 1} → statement M
 +draw-body+draw-call-spec = close μ-draw-body μ-draw-call (λ t. draw-body-lts.spec (body-claims t)
@@ -287,6 +303,8 @@ pub +draw-body+draw-call-spec : {M : Type 1} → statement M
     (draw-body-loop-less-3 t)
     (draw-body-loop-again-3 t)
     (draw-body-enum-known-refusal-2 t)
+    (draw-body-sub-level t)
+    (draw-body-stop-requires t)
     (draw-body-same-length-4 t)
     (draw-body-same-length-5 t)
     (draw-body-same-length-6 t)
@@ -295,26 +313,18 @@ pub +draw-body+draw-call-spec : {M : Type 1} → statement M
     (draw-body-same-length-8 t)
     (draw-body-same-length-9 t)
     (draw-body-returns-3 t))
-    λ t. draw-call-lts.spec (
-      open-call-reads.Asked,
-      open-call-reads.Learnt,
-      start-at-reads.Asked,
-      start-at-reads.Learnt,
-      length-at-reads.Asked,
-      length-at-reads.Learnt,
-      draw-body-below t,
-      draw-body.Post,
-    )
+    λ t. draw-call-lts.spec (call-claims t)
     (draw-call-at t)
     draw-call.Post
     (draw-call-open-call-requires t)
     (draw-call-enum-known-refusal t)
+    (draw-call-sub-stop t)
+    (draw-call-stop-requires t)
     (draw-call-same-length t)
     (draw-call-returns t)
     (draw-call-enum-known-row t)
-    (draw-call-sub-drawing t)
-    (draw-call-mul-drawing t)
-    (draw-call-slice-write-drawing t)
+    (draw-call-sub-push t)
+    (draw-call-push-requires t)
     (draw-call-start-at-requires t)
     (draw-call-length-at-requires t)
     (draw-call-add-end t)

@@ -9,6 +9,7 @@ use Rattle.engine.proofs.draw_outer.Tie as tie
 use Rattle.engine.proofs.draw_outer.Reads as reads
 use Rattle.engine.proofs.draw_outer.Lts as lts
 use Rattle.engine.proofs.draw_call.Reads as draw-call-reads
+use Rattle.chain.proofs.stop.Reads as stop-reads
 use Rattle.opening.proofs.read_call.Reads as read-call-reads
 use Rattle.shapes.proofs.draw_shape.Reads as draw-shape-reads
 use Rattle.turns.proofs.still.Reads as still-reads
@@ -32,10 +33,13 @@ same-length-3 : tie.Need-same-length-3
 same-length-3 c = search needs
 
 returns : tie.Need-returns
-returns c = call-painted (c .before .before .before .before .before .before .before .before .before .before .before .before .before .before .args .rows .now) (c .before .before .before .before .before .before .before .before .before .before .before .before .before .before .args .bodies .now) (c .before .before .before .before .before .before .before .before .before .before .before .before .before .before .args .live) (c .before .before .before .before .before .before .before .before .before .before .before .before .before .before .args .layer) (c .before .before .before .before .before .before .before .before .before .before .before .before .before .before .args .place) (c .before .before .before .before .before .before .before .before .before .before .before .still .ensures .0) (c .before .before .before .before .before .before .before .before .before .before .if1 .taken) (c .before .before .before .before .before .before .before .before .before .before .before .before .before .before .args .drawing .now) (c .before .before .before .before .before .before .before .before .before .read-call .ensures) (c .before .before .before .before .before .draw-call .ensures .0)
+returns c = call-painted (c .before .before .before .before .before .before .before .before .before .before .before .before .before .before .args .rows .now) (c .before .before .before .before .before .before .before .before .before .before .before .before .before .before .args .bodies .now) (c .before .before .before .before .before .before .before .before .before .before .before .before .before .before .args .live) (c .before .before .before .before .before .before .before .before .before .before .before .before .before .before .args .layer) (c .before .before .before .before .before .before .before .before .before .before .before .before .before .before .args .place) (c .before .before .before .before .before .before .before .before .before .before .before .still .ensures .0) (c .before .before .before .before .before .before .before .before .before .before .before .before .before .before .args .drawing .now) _ (c .before .before .before .before .before .before .before .before .before .before .if1 .taken) (c .before .before .before .before .before .before .before .before .before .read-call .ensures) (c .before .before .before .before .before .draw-call .ensures .0)
+
+stop-requires : tie.Need-stop-requires
+stop-requires c κs = (omega arith, c .before .before .before .before .before .pre .0 .levels)
 
 draw-shape-requires : tie.Need-draw-shape-requires
-draw-shape-requires c κs = let h = said-shape (c .before .before .before .before .before .before .pre .1 .1) (c .before .before .if1 .left) in ((h, shape-fits h (c .before .before .before .before .before .before .pre .0 .roomy)), (near-more (omega arith) (c .before .before .before .still .ensures .1), c .before .before .before .before .before .before .pre .0 .reached))
+draw-shape-requires c κs = let h = said-shape (c .before .before .before .before .before .before .before .before .before .before .pre .1 .1) (c .before .before .before .before .before .before .if1 .left) in ((h, shape-fits h (c .before .before .before .before .before .before .before .before .before .before .pre .0 .roomy)), (near-more (omega arith) (c .before .before .before .before .before .before .before .still .ensures .1), c .before .before .before .before .before .before .before .before .before .before .pre .0 .reached))
 
 same-length-4 : tie.Need-same-length-4
 same-length-4 c = search needs
@@ -43,8 +47,11 @@ same-length-4 c = search needs
 same-length-5 : tie.Need-same-length-5
 same-length-5 c = search needs
 
+same-length-6 : tie.Need-same-length-6
+same-length-6 c = search needs
+
 returns-2 : tie.Need-returns-2
-returns-2 c = shape-painted (c .before .before .before .before .before .before .before .before .before .before .args .rows .now) (c .before .before .before .before .before .before .before .before .before .before .args .bodies .now) (c .before .before .before .before .before .before .before .before .before .before .args .live) (c .before .before .before .before .before .before .before .before .before .before .args .layer) (c .before .before .before .before .before .before .before .before .before .before .args .place) (c .before .before .before .before .before .before .before .still .ensures .0) (c .before .before .before .before .before .before .if1 .left) (c .before .before .before .draw-shape .ensures)
+returns-2 c = shape-painted (c .before .before .before .before .before .before .before .before .before .before .before .before .before .before .args .rows .now) (c .before .before .before .before .before .before .before .before .before .before .before .before .before .before .args .bodies .now) (c .before .before .before .before .before .before .before .before .before .before .before .before .before .before .args .live) (c .before .before .before .before .before .before .before .before .before .before .before .before .before .before .args .layer) (c .before .before .before .before .before .before .before .before .before .before .before .before .before .before .args .place) (c .before .before .before .before .before .before .before .before .before .before .before .still .ensures .0) (c .before .before .before .before .before .before .before .before .before .before .before .before .before .before .args .drawing .now) _ (c .before .before .before .before .before .before .before .before .before .before .if1 .left) (c .before .before .before .before .before .before .before .before .stop .ensures) (c .before .before .before .draw-shape .ensures)
 
 pub draw-outer-spec : {M : Type 1} → statement M
 draw-outer-spec =
@@ -57,7 +64,9 @@ draw-outer-spec =
     same-length-2
     same-length-3
     returns
+    stop-requires
     draw-shape-requires
     same-length-4
     same-length-5
+    same-length-6
     returns-2)

@@ -1,7 +1,6 @@
 -- `place_at` meets its contract.
 -- Assumes nothing.
 use mathlib.Core.Path.{sym, ap, _∙_}
-use mathlib.Core.Bool.{_||_}
 use mathlib.Core.List.{[], _∷_}
 use Prim.Native.Nat.{_+_}
 use lib.IntN.{ℤ, pos}
@@ -42,7 +41,7 @@ same-length : tie.Need-same-length
 same-length c = search needs
 
 returns : tie.Need-returns
-returns c = λ p e. let q = point-told (c .before .before .before .before .before .before .before .args .net) (c .before .before .before .before .place-point .result) (getD (c .before .before .before .before .before .before .before .args .words .now) (c .before .before .before .before .before .before .before .args .i) (pos 0)) (getD (c .before .before .before .before .before .before .before .args .words .now) (c .before .before .before .before .before .before .before .args .i + 1) (pos 0)) (c .before .before .before .before .before .before .place-point-arg .given) (c .before .before .before .before .before .place-point-arg2 .given) (c .before .before .before .before .place-point .ensures) ∙ sym e in (c .is-beyond .ensures ∙ ap (λ (x : Point ℤ). beyond (x .x) || beyond (x .y)) q, c .before .before .set-point .ensures ∙ ap (λ (x : Point ℤ). sets (c .before .before .before .before .before .before .before .args .numbers .now) (c .before .before .before .before .before .before .before .args .i) (x .x ∷ x .y ∷ [])) q)
+returns c = λ p e. let q = point-told (c .before .before .before .before .before .before .before .args .net) (c .before .before .before .before .place-point .result) (getD (c .before .before .before .before .before .before .before .args .words .now) (c .before .before .before .before .before .before .before .args .i) (pos 0)) (getD (c .before .before .before .before .before .before .before .args .words .now) (c .before .before .before .before .before .before .before .args .i + 1) (pos 0)) (c .before .before .before .before .before .before .place-point-arg .given) (c .before .before .before .before .before .place-point-arg2 .given) (c .before .before .before .before .place-point .ensures) ∙ sym e in (c .is-beyond .ensures .0 ∙ ap (λ (x : Point ℤ). beyond (x .x)) q, c .is-beyond .ensures .1 ∙ ap (λ (x : Point ℤ). beyond (x .y)) q, c .before .before .set-point .ensures ∙ ap (λ (x : Point ℤ). sets (c .before .before .before .before .before .before .before .args .numbers .now) (c .before .before .before .before .before .before .before .args .i) (x .x ∷ x .y ∷ [])) q)
 
 pub place-at-spec : {M : Type 1} → statement M
 place-at-spec =

@@ -31,12 +31,9 @@ slice-aggregate-draw-text c = search needs
 slice-aggregate-draw-text-2 : tie.Need-slice-aggregate-draw-text-2
 slice-aggregate-draw-text-2 c = search needs
 
-slice-aggregate-draw-text-3 : tie.Need-slice-aggregate-draw-text-3
-slice-aggregate-draw-text-3 c = search needs
-
 draw-text-requires : tie.Need-draw-text-requires
 unfolding kinds table
-draw-text-requires c κs = ((record { is = refl }, record { is = refl }), ((c .before .before .before .before .before .before .before .before .before .before .before .pre, refl, lent-short (length (c .before .before .before .before .before .before .before .before .before .before .before .args .bodies .now)) (c .before .before .before .before .before .before .before .before .at-most .ensures) (c .before .before .before .before .draw-text-arg .given .2)), (omega arith, omega arith, refl)))
+draw-text-requires c κs = ((record { is = refl }, record { is = refl }), ((c .before .before .before .before .before .before .before .before .before .before .before .before .pre .0, refl, lent-short (length (c .before .before .before .before .before .before .before .before .before .before .before .before .args .bodies .now)) (c .before .before .before .before .before .before .before .before .at-most .ensures) (c .before .before .before .before .draw-text-arg .given .2)), (omega arith, omega arith, c .before .before .before .before .before .before .before .before .before .before .before .before .pre .1)))
 
 same-length : tie.Need-same-length
 same-length c = search needs
@@ -44,8 +41,11 @@ same-length c = search needs
 same-length-2 : tie.Need-same-length-2
 same-length-2 c = search needs
 
+same-length-3 : tie.Need-same-length-3
+same-length-3 c = search needs
+
 returns : tie.Need-returns
-returns c = draws-lent _ (c .before .before .before .before .before .before .before .before .before .before .before .before .before .before .before .at-most .ensures) (c .before .before .before .before .before .before .before .before .before .before .before .draw-text-arg .given .2) (c .before .before .before .before .before .before .draw-text .ensures)
+returns c = draws-lent _ (c .before .before .before .before .before .before .before .before .before .before .before .before .before .before .before .before .at-most .ensures) (c .before .before .before .before .before .before .before .before .before .before .before .before .draw-text-arg .given .2) _ (c .before .before .before .before .before .before .before .draw-text .ensures)
 
 pub draw-spec : {M : Type 1} → statement M
 draw-spec =
@@ -57,8 +57,8 @@ draw-spec =
     part-draw-text-end
     slice-aggregate-draw-text
     slice-aggregate-draw-text-2
-    slice-aggregate-draw-text-3
     draw-text-requires
     same-length
     same-length-2
+    same-length-3
     returns)
