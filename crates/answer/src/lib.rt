@@ -4,10 +4,12 @@ use counts::Counts;
 use definition::Answer;
 use definition::Refusal;
 ghost use mathlib.Core.Path.{_≡_};
-ghost use Rattle.definition.specs.Counts.{counts};
-ghost use Rattle.definition.specs.Answer.{answer};
+ghost use mathlib.Core.List.{[], _++_};
+ghost use lib.ListN.{length};
+ghost use Rattle.definition.specs.Answer.{success, failure};
 ghost use Rattle.counts.specs.Counting.{tally};
-ghost use Rattle.answer.specs.Words.{answerWords, answerBy};
+ghost use Rattle.chain.specs.Chain.{runLength, chainIn};
+ghost use Rattle.answer.specs.Words.{zeros, firstWords, answerWords, chainBy, answerBy};
 
 // How many words a host lends, and where those stand that an answer sets today. All others are 0.
 pub const WORDS: usize = 64;
@@ -26,11 +28,24 @@ const REDEFINITIONS: usize = 5;
 
 const ROUNDED: usize = 6;
 
-// A refusal gives zero for the length and for every count, whatever has been counted by then.
-pub fn refused(refusal: Refusal, counted: Counts) -> Answer
-    ensures { λ r. ⌜ r ≡ answer (refusal .number) (refusal .place) 0 (counts 0 0 0) 0 ⌝ }
+const LINE: usize = 7;
+
+const COLUMN: usize = 8;
+
+const OPENED: usize = 9;
+
+const CHAIN: usize = 16;
+
+// A refusal gives zero for the length and for every count, whatever has been counted by then, and tells where it is: line and column of its place, and the
+// calls that were open there.
+pub fn refused(text: &[u8], refusal: Refusal, run: &[usize], counted: Counts) -> Answer
+    requires { ⌜ length (now run) ≡ runLength ⌝ }
+    ensures { λ r. ⌜ r ≡ failure (now (text .entry)) refusal (chainIn (now (run .entry))) ⌝ }
 {
     let none = counts::cleared(counted);
+    let position = position::position_of(text, refusal.place);
+    let opened = chain::opened(run);
+    let chain = chain::places(run);
     Answer {
         number: refusal.number,
         place: refusal.place,
@@ -39,12 +54,24 @@ pub fn refused(refusal: Refusal, counted: Counts) -> Answer
         calls: none.calls,
         redefinitions: none.redefinitions,
         rounded: 0,
+        line: position.line,
+        column: position.column,
+        opened,
+        chain,
     }
+}
+
+// A refusal outside of every call (1 to 9 and 18).
+pub fn refused_outside(text: &[u8], refusal: Refusal, counted: Counts) -> Answer
+    ensures { λ r. ⌜ r ≡ failure (now (text .entry)) refusal [] ⌝ }
+{
+    let run = [0usize; chain::RUN];
+    refused(text, refusal, &run, counted)
 }
 
 // A success tells how long the flat file is, what was counted, and how many distances of the text were rounded.
 pub fn accepted(length: usize, counted: Counts, rounded: usize) -> Answer
-    ensures { λ r. ⌜ r ≡ answer 0 0 length (tally counted) rounded ⌝ }
+    ensures { λ r. ⌜ r ≡ success length (tally counted) rounded ⌝ }
 {
     Answer {
         number: 0,
@@ -54,12 +81,16 @@ pub fn accepted(length: usize, counted: Counts, rounded: usize) -> Answer
         calls: counted.calls,
         redefinitions: counted.redefinitions,
         rounded,
+        line: 0,
+        column: 0,
+        opened: 0,
+        chain: [0; definition::DEEPEST],
     }
 }
 
-// The words that a host is told.
-pub fn words(answer: Answer) -> [u64; WORDS]
-    ensures { λ r. ⌜ r ≡ answerWords answer ⌝ }
+// The words of an answer before the places of its open calls, and zeros after them.
+fn first_words(answer: Answer) -> [u64; WORDS]
+    ensures { λ r. ⌜ r ≡ firstWords answer ++ zeros 54 ⌝ }
 {
     let mut told = [0; WORDS];
     told[NUMBER] = answer.number as u64;
@@ -69,13 +100,44 @@ pub fn words(answer: Answer) -> [u64; WORDS]
     told[CALLS] = answer.calls as u64;
     told[REDEFINITIONS] = answer.redefinitions as u64;
     told[ROUNDED] = answer.rounded as u64;
+    told[LINE] = answer.line as u64;
+    told[COLUMN] = answer.column as u64;
+    told[OPENED] = answer.opened as u64;
     told
+}
+
+// The words that a host is told.
+pub fn words(answer: Answer) -> [u64; WORDS]
+    ensures { λ r. ⌜ r ≡ answerWords answer ⌝ }
+{
+    let chain = answer.chain;
+    let mut told = first_words(answer);
+    let mut i = 0;
+    while i < definition::DEEPEST {
+        told[CHAIN + i] = chain[i] as u64;
+        i += 1;
+    }
+    told
+}
+
+// The places of the open calls that a host's words say.
+fn chain_by_words(told: &[u64; WORDS]) -> [usize; definition::DEEPEST]
+    ensures { λ r. ⌜ r ≡ chainBy (now (told .entry)) ⌝ }
+{
+    let mut chain = [0; definition::DEEPEST];
+    let mut i = 0;
+    while i < definition::DEEPEST {
+        chain[i] = told[CHAIN + i] as usize;
+        i += 1;
+    }
+    chain
 }
 
 // The answer that a host's words say.
 pub fn by_words(told: &[u64; WORDS]) -> Answer
     ensures { λ r. ⌜ r ≡ answerBy (now (told .entry)) ⌝ }
 {
+    let chain = chain_by_words(told);
     Answer {
         number: told[NUMBER] as usize,
         place: told[PLACE] as usize,
@@ -84,5 +146,9 @@ pub fn by_words(told: &[u64; WORDS]) -> Answer
         calls: told[CALLS] as usize,
         redefinitions: told[REDEFINITIONS] as usize,
         rounded: told[ROUNDED] as usize,
+        line: told[LINE] as usize,
+        column: told[COLUMN] as usize,
+        opened: told[OPENED] as usize,
+        chain,
     }
 }

@@ -45,10 +45,49 @@ fn put_counts(r: Answer) -> bool {
     if !put_field(r.redefinitions) {
         return false;
     }
-    streams::write_number(r.rounded, b"\t0\t0\n")
+    put_field(r.rounded)
 }
 
-// The line of an answer. Its last two fields, the line and the column, are 0 until they are counted.
+// A place of the chain stands after a tab, so that nothing stands where no call is open.
+fn put_place(place: usize) -> bool {
+    if !streams::write(b"\t") {
+        return false;
+    }
+    streams::write_number(place, b"")
+}
+
+// The places of the open calls, the outermost first.
+fn put_chain(chain: &[usize], opened: usize) -> bool {
+    let mut i = 0;
+    while i < chain.len() {
+        if i == opened {
+            return true;
+        }
+        if !put_place(chain[i]) {
+            return false;
+        }
+        i += 1;
+    }
+    true
+}
+
+// Where the text is refused: line, column, and the chain, with which the line ends.
+fn put_position(r: Answer) -> bool {
+    let chain = r.chain;
+    let opened = r.opened;
+    if !put_field(r.line) {
+        return false;
+    }
+    if !streams::write_number(r.column, b"") {
+        return false;
+    }
+    if !put_chain(&chain, opened) {
+        return false;
+    }
+    streams::write(b"\n")
+}
+
+// The line of an answer.
 fn put_answer(r: Answer) -> bool {
     if !put_field(r.number) {
         return false;
@@ -59,7 +98,10 @@ fn put_answer(r: Answer) -> bool {
     if !put_field(r.length) {
         return false;
     }
-    put_counts(r)
+    if !put_counts(r) {
+        return false;
+    }
+    put_position(r)
 }
 
 // Task 0: the flat file.

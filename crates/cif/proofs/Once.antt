@@ -29,10 +29,10 @@ list-told-once {f = f} {old} {new′ = new′} {r′ = r′} a b =
 
 pub refusal-told-once : {t words words′ : List ℕ} → RefusalTold t words → RefusalTold t words′ → words ≡ words′
 refusal-told-once {t} a b =
-    let one = ap (λ (f : Fault). faultAnswer f) (one-refusal t (a .fault) (b .fault) (a .refuses) (b .refuses)) in
+    let one = ap (λ (f : Fault). faultAnswer t f) (one-refusal t (a .fault) (b .fault) (a .refuses) (b .refuses)) in
     same-words (a .said) (b .said) (a .is ∙ one ∙ sym (b .is))
 
 pub verdict-told-once : {t words words′ : List ℕ} → VerdictTold t words → VerdictTold t words′ → words ≡ words′
 verdict-told-once {t} a b =
-    let one = ap (λ (v : Verdict). verdictAnswer v) (one-verdict t (a .verdict) (b .verdict) (a .judged) (b .judged)) in
+    let one = ap (λ (v : Verdict). verdictAnswer t v) (one-verdict t (a .verdict) (b .verdict) (a .judged) (b .judged)) in
     same-words (a .said) (b .said) (a .is ∙ one ∙ sym (b .is))

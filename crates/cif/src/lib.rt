@@ -7,22 +7,22 @@ use grammar::Verdict;
 ghost use mathlib.Core.Path.{_≡_};
 ghost use Rattle.cif.specs.Told.{FlattenTold, ListTold, RefusalTold, VerdictTold, faultAnswer, verdictAnswer};
 
-// A check makes no flat file and counts nothing.
-fn fault_answer(fault: Fault) -> Answer
-    ensures { λ r. ⌜ r ≡ faultAnswer fault ⌝ }
+// A check makes no flat file and counts nothing, and no call is open.
+fn fault_answer(text: &[u8], fault: Fault) -> Answer
+    ensures { λ r. ⌜ r ≡ faultAnswer (now (text .entry)) fault ⌝ }
 {
     match fault {
         Fault::Clear(_) => answer::accepted(0, counts::no_counts(), 0),
-        Fault::Refused(refusal) => answer::refused(refusal, counts::no_counts()),
+        Fault::Refused(refusal) => answer::refused_outside(text, refusal, counts::no_counts()),
     }
 }
 
-fn verdict_answer(verdict: Verdict) -> Answer
-    ensures { λ r. ⌜ r ≡ verdictAnswer verdict ⌝ }
+fn verdict_answer(text: &[u8], verdict: Verdict) -> Answer
+    ensures { λ r. ⌜ r ≡ verdictAnswer (now (text .entry)) verdict ⌝ }
 {
     match verdict {
-        Verdict::InGrammar => fault_answer(Fault::Clear(0)),
-        Verdict::StuckAt(place) => fault_answer(Fault::Refused(Refusal { number: 2, place })),
+        Verdict::InGrammar => fault_answer(text, Fault::Clear(0)),
+        Verdict::StuckAt(place) => fault_answer(text, Fault::Refused(Refusal { number: 2, place })),
     }
 }
 
@@ -55,7 +55,7 @@ pub extern "C" fn cif_list(flat: &[u8], answer: &[u64; answer::WORDS], out: &mut
 pub extern "C" fn cif_refusal(text: &[u8], answer: &mut [u64; answer::WORDS])
     ensures { λ _. ⌜ RefusalTold (now (text .entry)) (now (answer .exit)) ⌝ }
 {
-    let given = fault_answer(reading::refusal(text));
+    let given = fault_answer(text, reading::refusal(text));
     *answer = answer::words(given);
 }
 
@@ -64,6 +64,6 @@ pub extern "C" fn cif_refusal(text: &[u8], answer: &mut [u64; answer::WORDS])
 pub extern "C" fn cif_recognise(text: &[u8], answer: &mut [u64; answer::WORDS])
     ensures { λ _. ⌜ VerdictTold (now (text .entry)) (now (answer .exit)) ⌝ }
 {
-    let given = verdict_answer(grammar::recognise(text));
+    let given = verdict_answer(text, grammar::recognise(text));
     *answer = answer::words(given);
 }

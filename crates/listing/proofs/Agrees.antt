@@ -1,12 +1,13 @@
 -- The account is the definition's listing, for the answer and the flat file of every text; and it is short.
 -- Assumes nothing.
 use mathlib.Core.Path.{_≡_, sym, ap, ap₂, _∙_, subst}
-use mathlib.Core.List.{List, [], _++_, flatMap}
-use Prim.Native.Nat.{ℕ, _+_, _*_, _≤_, _<_}
+use mathlib.Core.List.{List, [], _∷_, _++_, flatMap}
+use Prim.Native.Nat.{ℕ, _+_, _-_, _*_, _≤_, _<_}
 use native.Mathlib.Omega.{arith}
 use borrow.Author.Tests.{lt-ltb, le-ltb, eq-eqb, ne-eqb}
 use lib.IntN.{ℤ}
-use lib.ListN.{length, length-append}
+use lib.ListN.{length, length-append, length-map, take, replicate}
+use lib.Seq.{take-at}
 use Rattle.definition.specs.Words.{Placed, Point, bytesOf}
 use Rattle.definition.specs.declared.Refusal.{Refusal}
 use Rattle.definition.specs.Commands.{Command}
@@ -14,7 +15,9 @@ use Rattle.definition.specs.Drawing.{Drawn, Chain, Event}
 use Rattle.definition.specs.Counts.{Counts, counts, shapesOf}
 use Rattle.definition.specs.Flat.{flat}
 use Rattle.definition.specs.declared.Answer.{Answer}
-use Rattle.definition.specs.Answer.{Outcome, accepted, rejected, flatFile, given-back, Answers}
+use Rattle.definition.specs.Answer.{Outcome, accepted, rejected, flatFile, success, failure, given-back, Answers}
+use Rattle.definition.specs.Limits.{deepest}
+use Rattle.definition.specs.Position.{lineOf, columnOf, placesOf, chainTold}
 use Rattle.definition.specs.Listing.{shapeLines, windowLine, listing}
 use Rattle.laws.proofs.Lists.Range.{All}
 use Rattle.laws.proofs.FlatFile.Sound.{Sound, all-sound}
@@ -24,11 +27,12 @@ use Rattle.digits.specs.Writes.{Writes}
 use Rattle.pen.specs.Names.{packedBy, packed}
 use Rattle.digits.proofs.Writing.{nothing, both, same-bytes, one-outcome}
 use Rattle.lines.specs.Followed.{fresh, nowhere}
-use Rattle.listing.specs.Account.{printed, spanOf, totalLine, windowOf, refusedLine, account}
+use Rattle.listing.specs.Account.{printed, spanOf, totalLine, windowOf, tabbed, refusedLine, account}
 use Rattle.listing.specs.Listed.{Walks, Listed}
 use Rattle.listing.specs.declared.Walked.{Walked}
 use Rattle.listing.proofs.Lines.{lines-printed}
 use Rattle.listing.proofs.Window.{along-x, along-y, lines-taken, window-is}
+use Rattle.listing.proofs.Places.{tabbed-fields}
 use Rattle.listing.proofs.Short.{lines-short}
 
 -- ---- shapes
@@ -48,20 +52,28 @@ window-printed ds h =
 -- ---- outcomes
 
 accepted-is : {t : List ℕ} {words room : ℕ} (cs : List (Placed Command)) (c : Counts) (es : List Event) → Answers t words room (accepted cs c es)
-    → account (given-back (accepted cs c es)) (flatFile (accepted cs c es)) ≡ listing (accepted cs c es)
-unfolding account given-back flatFile listing totalLine bytesOf
+    → account (given-back t (accepted cs c es)) (flatFile (accepted cs c es)) ≡ listing t (accepted cs c es)
+unfolding account given-back success flatFile listing totalLine bytesOf
 accepted-is cs c es k =
     let ds = shapesOf es in
     let s = all-sound k in
     rw (le-ltb 16777216 (length (flat ds)) (within-limit (reading k .as-read)))
     (ap₂ (λ (x y : List ℕ). x ++ (totalLine (c .shapes) (c .calls) (c .redefinitions) ++ y)) (shapes-printed ds s) (window-printed ds s))
 
-rejected-is : {t : List ℕ} {words room : ℕ} (r : Refusal) (chain : Chain) → Answers t words room (rejected r chain)
-    → account (given-back (rejected r chain)) (flatFile (rejected r chain)) ≡ listing (rejected r chain)
-unfolding account given-back flatFile listing refusedLine
-rejected-is r chain k = let h = located k .first-number in rw (ne-eqb (r .number) 0 (λ e. omega (arith, h, e)))
+told-places : (chain : Chain) → take (length chain) (chainTold chain) ≡ placesOf chain
+told-places chain = take-at (placesOf chain) (replicate (deepest - length chain) 0) (length chain) (length-map chain (λ (c : Placed ℕ). c .place))
 
-pub account-is : {t : List ℕ} {words room : ℕ} (o : Outcome) → Answers t words room o → account (given-back o) (flatFile o) ≡ listing o
+rejected-is : {t : List ℕ} {words room : ℕ} (r : Refusal) (chain : Chain) → Answers t words room (rejected r chain)
+    → account (given-back t (rejected r chain)) (flatFile (rejected r chain)) ≡ listing t (rejected r chain)
+unfolding account given-back failure flatFile listing refusedLine
+rejected-is {t} r chain k =
+    let h = located k .first-number in
+    let told : List ℕ → List ℕ = λ places. r .number ∷ r .place ∷ lineOf t (r .place) ∷ columnOf t (r .place) ∷ places in
+    rw (ne-eqb (r .number) 0 (λ e. omega (arith, h, e)))
+    (ap (λ (places : List ℕ). bytesOf "refused" ++ (tabbed (told places) ++ (10 ∷ []))) (told-places chain)
+    ∙ ap (λ (l : List ℕ). bytesOf "refused" ++ l) (tabbed-fields (told (placesOf chain))))
+
+pub account-is : {t : List ℕ} {words room : ℕ} (o : Outcome) → Answers t words room o → account (given-back t o) (flatFile o) ≡ listing t o
 account-is (accepted cs c es) k = accepted-is cs c es k
 account-is (rejected r chain) k = rejected-is r chain k
 
@@ -80,7 +92,7 @@ shapes-short (accepted cs c es) k =
 -- ---- the contract of `list`
 
 -- what is written settles it, if there is not much behind the shapes' lines
-pub listed : {a : Answer} {f old new : List ℕ} {r : ℕ} → Writes old new 0 r (account a f) → r ≤ length (printed (fresh 1 0) f) + 160 → Listed a f old new r
+pub listed : {a : Answer} {f old new : List ℕ} {r : ℕ} → Writes old new 0 r (account a f) → r ≤ length (printed (fresh 1 0) f) + 1024 → Listed a f old new r
 listed {a} {f} w h = record {
   is = λ {t} {room} {o} k e g. same-bytes (ap₂ account e g ∙ account-is o k) w;
   short = λ {t} {room} {o} k e g.
@@ -93,8 +105,8 @@ pub nothing-listed : (a : Answer) (f room : List ℕ) → 16777216 < length f �
 unfolding account
 nothing-listed a f room h = listed (rw (lt-ltb 16777216 (length f) h) (nothing room 0)) (omega arith)
 
-pub refusal-listed : {a : Answer} {f old new : List ℕ} {r : ℕ} → length f ≤ 16777216 → (a .number ≡ 0 → ⊥) → Writes old new 0 r (refusedLine (a .number) (a .place))
-    → r ≤ 50 → Listed a f old new r
+pub refusal-listed : {a : Answer} {f old new : List ℕ} {r : ℕ} → length f ≤ 16777216 → (a .number ≡ 0 → ⊥) → Writes old new 0 r (refusedLine a)
+    → r ≤ 764 → Listed a f old new r
 unfolding account
 refusal-listed {a} {f} h n w s = listed (rw (le-ltb 16777216 (length f) h, ne-eqb (a .number) 0 n) w) (omega arith)
 

@@ -6,7 +6,7 @@ use mathlib.Core.List.{List, [], _∷_, _++_}
 use Prim.Native.Nat.{ℕ}
 use lib.Dec.{eqb, ltb}
 use lib.IntN.{pos}
-use lib.ListN.{length}
+use lib.ListN.{length, take}
 use Rattle.definition.specs.Words.{if_then_else_, bytesOf}
 use Rattle.definition.specs.Flat.{decimal}
 use Rattle.definition.specs.Listing.{fields}
@@ -57,12 +57,17 @@ windowOf xs ys =
     bytesOf "window"
     ++ (if xs .some then fields (decimal (xs .low) ∷ decimal (ys .low) ∷ decimal (xs .high) ∷ decimal (ys .high) ∷ []) else fields (bytesOf "none" ∷ []))
 
-unfoldable pub refusedLine : (number place : ℕ) → List ℕ
-refusedLine n p = bytesOf "refused" ++ fields (decimal (pos n) ∷ decimal (pos p) ∷ [])
+unfoldable pub tabbed : List ℕ → List ℕ  -- numbers, each after a tab
+tabbed [] = []
+tabbed (n ∷ ns) = (9 ∷ decimal (pos n)) ++ tabbed ns
+
+-- number, place, line, column, and the places of as many calls as are told to be open
+unfoldable pub refusedLine : Answer → List ℕ
+refusedLine a = bytesOf "refused" ++ (tabbed (a .number ∷ a .place ∷ a .line ∷ a .column ∷ take (a .opened) (a .chain)) ++ (10 ∷ []))
 
 -- what is printed of an answer and the bytes of a flat file; nothing where there are more of them than a flat file can have
 unfoldable pub account : Answer → List ℕ → List ℕ
 account a f =
     if ltb 16777216 (length f) then []
     else if eqb (a .number) 0 then printed (fresh 1 0) f ++ (totalLine (a .shapes) (a .calls) (a .redefinitions) ++ windowOf (spanOf 1 f) (spanOf 2 f))
-    else refusedLine (a .number) (a .place)
+    else refusedLine a

@@ -26,6 +26,6 @@ pub record Walks (f old new : List ℕ) (r : Walked) : Type 0 where
 
 -- r bytes are printed of the answer a and the flat file f, into a room that was `old` and is `new`
 pub record Listed (a : Answer) (f old new : List ℕ) (r : ℕ) : Type 0 where
-  pub is : {t : List ℕ} {words room : ℕ} {o : Outcome} → Answers t words room o → a ≡ given-back o → f ≡ flatFile o → Writes old new 0 r (listing o)
-  pub short : {t : List ℕ} {words room : ℕ} {o : Outcome} → Answers t words room o → a ≡ given-back o → f ≡ flatFile o → r ≤ 4 * length f + 256
+  pub is : {t : List ℕ} {words room : ℕ} {o : Outcome} → Answers t words room o → a ≡ given-back t o → f ≡ flatFile o → Writes old new 0 r (listing t o)
+  pub short : {t : List ℕ} {words room : ℕ} {o : Outcome} → Answers t words room o → a ≡ given-back t o → f ≡ flatFile o → r ≤ 4 * length f + 1024
   pub along : Writes old new 0 r (account a f)

@@ -4,11 +4,11 @@ ghost use mathlib.Core.Path.{_≡_};
 ghost use mathlib.Core.List.{_∷_, []};
 ghost use Prim.Native.Nat.{_+_, _^_, _≤_};
 ghost use lib.IntN.{pos};
-ghost use lib.ListN.{length};
+ghost use lib.ListN.{length, take};
 ghost use Rattle.definition.specs.Flat.{decimal};
 ghost use Rattle.digits.specs.Writes.{Writes};
 ghost use Rattle.pen.specs.Names.{nameOf};
-ghost use Rattle.listing.specs.Account.{quiet, heading, wrote, totalLine, windowOf, refusedLine};
+ghost use Rattle.listing.specs.Account.{quiet, heading, wrote, totalLine, windowOf, tabbed, refusedLine};
 ghost use Rattle.listing.specs.Listed.{Walks, Listed};
 
 const TAB: u8 = 9;
@@ -166,13 +166,37 @@ fn put_window(out: &mut [u8], at: usize, xs: lines::Span, ys: lines::Span) -> us
     put_word(out, first, b"\tnone\n")
 }
 
-fn put_refusal(out: &mut [u8], number: u64, place: u64) -> usize
-    ensures { λ r. ⌜ Writes (now (out .entry)) (now (out .exit)) 0 r (refusedLine number place) ⌝ }
-    ensures { λ r. ⌜ r ≤ 50 ⌝ }
+// The places of the open calls, each after a tab: as many as are told, and of more than the chain has, all.
+fn put_places(out: &mut [u8], start: usize, chain: &[usize], opened: usize) -> usize
+    requires { ⌜ (start ≤ 2 ^ 58) × (length (now chain) ≤ 32) ⌝ }
+    ensures { λ r. ⌜ Writes (now (out .entry)) (now (out .exit)) start r (tabbed (take opened (now (chain .entry)))) ⌝ }
+    ensures { λ r. ⌜ r ≤ start + 672 ⌝ }
 {
+    let mut at = start;
+    let mut i = 0;
+    while i < chain.len() {
+        if i == opened {
+            return at;
+        }
+        at = put_field(out, at, chain[i] as u64);
+        i += 1;
+    }
+    at
+}
+
+// Where a text is refused: its place, line and column, and the calls that are open there.
+fn put_refusal(out: &mut [u8], answer: definition::Answer) -> usize
+    ensures { λ r. ⌜ Writes (now (out .entry)) (now (out .exit)) 0 r (refusedLine answer) ⌝ }
+    ensures { λ r. ⌜ r ≤ 764 ⌝ }
+{
+    let chain = answer.chain;
+    let opened = answer.opened;
     let first = put_word(out, 0, b"refused");
-    let second = put_field(out, first, number);
-    let last = put_field(out, second, place);
+    let second = put_field(out, first, answer.number as u64);
+    let third = put_field(out, second, answer.place as u64);
+    let fourth = put_field(out, third, answer.line as u64);
+    let fifth = put_field(out, fourth, answer.column as u64);
+    let last = put_places(out, fifth, &chain, opened);
     digits::put(out, last, LINE_FEED)
 }
 
@@ -199,5 +223,5 @@ pub fn list(flat: &[u8], answer: definition::Answer, out: &mut [u8]) -> usize
         );
         return put_window(out, next, xs, ys);
     }
-    put_refusal(out, number as u64, answer.place as u64)
+    put_refusal(out, answer)
 }

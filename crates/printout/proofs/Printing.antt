@@ -8,27 +8,28 @@ use native.Mathlib.Omega.{arith}
 use lib.IntN.{ℤ}
 use lib.ListN.{length, take, drop, length-append, length-drop}
 use lib.Seq.{take-at}
-use Rattle.definition.specs.Counts.{counts, shapesOf}
-use Rattle.definition.specs.Words.{bytesOf}
+use Rattle.definition.specs.Counts.{shapesOf}
+use Rattle.definition.specs.Words.{bytesOf, those}
+use Rattle.definition.specs.Position.{lineOf, columnOf, sinceLineEnd}
 use Rattle.definition.specs.Rules.{textTooLong, refuse}
 use Rattle.definition.specs.Flat.{digits, decimal, flat}
 use Rattle.definition.specs.declared.Answer.{Answer}
-use Rattle.definition.specs.Answer.{Outcome, accepted, rejected, flatFile, answer, given-back, Answers, Promised}
+use Rattle.definition.specs.Answer.{Outcome, accepted, rejected, flatFile, success, failure, given-back, Answers, Promised}
 use Rattle.definition.specs.Listing.{fields, listing, Lists, over, within}
 use Rattle.definition.proofs.Right.{unique}
 use Rattle.laws.proofs.Demands.Demand1.{refusal-holds, success-holds}
 use Rattle.digits.specs.Writes.{Writes}
 use Rattle.digits.proofs.Writing.{begins, same-bytes, one-outcome}
-use Rattle.listing.specs.Account.{account, refusedLine}
+use Rattle.listing.specs.Account.{account, tabbed, refusedLine}
 use Rattle.listing.specs.Listed.{Listed}
 use Rattle.printout.specs.Prints.{Lays, Prints, wordsLent, roomLength, listingLength}
 
 -- ---- the flat file at the start of the room
 
-given-length : (o : Outcome) → given-back o .length ≡ length (flatFile o)
-unfolding given-back flatFile
-given-length (accepted cs c es) = refl
-given-length (rejected r chain) = refl
+given-length : (t : List ℕ) (o : Outcome) → given-back t o .length ≡ length (flatFile o)
+unfolding given-back success failure flatFile
+given-length t (accepted cs c es) = refl
+given-length t (rejected r chain) = refl
 
 pub record Flat (left f : List ℕ) (n : ℕ) : Type 0 where
   pub size : length f ≡ n
@@ -38,7 +39,7 @@ pub record Flat (left f : List ℕ) (n : ℕ) : Type 0 where
 pub flat-left : {t room left : List ℕ} {words words′ : List ℤ} {r : Answer} (p : Promised t words room r words′ left) → Flat left (flatFile (p .outcome)) (r .length)
 flat-left {t} {room} {left} {r = r} p =
     let f = flatFile (p .outcome) in
-    let e : length f ≡ r .length = sym (ap (λ (a : Answer). a .length) (p .given) ∙ given-length (p .outcome)) in
+    let e : length f ≡ r .length = sym (ap (λ (a : Answer). a .length) (p .given) ∙ given-length t (p .outcome)) in
     let q : length left ≡ length f + length (drop (length f) room) = ap length (p .kept) ∙ length-append f (drop (length f) room) in
     record { size = e; fits = omega (arith, e, q); is = ap (take (r .length)) (p .kept) ∙ take-at f (drop (length f) room) (r .length) e }
 
@@ -70,35 +71,38 @@ pub printed : {t room left old new : List ℕ} {words words′ : List ℤ} {a : 
 printed {t} {room} {left} {a = a} {r} h w n m p l =
     let f = flat-left p in
     let k = left-length p in
-    let short : r ≤ 4 * length (take (a .length) left) + 256 = l .short (p .answers) (p .given) (f .is) in
+    let short : r ≤ 4 * length (take (a .length) left) + 1024 = l .short (p .answers) (p .given) (f .is) in
     let size : length (take (a .length) left) ≡ a .length = ap length (f .is) ∙ f .size in
     let inside = f .fits in
     record {
-      bytes = listing (p .outcome);
+      bytes = listing t (p .outcome);
       lists = within h (subst (λ (x : ℕ). Answers t wordsLent x (p .outcome)) n (subst (λ (x : ℕ). Answers t x (length room) (p .outcome)) w (p .answers)));
       lays = lays (l .is (p .answers) (p .given) (f .is)) (omega (arith, short, size, inside, k, n, m));
     }
 
 -- ---- a text that is longer than the program takes
 
-refusal-is : account (answer 1 0 0 (counts 0 0 0) 0) [] ≡ listing (rejected (refuse textTooLong 0) [])
-unfolding account listing refusedLine
-refusal-is = refl
+abbrev tooLong : List ℕ → List ℕ
+tooLong t = listing t (rejected (refuse textTooLong 0) [])
 
-refusal-length : length (listing (rejected (refuse textTooLong 0) [])) ≡ 12
-unfolding listing fields bytesOf decimal digits
-refusal-length = refl
+refusal-is : (t : List ℕ) → account (failure t (refuse textTooLong 0) []) [] ≡ tooLong t
+unfolding account listing refusedLine failure tabbed fields bytesOf decimal digits lineOf columnOf those sinceLineEnd
+refusal-is t = refl
 
-pub refusal-laid : {old new : List ℕ} {r : ℕ} {a : Answer} → length old ≡ listingLength → a ≡ answer 1 0 0 (counts 0 0 0) 0 → Listed a [] old new r
-    → Lays old new r (listing (rejected (refuse textTooLong 0) []))
-refusal-laid {old} {new} {r} m is l =
-    let w : Writes old new 0 r (listing (rejected (refuse textTooLong 0) [])) = subst (Writes old new 0 r) (ap (λ (a : Answer). account a []) is ∙ refusal-is) (l .along) in
+refusal-length : (t : List ℕ) → length (tooLong t) ≡ 16
+unfolding listing fields bytesOf decimal digits lineOf columnOf those sinceLineEnd
+refusal-length t = refl
+
+pub refusal-laid : (t : List ℕ) {old new : List ℕ} {r : ℕ} {a : Answer} → length old ≡ listingLength → a ≡ failure t (refuse textTooLong 0) [] → Listed a [] old new r
+    → Lays old new r (listing t (rejected (refuse textTooLong 0) []))
+refusal-laid t {old} {new} {r} m is l =
+    let w : Writes old new 0 r (tooLong t) = subst (Writes old new 0 r) (ap (λ (a : Answer). account a []) is ∙ refusal-is t) (l .along) in
     let e = w .ends in
-    let k = refusal-length in
+    let k = refusal-length t in
     lays w (omega (arith, e, k, m))
 
-pub over-printed : {t old new : List ℕ} {r : ℕ} → 32768 < length t → Lays old new r (listing (rejected (refuse textTooLong 0) [])) → Prints t old new r
-over-printed h l = record { bytes = listing (rejected (refuse textTooLong 0) []); lists = over h; lays = l }
+pub over-printed : {t old new : List ℕ} {r : ℕ} → 32768 < length t → Lays old new r (listing t (rejected (refuse textTooLong 0) [])) → Prints t old new r
+over-printed {t} h l = record { bytes = tooLong t; lists = over h; lays = l }
 
 -- ---- two outcomes that the contract allows are one
 
@@ -106,7 +110,7 @@ one-list : {t p q : List ℕ} → Lists t p → Lists t q → p ≡ q
 one-list (over h) (over k) = refl
 one-list (over h) (within k b) = absurd (omega (arith, h, k))
 one-list (within h a) (over k) = absurd (omega (arith, h, k))
-one-list (within h a) (within k b) = ap listing (unique a b)
+one-list {t} (within h a) (within k b) = ap (listing t) (unique a b)
 
 pub one-printout : {t old new new′ : List ℕ} {r r′ : ℕ} → Prints t old new r → Prints t old new′ r′ → (new ≡ new′) × (r ≡ r′)
 one-printout p q = one-outcome (same-bytes (one-list (p .lists) (q .lists)) (p .lays .writes)) (q .lays .writes)

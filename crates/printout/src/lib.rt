@@ -11,8 +11,8 @@ ghost use Rattle.printout.specs.Prints.{Lays, Prints, wordsLent, roomLen
 
 // The longest text that is taken, the room for its flat file, and the words lent.
 pub const MOST: usize = 32_768;
-// No listing is longer: four bytes for each of a flat file's, and 256 (`Listed` of crates/listing).
-pub const LONGEST_LISTING: usize = 131_328;
+// No listing is longer: four bytes for each of a flat file's, and 1,024 (`Listed` of crates/listing).
+pub const LONGEST_LISTING: usize = 132_096;
 
 // The contracts of these two spare the caller the zeros.
 fn flat_room() -> [u8; MOST]
@@ -29,16 +29,17 @@ fn body_words() -> [i32; MOST]
 }
 
 // A text that is longer than the list program takes.
-fn print_refusal(out: &mut [u8]) -> usize
+fn print_refusal(text: &[u8], out: &mut [u8]) -> usize
     requires { ⌜ length (now out) ≡ listingLength ⌝ }
-    ensures { λ r. ⌜ Lays (now (out .entry)) (now (out .exit)) r (listing (rejected (refuse textTooLong 0) [])) ⌝ }
+    ensures { λ r. ⌜ Lays (now (out .entry)) (now (out .exit)) r (listing (now (text .entry)) (rejected (refuse textTooLong 0) [])) ⌝ }
 {
     let over = Refusal {
         number: 1,
         place: 0,
     };
     let nothing: [u8; 0] = [];
-    listing::list(&nothing, answer::refused(over, counts::no_counts()), out)
+    let answer = answer::refused_outside(text, over, counts::no_counts());
+    listing::list(&nothing, answer, out)
 }
 
 fn print_flat(text: &[u8], words: &mut [i32], room: &mut [u8], out: &mut [u8]) -> usize
@@ -57,7 +58,7 @@ pub fn print_text(text: &[u8], out: &mut [u8]) -> usize
     ensures { λ r. ⌜ Prints (now (text .entry)) (now (out .entry)) (now (out .exit)) r ⌝ }
 {
     if text.len() > MOST {
-        return print_refusal(out);
+        return print_refusal(text, out);
     }
     let mut words = body_words();
     let mut room = flat_room();

@@ -1,4 +1,4 @@
--- The three demands and request 10, carried to `flatten`: what it gives back of any text t, any words and any room, and what it leaves in words and room. Its
+-- The three demands and requests 4 and 10, carried to `flatten`: what it gives back of any text t, any words and any room, and what it leaves in words and room. Its
 -- contract `Promised t words room r words′ left` is all that is used, so the same holds of every reader that keeps it. docs/DEMANDS.md has the user's words beside each theorem.
 -- Assumes nothing.
 use mathlib.Core.Path.{_≡_, refl, sym, ap, ap₂, _∙_, subst}
@@ -14,18 +14,19 @@ use Rattle.definition.specs.declared.Answer.{Answer}
 use Rattle.definition.specs.declared.Refusal.{Refusal}
 use Rattle.definition.specs.Limits.{mostBytes}
 use Rattle.definition.specs.Words.{Placed}
-use Rattle.definition.specs.Rules.{Rule, textTooLong, notInGrammar, tooFewWords, flatFileTooLong, numberOf}
+use Rattle.definition.specs.Rules.{Rule, textTooLong, notInGrammar, tooFewWords, xOutOfRange, yOutOfRange, flatFileTooLong, numberOf, refuse}
 use Rattle.definition.specs.Commands.{Command}
 use Rattle.definition.specs.Drawing.{Chain, Event}
 use Rattle.definition.specs.Counts.{Counts, shapesOf}
 use Rattle.definition.specs.Flat.{flat}
-use Rattle.definition.specs.Answer.{Outcome, accepted, rejected, Answers, Promised}
+use Rattle.definition.specs.Answer.{Outcome, accepted, rejected, success, Answers, Promised}
 use Rattle.definition.proofs.Right.{unique}
 use Rattle.laws.proofs.Rules.Order.{ByCommand, ByDrawing, number-from-1, number-not-5}
 use Rattle.laws.proofs.Rules.Outcomes.{Accepting}
 use Rattle.laws.proofs.Demands.Demand1.{Located, RefusalHolds, refusal-holds, SuccessHolds, success-holds}
 use Rattle.laws.proofs.Demands.Demand2.{Refused, CommandsBreak, DrawingStopped, FileTooLong, refused-by-length, refused-by-grammar, refused-by-command, refused-by-drawing}
-use Rattle.laws.proofs.Demands.Demand2.{refused-by-flat-file, accepted-exactly}
+use Rattle.laws.proofs.Demands.Demand2.{OutOfRange, refused-by-x, refused-by-y, refused-by-flat-file, accepted-exactly}
+use Rattle.laws.proofs.Rules.DrawingRules.{FarInX, FarInY}
 use Rattle.laws.proofs.Demands.Words.{TooFewLent, refused-by-words, fewer-than-bytes, WithWords, as-without-words}
 use Rattle.laws.proofs.Demands.Demand3.{Demand3, demand3, twice}
 
@@ -96,11 +97,11 @@ module _ {t : List ℕ} {words words′ : List ℤ} {room left : List ℕ} {r : 
 
   -- ---- demand 1
 
-  -- an answer with a number holds this number and place and nothing else, leaves the room unchanged, and its place lies within the text; so do the
-  -- places of the calls open there. That an answer comes at all is what the proof of a Rattle function shows, and that only one is promised, the
-  -- room's bytes included, is Right.one-answer
-  pub refusals-hold : (r .number ≡ 0 → ⊥) → RefusalHolds room r left (told r) × ((chain : Chain) × Located t (told r) chain)
-  refusals-hold e = let s = stopped e in let k = refusal-holds h (s .is) in (k .0, (s .open-calls, k .1))
+  -- an answer with a number holds this number and place, line and column of the place, the places of the calls open there, and nothing else, and leaves the
+  -- room unchanged; the place lies within the text, and so do those of the calls, of which there are at most 32, and none but at 11 to 17 and 20. That an
+  -- answer comes at all is what the proof of a Rattle function shows, and that only one is promised, the room's bytes included, is Right.one-answer
+  pub refusals-hold : (r .number ≡ 0 → ⊥) → (chain : Chain) × RefusalHolds t room r left (told r) chain × Located t (told r) chain
+  refusals-hold e = let s = stopped e in let k = refusal-holds h (s .is) in (s .open-calls, k .0, k .1)
 
   -- the length told lies within the room that is left
   pub length-within : r .length ≤ length left
@@ -121,7 +122,8 @@ module _ {t : List ℕ} {words words′ : List ℤ} {room left : List ℕ} {r : 
     λ a. success-holds h (outcome-is (accepted-exactly .1 (a .3))) .no-number,
   )
 
-  -- and then the counts are the drawing's, the rounded distances those of the text, the first bytes of the room are the flat file of its shapes, and the rest is unchanged
+  -- and then the counts are the drawing's, the rounded distances those of the text, line, column and chain tell nothing, the first bytes of the room are the
+  -- flat file of its shapes, and the rest is unchanged
   pub accepted-gives : {cs : List (Placed Command)} {c : Counts} {es : List Event} → Accepting t (length words) (length room) cs c es → SuccessHolds room r left cs c (flat (shapesOf es))
   accepted-gives a = success-holds h (outcome-is (accepted-exactly .1 a))
 
@@ -148,13 +150,25 @@ module _ {t : List ℕ} {words words′ : List ℤ} {room left : List ℕ} {r : 
   -- 5 never occurs, whatever the text and the room: since request 2 no rule has this number
   pub never-5 : r .number ≡ 5 → ⊥
   never-5 e =
-      let k = refusals-hold (λ z. omega (arith, e, z)) .1 .1 in
+      let k = refusals-hold (λ z. omega (arith, e, z)) .2 in
       number-not-5 (k .rule) (sym (ap (λ (x : Refusal). x .number) (k .is)) ∙ e)
 
-  -- 10 to 17 and 25, the first moment of the drawing that breaks a rule, the foremost of its rules; under the calls open there
+  -- 10 to 17, 20 and 25, the first moment of the drawing that breaks a rule, the foremost of its rules; under the calls open there
   pub refused-by-drawing-when : {by : Rule} {p : ℕ} → ByDrawing by → Says r (numberOf by) p ↔ ((chain : Chain) × DrawingStopped t (length words) by p chain)
   refused-by-drawing-when {by} i =
       Iff·trans (refused-when by) (λ s. (s .0, refused-by-drawing i .0 (s .1)), λ s. (s .0, refused-by-drawing i .1 (s .1)))
+
+  -- and then these calls are told, with line and column of the place
+  pub drawing-tells : {by : Rule} {p : ℕ} {chain : Chain} → ByDrawing by → DrawingStopped t (length words) by p chain → RefusalHolds t room r left (refuse by p) chain
+  drawing-tells i s = refusal-holds h (outcome-is (refused-by-drawing i .1 s)) .0
+
+  -- 16, exactly when the first moment that breaks a rule draws a shape with some x beyond the range
+  pub refused-by-x-when : {p : ℕ} → Says r (numberOf xOutOfRange) p ↔ ((chain : Chain) × OutOfRange FarInX t (length words) p chain)
+  refused-by-x-when = Iff·trans (refused-when xOutOfRange) (λ s. (s .0, refused-by-x .0 (s .1)), λ s. (s .0, refused-by-x .1 (s .1)))
+
+  -- 20, exactly when it draws one whose x are all good and some y is not
+  pub refused-by-y-when : {p : ℕ} → Says r (numberOf yOutOfRange) p ↔ ((chain : Chain) × OutOfRange FarInY t (length words) p chain)
+  refused-by-y-when = Iff·trans (refused-when yOutOfRange) (λ s. (s .0, refused-by-y .0 (s .1)), λ s. (s .0, refused-by-y .1 (s .1)))
 
   -- 18, flat file longer than the room or than 16,777,216; at 0
   pub refused-by-flat-file-when : {p : ℕ} → Says r (numberOf flatFileTooLong) p ↔ ((p ≡ 0) × FileTooLong t (length words) (length room))
@@ -183,6 +197,7 @@ module _ {t : List ℕ} {words words′ : List ℤ} {room left : List ℕ} {r : 
   -- ---- demand 3
 
   pub flattened : r .number ≡ 0 → Flattened t (length words) (length room) r left
+  unfolding success
   flattened e = record {
     commands = d .commands;
     counted = d .counted;

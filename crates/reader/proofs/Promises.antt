@@ -13,7 +13,7 @@ use Rattle.grammar.specs.declared.Verdict.{Verdict}
 use Rattle.grammar.specs.declared.Verdict.the-variants.{InGrammar, StuckAt}
 use Rattle.definition.specs.declared.Answer.{Answer}
 use Rattle.definition.specs.declared.Refusal.{Refusal}
-use Rattle.definition.specs.Rules.{flatFileTooLong}
+use Rattle.definition.specs.Rules.{flatFileTooLong, refuse}
 use Rattle.definition.specs.Commands.{commands}
 use Rattle.definition.specs.Standing.{outside}
 use Rattle.definition.specs.Faults.{firstFault}
@@ -21,7 +21,7 @@ use Rattle.definition.specs.Rounded.{rounded}
 use Rattle.definition.specs.Drawing.{Chain, Event, deeds}
 use Rattle.definition.specs.Counts.{counts, stopped, ending, shapesOf}
 use Rattle.definition.specs.Flat.{lines, flat}
-use Rattle.definition.specs.Answer.{Outcome, accepted, rejected, flatFile, answer, given-back, drawn, outcomeOf, Answers, too-long, not-cif, read, Promised}
+use Rattle.definition.specs.Answer.{Outcome, accepted, rejected, flatFile, success, failure, given-back, drawn, outcomeOf, Answers, too-long, not-cif, read, Promised}
 use Rattle.definition.specs.Held.{heldTo}
 use Rattle.laws.proofs.Story.Held.{held-all, held-finished}
 use Rattle.laws.proofs.Rules.FaultRules.{no-first-fault}
@@ -46,7 +46,7 @@ use Rattle.reader.specs.Screened.{Screened, over, within, Rounds, Comes,
 
 -- a refusal leaves the room as it was
 refusing : {t : List ℕ} {words : ℕ} {room : List ℕ} {r : Answer} {why : Refusal} (chain : Chain) → Answers t words (length room) (rejected why chain)
-    → r ≡ answer (why .number) (why .place) 0 (counts 0 0 0) 0 → Comes t words room r room
+    → r ≡ failure t why chain → Comes t words room r room
 unfolding given-back flatFile
 refusing {why = why} chain a e = record { outcome = rejected why chain; answers = a; given = e; kept = refl }
 
@@ -73,7 +73,7 @@ fault-answers : {t : List ℕ} {words room : ℕ} {d : Fault} {why : Refusal} �
 fault-answers {t} {words} {room} (over h) is = subst (Answers t words room) (ap outcomeBy is) (too-long h)
 fault-answers {t} (within h f) is = judged-answers h (f .verdict) (f .judged) (subst (byVerdict t (f .verdict)) is (f .is))
 
-pub fault-told : {t : List ℕ} {words : ℕ} {room : List ℕ} {r : Answer} {d : Fault} {why : Refusal} → Screened t d → d ≡ Refused why → r ≡ answer (why .number) (why .place) 0 (counts 0 0 0) 0
+pub fault-told : {t : List ℕ} {words : ℕ} {room : List ℕ} {r : Answer} {d : Fault} {why : Refusal} → Screened t d → d ≡ Refused why → r ≡ failure t why []
     → Comes t words room r room
 fault-told s is e = refusing [] (fault-answers s is) e
 
@@ -94,7 +94,7 @@ pub passes : {t : List ℕ} {d : Fault} {k : ℕ} → Screened t d → d ≡ Cle
 passes (over h) is = absurd (never-clear (sym is))
 passes {t} (within h f) is = clear-passes h (f .verdict) (f .judged) (subst (byVerdict t (f .verdict)) is (f .is))
 
--- ---- 10 to 17 and 25, 18, and the flat file
+-- ---- 10 to 17, 20 and 25, 18, and the flat file
 
 module _ {t : List ℕ} (words : ℕ) (p : Passed t) where
   -- what is drawn, held to the words lent
@@ -111,16 +111,16 @@ module _ {t : List ℕ} (words : ℕ) (p : Passed t) where
       subst (λ (x : Refusal). Answers t words room (rejected x chain)) (sym by)
       (refusal rule (why .place) chain .1 (by-drawing let-pass (e ∙ ap (λ (x : Refusal). stopped x chain) by)))
 
-  pub stopped-told : {scrap scrap′ room : List ℕ} {r : Answer} {d : Drawn} {why : Refusal} → Painted dry held scrap d scrap′ → d ≡ drawing.Refused why
-      → r ≡ answer (why .number) (why .place) 0 (counts 0 0 0) 0 → Comes t words room r room
+  pub stopped-told : {scrap scrap′ room : List ℕ} {chain : Chain} {r : Answer} {d : Drawn} {why : Refusal} → Painted dry held scrap chain d scrap′ → d ≡ drawing.Refused why
+      → r ≡ failure t why chain → Comes t words room r room
   unfolding Answered
-  stopped-told x is e = let y = subst (Answered dry held) is (x .answer) in refusing (y .0) (stopped-answers (y .1)) e
+  stopped-told {chain = chain} x is e = refusing chain (stopped-answers (subst (Answered dry held chain) is (x .answer))) e
 
   -- the drawing finished on some room, with these counts and the pen there
-  module _ {scrap scrap′ : List ℕ} {d : Drawn} (x : Painted dry held scrap d scrap′) {ink : Ink} (is : d ≡ drawing.Done ink) where
+  module _ {scrap scrap′ : List ℕ} {chain : Chain} {d : Drawn} (x : Painted dry held scrap chain d scrap′) {ink : Ink} (is : d ≡ drawing.Done ink) where
     goes-held : Goes dry held ink
     unfolding Answered
-    goes-held = subst (Answered dry held) is (x .answer)
+    goes-held = subst (Answered dry held chain) is (x .answer)
 
     -- so the words were enough
     as-drawn : held ≡ toDraw p
@@ -140,7 +140,7 @@ module _ {t : List ℕ} (words : ℕ) (p : Passed t) where
     unfolding flat
     file-length = omega (arith, goes .next, ap length first-lines, length-append (lines [] (shapesOf (toDraw p))) (69 ∷ 10 ∷ []))
 
-    pub over-told : {room : List ℕ} {r : Answer} → TooLong (ink .pen .at + 2) (length room) → r ≡ answer 18 0 0 (counts 0 0 0) 0 → Comes t words room r room
+    pub over-told : {room : List ℕ} {r : Answer} → TooLong (ink .pen .at + 2) (length room) → r ≡ failure t (refuse flatFileTooLong 0) [] → Comes t words room r room
     over-told {room} h e =
         refusing [] (refusal flatFileTooLong 0 [] .1 (by-flat-file let-pass (goes-held .ends) (subst (λ (n : ℕ). TooLong n (length room)) (sym file-length) h))) e
 
@@ -168,12 +168,12 @@ module _ {t : List ℕ} (words : ℕ) (p : Passed t) where
 
     -- the room is drawn onto with as many words as were lent for measuring
     pub written-told : {room left : List ℕ} {r : Answer} {k w : ℕ} → w ≡ words → k ≡ rounded (commands 0 (p .letters)) → ink .pen .at + 2 ≤ length room → ink .pen .at + 2 ≤ 16777216
-        → left ≡ sets (sets room 0 (heldLines w p)) (ink .pen .at) (69 ∷ 10 ∷ []) → r ≡ answer 0 0 (ink .pen .at + 2) (tally (ink .counts)) k → Comes t words room r left
+        → left ≡ sets (sets room 0 (heldLines w p)) (ink .pen .at) (69 ∷ 10 ∷ []) → r ≡ success (ink .pen .at + 2) (tally (ink .counts)) k → Comes t words room r left
     unfolding given-back flatFile
     written-told {room} {left} {k = j} as-many ej h k e g = record {
       outcome = accepted (commands 0 (p .letters)) (tally (ink .counts)) (toDraw p);
       answers = acceptance .1 (accepting h k);
-      given = g ∙ ap₂ {C = Answer} (λ (n i : ℕ). answer 0 0 n (tally (ink .counts)) i) (sym file-length) ej;
+      given = g ∙ ap₂ {C = Answer} (λ (n i : ℕ). success n (tally (ink .counts)) i) (sym file-length) ej;
       kept = begins (file-in (subst (λ (n : ℕ). left ≡ sets (sets room 0 (heldLines n p)) (ink .pen .at) (69 ∷ 10 ∷ [])) as-many e)) (omega (arith, h, file-length));
     }
 

@@ -31,7 +31,7 @@ pub record Rounds (t : List ℕ) (k : ℕ) : Type 0 where
 pub record Comes (t : List ℕ) (words : ℕ) (room : List ℕ) (r : Answer) (left : List ℕ) : Type 0 where
   pub outcome : Outcome
   pub answers : Answers t words (length room) outcome
-  pub given : r ≡ given-back outcome
+  pub given : r ≡ given-back t outcome
   pub kept : left ≡ roomAfter outcome room
 
 -- the lines that a drawing with so many words lent lays

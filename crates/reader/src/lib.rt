@@ -1,5 +1,5 @@
 // The reader (01, "What the reader takes and gives"): `flatten` answers of any text, any words lent and any room. Refusals 1 and 18 stand here, 2 to 9 in
-// reading, 10 to 17 and 25 in passing and the crates below it; crate answer makes the answer of each.
+// reading, 10 to 17, 20 and 25 in passing and the crates below it; crate answer makes the answer of each.
 use checking::Fault;
 use counts::Counts;
 use definition::Answer;
@@ -10,8 +10,9 @@ ghost use mathlib.Core.List.{_∷_, []};
 ghost use Prim.Native.Nat.{_^_, _≤_};
 ghost use lib.ListN.{length};
 ghost use lib.Seq.{sets};
-ghost use Rattle.definition.specs.Counts.{counts};
-ghost use Rattle.definition.specs.Answer.{answer, Promised};
+ghost use Rattle.definition.specs.Rules.{flatFileTooLong, refuse};
+ghost use Rattle.definition.specs.Answer.{failure, Promised};
+ghost use Rattle.chain.specs.Chain.{runLength};
 ghost use Rattle.passing.specs.Passed.{Passed};
 ghost use Rattle.reader.specs.Screened.{Screened, Rounds, Comes, heldLines};
 
@@ -19,30 +20,23 @@ ghost use Rattle.reader.specs.Screened.{Screened, Rounds, Comes, heldLin
 const LAST_LINE: usize = 2;
 
 // The lines of the shapes, and at their end the last one.
-fn write_file(text: &[u8], words: &mut [i32], room: &mut [u8], end: usize)
-    requires { ⌜ Passed (now text) × (end ≤ 2 ^ 60) ⌝ }
+fn write_file(text: &[u8], words: &mut [i32], drawing: &mut [usize], room: &mut [u8], end: usize)
+    requires { ⌜ Passed (now text) × (length (now drawing) ≡ runLength) × (end ≤ 2 ^ 60) ⌝ }
     ensures { λ _. ⌜ ((p : Passed (now (text .entry))) → now (room .exit) ≡ sets (sets (now (room .entry)) 0 (heldLines (length (now (words .entry))) p)) end (69 ∷ 10 ∷ [])) ⌝ }
 {
-    passing::draw(text, words, room);
+    passing::draw(text, words, drawing, room);
     pen::put_end(room, end);
 }
 
-// Refusals 1 to 17 and 25: nothing is counted.
-fn refused(refusal: Refusal) -> Answer
-    ensures { λ r. ⌜ r ≡ answer (refusal .number) (refusal .place) 0 (counts 0 0 0) 0 ⌝ }
-{
-    answer::refused(refusal, counts::no_counts())
-}
-
 // Refusal 18: the flat file is too long, whatever was counted in drawing it.
-fn too_long(counted: Counts) -> Answer
-    ensures { λ r. ⌜ r ≡ answer 18 0 0 (counts 0 0 0) 0 ⌝ }
+fn too_long(text: &[u8], counted: Counts) -> Answer
+    ensures { λ r. ⌜ r ≡ failure (now (text .entry)) (refuse flatFileTooLong 0) [] ⌝ }
 {
     let over = Refusal {
         number: 18,
         place: 0,
     };
-    answer::refused(over, counted)
+    answer::refused_outside(text, over, counted)
 }
 
 // A text that refusals 1 to 9 let pass, with so many rounded distances. It is drawn twice, since no byte of the room may change before all is known: onto `scrap`, which tells how the
@@ -57,19 +51,20 @@ fn flatten_passed(
     requires { ⌜ Rounds (now text) rounded ⌝ }
     ensures { λ r. ⌜ Comes (now (text .entry)) (length (now (words .entry))) (now (room .entry)) r (now (room .exit)) ⌝ }
 {
-    match passing::draw(text, words, scrap) {
-        Drawn::Refused(refusal) => refused(refusal),
+    let mut drawing = [0usize; chain::RUN];
+    match passing::draw(text, words, &mut drawing, scrap) {
+        Drawn::Refused(refusal) => answer::refused(text, refusal, &drawing, counts::no_counts()),
         Drawn::Done(ink) => {
             let counted = ink.counts;
             let end = ink.pen.at;
             let length = end + LAST_LINE;
             if room.len() < length {
-                return too_long(counted);
+                return too_long(text, counted);
             }
             if definition::MOST_BYTES < length {
-                return too_long(counted);
+                return too_long(text, counted);
             }
-            write_file(text, words, room, end);
+            write_file(text, words, &mut drawing, room, end);
             answer::accepted(length, counted, rounded)
         }
     }
@@ -93,7 +88,7 @@ fn read_text(text: &[u8], words: &mut [i32], room: &mut [u8]) -> Answer
     ensures { λ r. ⌜ Comes (now (text .entry)) (length (now (words .entry))) (now (room .entry)) r (now (room .exit)) ⌝ }
 {
     match first_fault(text) {
-        Fault::Refused(refusal) => refused(refusal),
+        Fault::Refused(refusal) => answer::refused_outside(text, refusal, counts::no_counts()),
         Fault::Clear(rounded) => {
             let mut nothing: [u8; 0] = [];
             flatten_passed(text, words, &mut nothing, room, rounded)

@@ -20,12 +20,18 @@ fault-answer-requires-2 : tie.Need-fault-answer-requires-2
 fault-answer-requires-2 c κs = search needs
 
 returns : tie.Need-returns
-returns c = c .fault-answer .ensures ∙ ap (λ (v : Verdict). verdictAnswer v) (sym (c .before .enum-told .given .1))
+returns c = c .fault-answer .ensures ∙ ap (λ (v : Verdict). verdictAnswer (c .before .before .before .before .args .text .now) v) (sym (c .before .enum-told .given .1))
 
 returns-2 : tie.Need-returns-2
-returns-2 c = c .fault-answer2 .ensures ∙ ap (λ (v : Verdict). verdictAnswer v) (sym (c .before .before .verdict .given .1))
+returns-2 c = c .fault-answer2 .ensures ∙ ap (λ (v : Verdict). verdictAnswer (c .before .before .before .before .before .args .text .now) v) (sym (c .before .before .verdict .given .1))
 
 pub verdict-answer-spec : {M : Type 1} → statement M
 verdict-answer-spec =
     tie.close
-    (tie.spec enum-told fault-answer-requires enum-known-verdict fault-answer-requires-2 returns returns-2)
+    (tie.spec
+    enum-told
+    fault-answer-requires
+    enum-known-verdict
+    fault-answer-requires-2
+    returns
+    returns-2)

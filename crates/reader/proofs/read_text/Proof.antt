@@ -11,8 +11,11 @@ first-fault-requires c κs = search needs
 enum-known-refusal : tie.Need-enum-known-refusal
 enum-known-refusal c = search needs
 
-refused-requires : tie.Need-refused-requires
-refused-requires c κs = search needs
+no-counts-requires : tie.Need-no-counts-requires
+no-counts-requires c κs = search needs
+
+refused-outside-requires : tie.Need-refused-outside-requires
+refused-outside-requires c κs = search needs
 
 enum-known-rounded : tie.Need-enum-known-rounded
 enum-known-rounded c = search needs
@@ -24,7 +27,7 @@ flatten-passed-requires : tie.Need-flatten-passed-requires
 flatten-passed-requires c κs = passes (c .before .before .before .before .before .before .first-fault .ensures) (c .before .before .before .before .rounded .given .1)
 
 returns : tie.Need-returns
-returns c = fault-told (c .before .before .before .before .first-fault .ensures) (c .before .before .refusal .given .1) (c .refused .ensures)
+returns c = fault-told (c .before .before .before .before .before .first-fault .ensures) (c .before .before .before .refusal .given .1) (c .refused-outside .ensures)
 
 same-length : tie.Need-same-length
 same-length c = search needs
@@ -41,7 +44,8 @@ read-text-spec =
     (tie.spec
     first-fault-requires
     enum-known-refusal
-    refused-requires
+    no-counts-requires
+    refused-outside-requires
     enum-known-rounded
     slice-aggregate-flatten-passed
     flatten-passed-requires

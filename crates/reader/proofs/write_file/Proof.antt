@@ -20,9 +20,13 @@ same-length c = search needs
 same-length-2 : tie.Need-same-length-2
 same-length-2 c = search needs
 
+same-length-3 : tie.Need-same-length-3
+same-length-3 c = search needs
+
 returns : tie.Need-returns
-returns c = λ p. c .before .before .put-end .ensures .laid ∙ ap (λ (l : List ℕ). sets l (c .before .before .before .before .before .before .before .before .before .before .before .before .args .end) (69 ∷ 10 ∷ [])) (c .before .before .before .before .before .before .before .draw .ensures p .laid)
+returns c = λ p. c .before .before .put-end .ensures .laid ∙ ap (λ (l : List ℕ). sets l (c .before .before .before .before .before .before .before .before .before .before .before .before .before .before .before .before .args .end) (69 ∷ 10 ∷ [])) (c .before .before .before .before .before .before .before .before .before .draw .ensures p .laid)
 
 pub write-file-spec : {M : Type 1} → statement M
 write-file-spec =
-    tie.close (tie.spec draw-requires put-end-requires same-length same-length-2 returns)
+    tie.close
+    (tie.spec draw-requires put-end-requires same-length same-length-2 same-length-3 returns)
