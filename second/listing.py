@@ -13,9 +13,9 @@ def lines_of(text, drawn):
     """The same where it is known what the reader says of the text in a room that always suffices."""
     answer = reader.put(drawn, MOST)
     if len(text) > MOST:
-        return line("refused", 1, 0).encode()
-    if answer.number:
-        return line("refused", answer.number, answer.place).encode()
+        answer = reader.refused(text, 1, 0)
+    if answer.number:  # request 4: "The program prints these after the place, parted by tabs."
+        return line("refused", answer.number, answer.place, answer.line, answer.column, *answer.chain).encode()
     out, count, layer, xs, ys = [], 0, "", [], []
     for command in answer.flat.decode().split(";\n")[:-1]:
         letter, rest = command[0], command[1:]

@@ -1,8 +1,9 @@
 """A second opinion on the CIF reader: what document 01, sections 7.1.1 and 7.1.2 of Chapter 7 and the requests of document 02 say of a text, as plainly
 as can be.
 
-`flatten(text, room, lent)` gives number, place, length, shapes, calls, redefinitions, rounded distances and the bytes of the flat file, where room is the
-room's length and lent how many words are lent for bodies; None, or left out, where there are always enough. Sentences in quotation marks are document 01's, those after "request" document 02's, and a rule stands under its sentence.
+`flatten(text, room, lent)` gives number, place, length, shapes, calls, redefinitions, rounded distances, line, column, the chain and the bytes of the flat
+file, where room is the room's length and lent how many words are lent for bodies; None, or left out, where there are always enough. Sentences in quotation
+marks are document 01's, those after "request" document 02's, and a rule stands under its sentence.
 """
 from typing import NamedTuple, Optional
 
@@ -22,12 +23,24 @@ class Answer(NamedTuple):
     calls: int
     redefinitions: int
     rounded: int
+    line: int
+    column: int
+    chain: tuple  # of places
     flat: bytes
 
 
 class Refused(Exception):
-    def __init__(self, number, place):
+    """Request 4: "For 11 to 17 give the chain as well: the place of every call already open, outermost first, not the refused one." """
+
+    def __init__(self, number, place, open_calls=()):
         self.number, self.place = number, place
+        self.chain = tuple(call.place for call in open_calls)
+
+
+def position(text, place):
+    """Request 4: "Give line (one more than the line ends, byte 10, before it) and column (one more than the bytes since the last of these)." """
+    lines = text[:place].split(b"\n")
+    return len(lines), len(lines[-1]) + 1
 
 
 # ---- Commands as they are written. Comments, user extensions and E say nothing and are left out.
@@ -250,7 +263,7 @@ def words(command):
     return 2 + 1 if command.kind == "L" else 0
 
 
-# ---- Drawing: refusals 10 to 17, and 25
+# ---- Drawing: refusals 10 to 17, 20 and 25
 
 
 def turned(letter, to_x, to_y, x, y):
@@ -322,41 +335,44 @@ class Drawing:
         if self.lent is not None and sum(self.needs.values()) > self.lent:
             raise Refused(25, start.place)
 
-    def draw_body(self, body, transformations, open_symbols):
+    def draw_body(self, body, transformations, open_calls):
         """"A body draws its calls and a call draws its body: depth first, in written order." """
         for what in body:
             if isinstance(what, Call):
-                self.draw_call(what, transformations, open_symbols)
+                self.draw_call(what, transformations, open_calls)
             else:
-                self.draw_shape(what, transformations)
+                self.draw_shape(what, transformations, open_calls)
 
-    def draw_call(self, call, transformations, open_symbols):
+    def draw_call(self, call, transformations, open_calls):
         for letter, x, y in call.transformations:
             if letter == "R" and x != 0 and y != 0:
-                raise Refused(11, call.place)  # "drawn call with an R off the axes"
+                raise Refused(11, call.place, open_calls)  # "drawn call with an R off the axes"
         if call.symbol not in self.table:
-            raise Refused(12, call.place)  # "drawn call of an undefined symbol"
-        if call.symbol in open_symbols:
-            raise Refused(13, call.place)  # "drawn call of a symbol already being drawn"
-        if len(open_symbols) + 1 > MOST_DEPTH:  # "An executable call has depth 1; a call inside its body has depth 2."
-            raise Refused(14, call.place)
+            raise Refused(12, call.place, open_calls)  # "drawn call of an undefined symbol"
+        if call.symbol in [outer.symbol for outer in open_calls]:
+            raise Refused(13, call.place, open_calls)  # "drawn call of a symbol already being drawn"
+        if len(open_calls) + 1 > MOST_DEPTH:  # "An executable call has depth 1; a call inside its body has depth 2."
+            raise Refused(14, call.place, open_calls)
         if self.calls == MOST_CALLS:
-            raise Refused(15, call.place)  # "call 1,048,577"
+            raise Refused(15, call.place, open_calls)  # "call 1,048,577"
         self.calls += 1  # "Every call drawn, at any depth, counts as one call."
         # "The inner call's list acts before the outer's."
-        self.draw_body(self.table[call.symbol], call.transformations + transformations, open_symbols + [call.symbol])
+        self.draw_body(self.table[call.symbol], call.transformations + transformations, open_calls + [call])
 
-    def draw_shape(self, shape, transformations):
-        numbers = list(shape.sizes)  # "Lengths, widths and diameters never change."
-        for x, y in shape.points:
-            x, y = moved(transformations, x, y)
-            # "only the final points of a shape are held to the range, not the steps between"
-            if abs(x) > MOST or abs(y) > MOST:
-                raise Refused(16, shape.place)
-            numbers += [x, y]
+    def draw_shape(self, shape, transformations, open_calls):
+        # "only the final points of a shape are held to the range, not the steps between"
+        final = [moved(transformations, x, y) for x, y in shape.points]
+        # request 4: "16 is now for a shape with some x beyond the range; 20 for one whose x are all good and some y is not, directly after 16"
+        if any(abs(x) > MOST for x, y in final):
+            raise Refused(16, shape.place, open_calls)
+        if any(abs(y) > MOST for x, y in final):
+            raise Refused(20, shape.place, open_calls)
         if self.shapes == MOST_SHAPES:
-            raise Refused(17, shape.place)  # "shape 1,048,577"
+            raise Refused(17, shape.place, open_calls)  # "shape 1,048,577"
         self.shapes += 1
+        numbers = list(shape.sizes)  # "Lengths, widths and diameters never change."
+        for point in final:
+            numbers += point
         if shape.direction is not None:
             x, y = shape.direction
             for letter, to_x, to_y in transformations:
@@ -376,6 +392,11 @@ class Drawing:
 # ---- The answer
 
 
+def refused(text, number, place, chain=()):
+    """"On refusal the length and all counts are 0". Line and column are given for every refusal."""
+    return Answer(number, place, 0, 0, 0, 0, 0, *position(text, place), chain, b"")
+
+
 def draw(text, lent=None):
     """The answer to a text in a room that holds whatever it is. "Order: 1; then 2 [..]; then 3 to 9 [..]; then 10 to 17 in the order of drawing" """
     try:
@@ -384,11 +405,11 @@ def draw(text, lent=None):
         meant = list(meaning(commands(text)))
         drawing = Drawing(lent)
         drawing.draw_text(meant)
-    except Refused as refused:
-        # "On refusal the length and all counts are 0"
-        return Answer(refused.number, refused.place, 0, 0, 0, 0, 0, b"")
+    except Refused as found:
+        return refused(text, found.number, found.place, found.chain)
     off_grid = sum(one.rounded for one in meant)
-    return Answer(0, 0, len(drawing.flat), drawing.shapes, drawing.calls, drawing.redefinitions, off_grid, bytes(drawing.flat))
+    # request 4: "On success line and column are 0 and the chain is empty."
+    return Answer(0, 0, len(drawing.flat), drawing.shapes, drawing.calls, drawing.redefinitions, off_grid, 0, 0, (), bytes(drawing.flat))
 
 
 def most_needed(text):
@@ -404,7 +425,7 @@ def most_needed(text):
 def put(answer, room):
     """The same answer in a room of this length. "then 18": "flat file longer than the room or than 16,777,216" """
     if answer.length > min(room, LONGEST):
-        return Answer(18, 0, 0, 0, 0, 0, 0, b"")
+        return refused(b"", 18, 0)  # place 0 is on line 1 and in column 1 of every text
     return answer
 
 

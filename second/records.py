@@ -11,9 +11,11 @@ REQUESTS = os.path.join(os.path.dirname(os.path.dirname(os.path.abspath(__file__
 LONGEST = 1_048_576  # bytes of a text, of a second text and of a room
 MOST_OPEN = 64  # records lent for open calls
 MOST_WORDS = 1_048_576  # lent for bodies
+MOST_CHAIN = 32  # calls open at once
 LARGEST = 4_294_967_295  # that four bytes hold; as the number of words: as many as the texts have bytes, which always suffice
 
 FLATTEN, LIST = 0, 2
+FLATTENED, LISTED = range(9, 9 + MOST_CHAIN + 1), range(3, 4)  # how many fields the line of each may have
 TO_COME = (1, 3, 4, 5, 6, 7, 8, 9)  # tasks whose requests have not landed
 
 
@@ -31,8 +33,8 @@ def line(*fields):
 
 
 def flattened(answer):
-    """What is told of a text: line and column are 0 until their request lands."""
-    return line(*answer[:7], 0, 0) + answer.flat
+    """What is told of a text. Each place of the chain is a field."""
+    return line(*answer[:9], *answer.chain) + answer.flat
 
 
 def listed(lines):

@@ -1,7 +1,9 @@
-"""An account of refusals 2 to 9, of rounded distances and of words that knows neither the project's tables nor how they are made: `agree` holds a written answer to it.
+"""An account of refusals 2 to 9, of rounded distances, of words and of chains that knows neither the project's tables nor how they are made: `agree` holds a
+written answer to it.
 
 It follows the printed rules of section 7.1.1 over sets of places, and finds refusals 3 to 9 by document 01's table and document 02's request 2. What the live
-bodies need by request 10 it adds up without drawing anything.
+bodies need by request 10 it adds up without drawing anything. A chain of request 4 it does not find, but follows: call by call to the place, and what is
+refused there must be so in those calls.
 """
 import sys
 
@@ -178,7 +180,7 @@ def commands(text):
                 if turn == "M":
                     scan.blanks()
                     scan.at += 1
-                    turns.append((turn, []))
+                    turns.append((turn + chr(text[scan.at - 1]), []))
                 else:
                     turns.append((turn, [scan.number(), scan.number()]))
             yield at, "C", (symbol, turns)
@@ -231,7 +233,7 @@ def fault(text):
 def words_of(kind, what):
     """What a command of a body needs by request 10."""
     if kind == "C":
-        return 3 + sum(1 if turn == "M" else 3 for turn, _ in what[1])
+        return 3 + sum(3 if numbers else 1 for _, numbers in what[1])
     return {"L": 3, "B": 8, "R": 5}.get(kind) or 2 + len(what)
 
 
@@ -252,9 +254,86 @@ def needed(text):
             need += words_of(kind, what)
 
 
+# ---- request 4: line and column, byte by byte; and a chain, followed to its end
+
+
+def position(text, place):
+    line, column = 1, 1
+    for byte in text[:place]:
+        line, column = (line + 1, 1) if byte == 10 else (line, column + 1)
+    return line, column
+
+
+def bodies(text):
+    """Of a text in the grammar: each command as place, kind, what it has, the DS that it stands in, or nothing; and the table of live symbols there, which
+    leads from each symbol to the place of its DS."""
+    live, inside = {}, None
+    for at, kind, what in commands(text):
+        if kind == "DS":
+            inside, symbol = at, what[0][1]
+        elif kind == "DF":
+            live = {**live, symbol: inside}
+            inside = None
+        elif kind == "DD":
+            live = {n: start for n, start in live.items() if n < what[0][1]}
+        yield at, (kind, what, inside, live)
+
+
+def final_points(open_calls, shape, scales):
+    """Where the points of a shape come to lie, through the calls from the innermost out; each scaled by its own definition."""
+    def scaled(start, value):
+        a, b = scales.get(start, (1, 1))
+        size = (2 * a * abs(value) + b) // (2 * b)
+        return size if value > 0 else -size
+
+    kind, what, start, _ = shape
+    numbers = [scaled(start, v) for _, v in what[{"B": 2, "R": 1, "W": 1, "P": 0}[kind]:4 if kind == "B" else None]]
+    points = list(zip(numbers[::2], numbers[1::2]))
+    for _, (_, turns), start, _ in reversed(open_calls):
+        for turn, at in turns:
+            x, y = [v for _, v in at] or (0, 0)
+            if turn == "T":
+                points = [(p + scaled(start, x), q + scaled(start, y)) for p, q in points]
+            elif turn == "R":  # by a unit along an axis
+                c, s = (x > 0) - (x < 0), (y > 0) - (y < 0)
+                points = [(p * c - q * s, p * s + q * c) for p, q in points]
+            else:
+                points = [(-p, q) if turn == "MX" else (p, -q) for p, q in points]
+    return points
+
+
+def due(number, refused, open_calls, live, scales):
+    """Whether a refusal is due at a command in these calls; what depends on all that was drawn before is believed."""
+    kind, what, _, _ = refused
+    if number in (16, 17, 20):
+        xs, ys = zip(*final_points(open_calls, refused, scales)) if kind in "PBRW" else ((), ())
+        beyond = [any(abs(n) > MOST for n in numbers) for numbers in (xs, ys)]
+        return kind in "PBRW" and beyond == {16: [True, beyond[1]], 20: [False, True], 17: [False, False]}[number]
+    if kind != "C":
+        return False
+    (_, symbol), turns = what
+    off_axes = any(turn == "R" and all(v != 0 for _, v in at) for turn, at in turns)
+    found = [off_axes, symbol not in live, symbol in [call[1][0][1] for call in open_calls], len(open_calls) == 32]
+    first = found.index(True) + 11 if True in found else 15
+    return number == first
+
+
+def leads(text, answer):
+    """Whether a chain leads to the place: from outside definitions, each call into the body that its symbol has in the table of the outermost."""
+    at = dict(bodies(text))
+    scales = {place: (what[1][1], what[2][1]) for place, (kind, what, _, _) in at.items() if kind == "DS" and len(what) > 1}
+    path = [at.get(place) for place in (*answer.chain, answer.place)]
+    if None in path or path[0][2] is not None or any(step[0] != "C" for step in path[:-1]):
+        return False
+    live = path[0][3]
+    through = all(live.get(call[1][0][1]) == inner[2] is not None for call, inner in zip(path, path[1:]))
+    return through and due(answer.number, path[-1], path[:-1], live, scales)
+
+
 def agree(text, stuck, answer, words=None):
-    """Holds an answer to what is found here of refusals 2 to 9, of rounded distances and, where words are lent, of 25; `stuck` is the place of 2, or
-    IN_GRAMMAR. What else is refused in drawing is not known here, so a text that is refused with 10 to 17 is not held to its words."""
+    """Holds an answer to what is found here of refusals 2 to 9, of rounded distances, of line, column and chain and, where words are lent, of 25; `stuck` is
+    the place of 2, or IN_GRAMMAR. Which command is the first to be refused in drawing is not known here, so a text that is refused with 10 to 17 or 20 is not
+    held to its words."""
     found, rounded = ((2, stuck), 0) if stuck is not IN_GRAMMAR else fault(text)
     given = (answer.number, answer.place) if 2 <= answer.number <= 9 else None
     if found != given or answer.rounded != (rounded if answer.number == 0 else 0):
@@ -263,3 +342,7 @@ def agree(text, stuck, answer, words=None):
         over = next((place for place, need in needed(text) if need > words), None)
         if over != (answer.place if answer.number == 25 else None):
             sys.exit(f"no agreement on {text!r} with {words} words: {answer} is written, the account says {over}")
+    where = position(text, answer.place) if answer.number else (0, 0)
+    in_calls = 11 <= answer.number <= 17 or answer.number == 20
+    if (answer.line, answer.column) != where or not (leads(text, answer) if in_calls else answer.chain == ()):
+        sys.exit(f"no agreement on {text!r}: {answer} is written, the account says {where}, and that the chain does not lead there")

@@ -17,7 +17,7 @@ import reader  # noqa: E402
 import records  # noqa: E402
 
 STDIN, STDOUT = "crates/batch/stdin", "crates/batch/stdout"
-ROWS = ["tests/base.tsv", "tests/digits.tsv", "tests/document.tsv", "tests/drawing.tsv", "tests/scaling.tsv"]
+ROWS = ["tests/base.tsv", "tests/digits.tsv", "tests/document.tsv", "tests/drawing.tsv", "tests/positions.tsv", "tests/scaling.tsv"]
 ROOM = 4096  # of a text that has none of its own
 
 
@@ -26,8 +26,8 @@ def rows():
     for path in ROWS:
         for line in open(path):
             if not line.startswith("#"):
-                _, room, text, *numbers, flat = line.rstrip("\n").split("\t")
-                yield int(room), bytes.fromhex(text), reader.Answer(*map(int, numbers), bytes.fromhex(flat))
+                _, room, text, *numbers, chain, flat = line.rstrip("\n").split("\t")
+                yield int(room), bytes.fromhex(text), reader.Answer(*map(int, numbers), tuple(map(int, chain.split())), bytes.fromhex(flat))
 
 
 def texts():
@@ -53,7 +53,7 @@ def flattened(asked):
         account.agree(text, account.place(text), answer)
         yield records.record(records.FLATTEN, text, room), records.flattened(answer)
         if answer.number == 0:
-            again = answer._replace(calls=0, redefinitions=0, rounded=0)
+            again = answer._replace(calls=0, redefinitions=0, rounded=0)  # on success line, column and chain are none
             yield records.record(records.FLATTEN, answer.flat, answer.length), records.flattened(again)
 
 
