@@ -16,8 +16,10 @@ static int flatten(unsigned char *text, int32_t *words, unsigned char *room) {
   /* As many words as the text has bytes always suffice. */
   cif_flatten(text, length, words, length, room, CIF_MOST_BYTES, answer);
   if (answer[CIF_NUMBER] != 0) {
-    fprintf(stderr, "host: refused %zu at byte %zu\n", (size_t)answer[CIF_NUMBER], (size_t)answer[CIF_PLACE]);
-    return 1;
+    fprintf(stderr, "host: refused %zu on line %zu, column %zu", (size_t)answer[CIF_NUMBER], (size_t)answer[CIF_LINE], (size_t)answer[CIF_COLUMN]);
+    /* The places of the calls that lead there, the outermost first. */
+    for (size_t i = 0; i < answer[CIF_OPEN_CALLS]; i++) fprintf(stderr, "%s %zu", i == 0 ? "; in the calls at bytes" : ",", (size_t)answer[CIF_CHAIN + i]);
+    return fprintf(stderr, "\n"), 1;
   }
   size_t flat = (size_t)answer[CIF_LENGTH];
   if (fwrite(room, 1, flat, stdout) != flat || fflush(stdout) != 0) {

@@ -7,7 +7,7 @@ import ctypes
 import os
 import sys
 
-MOST_BYTES, WORDS, NUMBER, PLACE, LENGTH = 16777216, 64, 0, 1, 2  # as in include/cif.h
+MOST_BYTES, WORDS, NUMBER, LENGTH, LINE, COLUMN, OPEN_CALLS, CHAIN = 16777216, 64, 0, 2, 7, 8, 9, 16  # as in include/cif.h
 
 
 def load(path):
@@ -34,7 +34,8 @@ def main(path):
     # One byte more than the reader takes, so that a text which is too long gets refusal 1 and is not cut.
     answer, flat = flatten(library, sys.stdin.buffer.read(MOST_BYTES + 1))
     if answer[NUMBER] != 0:
-        sys.exit(f"host.py: refused {answer[NUMBER]} at byte {answer[PLACE]}")
+        chain = ", ".join(map(str, answer[CHAIN:CHAIN + answer[OPEN_CALLS]]))  # places of the calls that lead there, the outermost first
+        sys.exit(f"host.py: refused {answer[NUMBER]} on line {answer[LINE]}, column {answer[COLUMN]}" + (f"; in the calls at bytes {chain}" if chain else ""))
     sys.stdout.buffer.write(flat)
 
 

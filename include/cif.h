@@ -18,6 +18,9 @@ extern "C" {
 /* The most bytes of a text, and of a flat file. */
 #define CIF_MOST_BYTES 16777216
 
+/* The most calls that are open at once. */
+#define CIF_MOST_OPEN_CALLS 32
+
 /* Where each word of an answer stands. Every function that answers sets all CIF_WORDS of them, and these positions do not change. */
 enum cif_word {
   CIF_NUMBER = 0,        /* why the text is refused (the table below), or 0 */
@@ -27,12 +30,12 @@ enum cif_word {
   CIF_CALLS = 4,         /* how many calls are drawn, at any depth */
   CIF_REDEFINITIONS = 5, /* how many definitions replaced one of the same number */
   CIF_ROUNDED = 6,       /* how many distances of the text were rounded, since a/b of their definition leaves a fraction: each once, drawn or not */
-  CIF_LINE = 7,          /* from here on nothing is told yet, and all is 0: line */
-  CIF_COLUMN = 8,        /* and column of the place; */
-  CIF_OPEN_CALLS = 9,    /* how many calls were open there; */
-  CIF_TEXT = 10,         /* in which of two texts the place is; */
+  CIF_LINE = 7,          /* on which line the place is: one more than the bytes 10 before it */
+  CIF_COLUMN = 8,        /* in which column: one more than the bytes since the last of these */
+  CIF_OPEN_CALLS = 9,    /* how many calls were open there, at most CIF_MOST_OPEN_CALLS */
+  CIF_TEXT = 10,         /* nothing is told yet here and in the next, and both are 0: in which of two texts the place is; */
   CIF_POSITION = 11,     /* which of several texts is refused */
-  CIF_CHAIN = 16,        /* 16 to 47: the places of the calls that were open. 12 to 15 and 48 to 63 are free, and 0 */
+  CIF_CHAIN = 16,        /* 16 to 47: the places of the open calls, the outermost first, and 0 after them. 12 to 15 and 48 to 63 are free, and 0 */
   CIF_WORDS = 64
 };
 
@@ -56,7 +59,11 @@ enum cif_word {
    is unchanged; the four words after them are the counts. A distance in a definition is multiplied by a and divided by b and goes to the nearest whole
    number, a half away from zero.
 
-   Refused: answer[CIF_NUMBER] tells why and answer[CIF_PLACE] at which byte; all other words are 0 and not one byte of the room is changed.
+   Refused: answer[CIF_NUMBER] tells why, answer[CIF_PLACE] at which byte, and answer[CIF_LINE] and answer[CIF_COLUMN] where an editor finds that byte; both
+   count from 1, and are 0 for a text that is accepted. Only byte 10 ends a line: byte 13 is a column like any other, and a place on a byte 10 is on the line
+   which that byte ends. For 11 to 17 and 20 the calls that were open are told too, answer[CIF_OPEN_CALLS] of them: the place of the outermost is
+   answer[CIF_CHAIN], that of the call in its symbol answer[CIF_CHAIN + 1], and so on down to the symbol that holds the refused command. A refused call is not
+   open, and outside definitions none is. All other words are 0, and not one byte of the room is changed.
 
       number  when                                                              place
          1    the text is longer than CIF_MOST_BYTES                            0
@@ -76,28 +83,31 @@ enum cif_word {
         13    a drawn call of a symbol that is being drawn                      the call
         14    calls 33 deep                                                     the call
         15    the 1,048,577th call                                              the call
-        16    a drawn point beyond 16,777,215                                   the shape
+        16    a drawn shape with some x beyond 16,777,215                       the shape
+        20    a drawn shape with some y beyond 16,777,215, and no x             the shape
         17    the 1,048,577th shape                                             the shape
         18    a flat file longer than the room, or than CIF_MOST_BYTES          0
 
-   Of several faults the first counts: 1, then 2, then 3 to 9 command by command in the text's order, then 10 to 17 and 25 in the order of drawing, at one DF
-   10 before 25, then 18. */
+   Of several faults the first counts: 1, then 2, then 3 to 9 command by command in the text's order, then 10 to 17, 20 and 25 in the order of drawing, at one
+   DF 10 before 25 and at one shape 16 before 20 before 17, then 18. */
 void cif_flatten(const unsigned char *text, size_t text_length, int32_t *words, size_t words_length, unsigned char *room, size_t room_length,
                  uint64_t answer[CIF_WORDS]);
 
 /* Lists what was drawn, from an answer of cif_flatten and the flat file that goes with it (of a refusal: no bytes): a line for each shape, with its count,
-   layer, kind and numbers, then the totals and the window; or of a refusal one line with its number and place. Fields are separated by tabs.
+   layer, kind and numbers, then the totals and the window; or of a refusal one line with its number, place, line and column and the places of the open calls.
+   Fields are separated by tabs.
 
    The lines come to stand at the start of `out`, as far as it reaches; the rest of it is unchanged. Given back is how many bytes they are, whatever the
-   length of `out`: a call with an `out` of no bytes measures. For a flat file of cif_flatten that is at most four times its length and 256 more. Of a
+   length of `out`: a call with an `out` of no bytes measures. For a flat file of cif_flatten that is at most four times its length and 1,024 more. Of a
    flat file that is longer than CIF_MOST_BYTES nothing is listed. */
 size_t cif_list(const unsigned char *flat, size_t flat_length, const uint64_t answer[CIF_WORDS], unsigned char *out, size_t out_length);
 
-/* The first of refusals 2 to 9 of a text of any length, with nothing drawn: answer[CIF_NUMBER] and answer[CIF_PLACE] as above, or 0 and 0 where there is
-   none. All other words are 0. */
+/* The first of refusals 2 to 9 of a text of any length, with nothing drawn: answer[CIF_NUMBER], answer[CIF_PLACE], answer[CIF_LINE] and answer[CIF_COLUMN] as
+   above, or all 0 where there is none. All other words are 0. */
 void cif_refusal(const unsigned char *text, size_t text_length, uint64_t answer[CIF_WORDS]);
 
-/* Whether a text of any length is in the grammar: answer[CIF_NUMBER] is 0, or 2 with the place of refusal 2 in answer[CIF_PLACE]. All other words are 0. */
+/* Whether a text of any length is in the grammar: answer[CIF_NUMBER] is 0, or 2 with the place of refusal 2 in answer[CIF_PLACE], and its line and column. All
+   other words are 0. */
 void cif_recognise(const unsigned char *text, size_t text_length, uint64_t answer[CIF_WORDS]);
 
 #ifdef __cplusplus

@@ -70,7 +70,7 @@ static void put_drawn(struct output *out, const struct drawing *drawing, size_t 
   put_number(out, shape->which);
   put_text(out, " of ");
   if (place != NO_PLACE) {
-    put_head(out, drawing->reading->name, drawing->reading->text, place);
+    put_head(out, drawing->reading->name, position_of(drawing->reading->text, place));
   } else {
     put_name(out, drawing->reading->name);
     put_text(out, ": ");

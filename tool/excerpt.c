@@ -1,4 +1,4 @@
-/* A place of a text for the eye: its line and column, and the line with a caret under it. */
+/* A place of a text for the eye: its line and column, and the line with a caret under it. Where a text is refused, line and column are the answer's. */
 #include "tool.h"
 
 enum { INDENT = 4, DOTS = 3, USUAL_WIDTH = 80 };

@@ -50,19 +50,20 @@ size_t random_text(unsigned char *text, size_t most) {
   return count;
 }
 
-/* What is told has only bytes that any terminal can show, short lines, and a caret in the column of its place. */
-static void look_at_telling(const struct output *out, struct bytes text, size_t place) {
-  size_t length = 0, line = 0, caret = 0;
+/* What is told has only bytes that any terminal can show, short lines, a line for each open call, and a caret in the column of its place. */
+static void look_at_telling(const struct output *out, struct bytes text, size_t place, size_t calls) {
+  size_t length = 0, line = 0, caret = 0, over_caret = 1 + (calls > 0 ? calls + 2 : 0);
   for (size_t i = 0; i < out->used; i++) {
     unsigned char byte = out->waiting[i];
     demand(byte == '\n' || (byte >= ' ' && byte < 127), "a byte that cannot be shown", out);
-    if (byte == '^' && line == 2) caret = length;
+    if (byte == '^' && line == over_caret + 1) caret = length;
     length = byte == '\n' ? 0 : length + 1;
     line += byte == '\n';
     demand(length < 240, "a long line", out);
   }
-  demand((line == 4 || line == 7) && caret >= 4 && caret < 80, "the lines of a refusal", out);
-  const unsigned char *shown = memchr(out->waiting, '\n', out->used);
+  demand((line == over_caret + 3 || line == over_caret + 6) && caret >= 4 && caret < 80, "the lines of a refusal", out);
+  const unsigned char *shown = out->waiting - 1;
+  for (size_t i = 0; i < over_caret; i++) shown = memchr(shown + 1, '\n', (size_t)(out->waiting + out->used - shown - 1));
   bool at_end = place == text.count || text.at[place] == '\n';
   unsigned char over = shown[1 + caret], byte = at_end ? '\n' : text.at[place];
   demand(columns_of(byte) == 1 ? over == (byte == '\t' ? ' ' : byte) : over == (at_end ? '\n' : '\\'), "what stands over the caret", out);
@@ -81,24 +82,40 @@ static void look_at_hints(struct bytes text) {
   for (size_t i = 0; i < out.used; i++) demand(out.waiting[i] == '\n' || (out.waiting[i] >= ' ' && out.waiting[i] < 127), "a hint that cannot be shown", &out);
 }
 
+/* An answer that refuses the text, with open calls where there may be some. */
+static void refuse(struct reading *reading, uint64_t number, uint64_t place) {
+  *reading = (struct reading){"f", reading->text, {reading->text.at, 0}, {number, place}};
+  reading->answer[CIF_LINE] = 1 + below(1000);
+  reading->answer[CIF_COLUMN] = 1 + below(100000000);
+  if ((number < 11 || number > 17) && number != 20) return;
+  reading->answer[CIF_OPEN_CALLS] = below(CIF_MOST_OPEN_CALLS + 1);
+  for (size_t i = 0; i < reading->answer[CIF_OPEN_CALLS]; i++) reading->answer[CIF_CHAIN + i] = below((unsigned)reading->text.count + 1);
+}
+
 static void try_text(void) {
   static unsigned char room[16384];
   static struct output out;
   size_t count = random_text(room, sizeof room);
   unsigned char *copy = copy_of(room, count);
   struct bytes text = {copy, count};
+  struct reading reading = {.text = text};
   for (int i = 0; i < 8; i++) {
     size_t place = below((unsigned)text.count + 1);
-    uint64_t number = 2 + below(17);
+    uint64_t number = 2 + below(18);
     if (number == 5) continue; /* which never comes */
-    if (number == 18) number = 25;
+    if (number >= 18) number = number == 18 ? 25 : 20;
     out = (struct output){.file = DROPPED};
-    tell_refusal(&out, &(struct reading){"f", text, {text.at, 0}, {number, place}}, true);
-    look_at_telling(&out, text, place);
+    refuse(&reading, number, place);
+    tell_refusal(&out, &reading, true);
+    look_at_telling(&out, text, place, open_calls(&reading));
   }
   for (uint64_t number = 0; number < 30; number++) {
-    demand((sentence_for(number, text, text.count) != NULL) == ((number >= 1 && number <= 18 && number != 5) || number == 25), "a sentence for each number but 5", &out);
-    tell_refusal(&out, &(struct reading){"f", text, {text.at, 0}, {number, (uint64_t)below(1u << 30) << 33}}, below(2) == 0);
+    bool known = (number >= 1 && number <= 18 && number != 5) || number == 20 || number == 25;
+    demand((sentence_for(number, text, text.count) != NULL) == known, "a sentence for each number but 5", &out);
+    /* whatever stands in an answer */
+    refuse(&reading, number, (uint64_t)below(1u << 30) << 33);
+    for (size_t i = CIF_LINE; i < CIF_WORDS && below(4) == 0; i++) reading.answer[i] = (uint64_t)below(1u << 30) << below(34);
+    tell_refusal(&out, &reading, below(2) == 0);
   }
   look_at_hints(text);
   free(copy);

@@ -82,6 +82,16 @@ static uint64_t count_shapes(struct bytes flat) {
   return count;
 }
 
+/* Any byte of the text may stand for a call. */
+static void refuse(uint64_t answer[CIF_WORDS], size_t text_length) {
+  uint64_t number = 1 + below(20);
+  answer[CIF_NUMBER] = number == 19 ? 25 : number; /* the reader has 25, though not for this tool */
+  answer[CIF_LINE] = answer[CIF_COLUMN] = 1 + below(1000);
+  if (number != 1 && number != 18) answer[CIF_PLACE] = below((unsigned)text_length + 1);
+  if ((number >= 11 && number <= 17) || number == 20) answer[CIF_OPEN_CALLS] = below(CIF_MOST_OPEN_CALLS + 1);
+  for (size_t i = 0; i < answer[CIF_OPEN_CALLS]; i++) answer[CIF_CHAIN + i] = below((unsigned)text_length + 1);
+}
+
 void cif_flatten(const unsigned char *text, size_t text_length, int32_t *words, size_t words_length, unsigned char *room, size_t room_length, uint64_t answer[CIF_WORDS]) {
   static struct output flat;
   uint64_t kept = fuzz_state;
@@ -91,9 +101,7 @@ void cif_flatten(const unsigned char *text, size_t text_length, int32_t *words, 
   demand(words != NULL && words_length >= text_length, "the words", &flat);
   memset(words, 0, words_length * sizeof *words);
   if (below(3) == 0) {
-    answer[CIF_NUMBER] = 1 + below(19);
-    if (answer[CIF_NUMBER] == 19) answer[CIF_NUMBER] = 25; /* the reader has it, though not for this tool */
-    if (answer[CIF_NUMBER] != 1 && answer[CIF_NUMBER] != 18) answer[CIF_PLACE] = below((unsigned)text_length + 1);
+    refuse(answer, text_length);
   } else {
     put_random_flat(&flat);
     if (below(30) == 0) damage(&flat);

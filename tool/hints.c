@@ -305,7 +305,7 @@ void find_hints(struct bytes text, const uint64_t answer[CIF_WORDS], struct hint
 
 void tell_hints(struct output *out, const char *name, struct bytes text, const struct hints *hints) {
   for (size_t i = 0; i < hints->count; i++) {
-    put_head(out, name, text, hints->all[i].place);
+    put_head(out, name, position_of(text, hints->all[i].place));
     put_marked(out, YELLOW_MARK, "hint");
     put_text(out, ": ");
     put_text(out, hints->all[i].words);

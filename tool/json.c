@@ -34,8 +34,7 @@ static void put_number_field(struct output *out, const char *name, uint64_t numb
   put_number(out, (int64_t)number);
 }
 
-static void put_place(struct output *out, struct bytes text, size_t place) {
-  struct position position = position_of(text, place);
+static void put_place(struct output *out, uint64_t place, struct position position) {
   put_number_field(out, "place", place);
   put_number_field(out, "line", position.line);
   put_number_field(out, "column", position.column);
@@ -47,7 +46,7 @@ static void put_hints(struct output *out, struct bytes text, const struct hints 
   for (size_t i = 0; i < hints->count; i++) {
     put_text(out, i == 0 ? "{\"name\":" : ",{\"name\":");
     put_string(out, hints->all[i].name);
-    put_place(out, text, hints->all[i].place);
+    put_place(out, hints->all[i].place, position_of(text, hints->all[i].place));
     put_field(out, "message");
     put_string(out, hints->all[i].words);
     put_text(out, "}");
@@ -79,11 +78,27 @@ static void put_layers(struct output *out, const struct layers *layers) {
   put_text(out, "]");
 }
 
+static void put_open_calls(struct output *out, const struct reading *reading) {
+  put_field(out, "chain");
+  put_text(out, "[");
+  for (size_t i = 0; i < open_calls(reading); i++) {
+    size_t place = open_call(reading, i);
+    struct position position = position_of(reading->text, place);
+    put_text(out, i == 0 ? "{\"place\":" : ",{\"place\":");
+    put_number(out, (int64_t)place);
+    put_number_field(out, "line", position.line);
+    put_number_field(out, "column", position.column);
+    put_text(out, "}");
+  }
+  put_text(out, "]");
+}
+
 static void put_refusal(struct output *out, const struct reading *reading) {
   size_t place = (size_t)reading->answer[CIF_PLACE];
   const struct sentence *sentence = sentence_for(reading->answer[CIF_NUMBER], reading->text, place);
   put_number_field(out, "number", reading->answer[CIF_NUMBER]);
-  put_place(out, reading->text, place);
+  put_place(out, place, refused_position(reading));
+  put_open_calls(out, reading);
   put_field(out, "message");
   put_string(out, sentence == NULL ? "" : sentence->wrong);
 }

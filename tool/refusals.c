@@ -91,11 +91,13 @@ static const struct sentence sentences[] = {
     {12, ANY, "this call is drawn and its symbol is not defined.",
      "Check the number. Definitions must come before the call outside them that leads here, and DD n removes symbols from n up."},
     {13, ANY, "this call draws a symbol that is being drawn already: the symbol calls itself, perhaps through others.",
-     "Find the circle and take one call out of it."},
+     "The calls above lead round in a circle, from the one of the same symbol on: take one call out of it."},
     {14, ANY, "this call is nested 33 deep; 32 is the limit.", "Leave out levels that only call one other symbol."},
     {15, ANY, "this would be the 1,048,577th call drawn; 1,048,576 is the limit.",
      "Split the layout into several texts; or see whether symbols without shapes call each other over and over."},
-    {16, ANY, "a point of this shape, where its calls put it, lies beyond 16,777,215.",
+    {16, ANY, "an x of this shape, where its calls put it, lies beyond 16,777,215.",
+     "Check the T of the calls that lead here: the unit is a hundredth of a micron."},
+    {20, ANY, "a y of this shape, where its calls put it, lies beyond 16,777,215; each x is within it.",
      "Check the T of the calls that lead here: the unit is a hundredth of a micron."},
     {17, ANY, "this would be the 1,048,577th shape drawn; 1,048,576 is the limit.", "Split the layout into several texts."},
     {18, ANY, "the flat file would be longer than 16,777,216 bytes.", "Split the layout into several texts."},
@@ -281,8 +283,11 @@ static struct origin origin_of(char key, struct bytes text, size_t place) {
 
 /* ---- telling */
 
-void put_head(struct output *out, const char *name, struct bytes text, size_t place) {
-  struct position position = position_of(text, place);
+struct position refused_position(const struct reading *reading) {
+  return (struct position){(size_t)reading->answer[CIF_LINE], (size_t)reading->answer[CIF_COLUMN]};
+}
+
+void put_head(struct output *out, const char *name, struct position position) {
   put_name(out, name);
   put_text(out, ":");
   put_number(out, (int64_t)position.line);
@@ -343,9 +348,10 @@ void tell_refusal(struct output *out, const struct reading *reading, bool whole)
   size_t at = place < text.count ? (size_t)place : text.count;
   const struct sentence *sentence = sentence_for(number, text, at);
   struct origin origin = number == 2 ? origin_of(sentence->key, text, at) : (struct origin){0};
-  put_head(out, reading->name, text, at);
+  put_head(out, reading->name, refused_position(reading));
   put_refusal(out, sentence, number, place);
   if (!whole) return;
+  put_chain(out, reading);
   /* 1 and 18 are about the text as a whole: no line of it is to blame. */
   if (number != 1 && number != 18) put_excerpt(out, text, at);
   put_origin(out, &origin, text, at);

@@ -128,6 +128,25 @@ struct context {
 /* What is being read at the end of the text. */
 struct context context_at_end(struct bytes text);
 
+/* ---- excerpt.c */
+
+struct position {
+  size_t line, column; /* both from 1; a line ends with byte 10 */
+};
+
+/* For places whose line no answer tells: of hints, of shapes that are compared, of open calls, and of where a command began. */
+struct position position_of(struct bytes text, size_t place);
+/* The line around the place, cut where it is long, and a caret under the place. */
+void put_excerpt(struct output *out, struct bytes text, size_t place);
+
+/* ---- chain.c: the calls that were open where a text was refused, the outermost first. */
+
+/* How many there are, and the place of each in the text. */
+size_t open_calls(const struct reading *reading);
+size_t open_call(const struct reading *reading, size_t which);
+/* A line for each, with a line before and after them; nothing where there are none. */
+void put_chain(struct output *out, const struct reading *reading);
+
 /* ---- refusals.c: the sentences. */
 
 struct sentence {
@@ -141,8 +160,10 @@ struct sentence {
 const struct sentence *sentence_for(uint64_t number, struct bytes text, size_t place);
 /* All of it, or its first line only. */
 void tell_refusal(struct output *out, const struct reading *reading, bool whole);
+/* Where a text is refused, as the answer has it. */
+struct position refused_position(const struct reading *reading);
 /* "NAME:LINE:COLUMN: ", as editors and build logs understand it. */
-void put_head(struct output *out, const char *name, struct bytes text, size_t place);
+void put_head(struct output *out, const char *name, struct position position);
 
 /* ---- hints.c: accepted texts that look as if something else was meant. */
 
@@ -162,16 +183,6 @@ struct hints {
 void find_hints(struct bytes text, const uint64_t answer[CIF_WORDS], struct hints *hints);
 /* A line for each. */
 void tell_hints(struct output *out, const char *name, struct bytes text, const struct hints *hints);
-
-/* ---- excerpt.c */
-
-struct position {
-  size_t line, column; /* both from 1; a line ends with byte 10 */
-};
-
-struct position position_of(struct bytes text, size_t place);
-/* The line around the place, cut where it is long, and a caret under the place. */
-void put_excerpt(struct output *out, struct bytes text, size_t place);
 
 /* ---- shapes.c: the shapes of a flat file, one after another. */
 

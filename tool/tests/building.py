@@ -24,8 +24,8 @@ def expect_host(program, name, env=None):
         done = subprocess.run(program, input=text, stdout=subprocess.PIPE, stderr=subprocess.PIPE, env=env)
         return done.returncode, done.stdout, done.stderr
     expect(host(EXAMPLE) == (0, EXAMPLE_FLAT, b""), "a host over the shared library", program, host(EXAMPLE))
-    expect(host(b"C1;E") == (1, b"", name + b": refused 12 at byte 0\n"), "such a host on a refusal", program, host(b"C1;E"))
-    expect(host(b"E".ljust(MOST + 1)) == (1, b"", name + b": refused 1 at byte 0\n"), "such a host on a text that is too long", program)
+    expect(host(b"C1;E") == (1, b"", name + b": refused 12 on line 1, column 1\n"), "such a host on a refusal", program, host(b"C1;E"))
+    expect(host(b"E".ljust(MOST + 1)) == (1, b"", name + b": refused 1 on line 1, column 1\n"), "such a host on a text that is too long", program)
 
 
 # ---- the shared library that was built from the proved archive

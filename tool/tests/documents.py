@@ -15,19 +15,22 @@ def test_host():
         done = subprocess.run([Run.host], input=text, capture_output=True)
         return done.returncode, done.stdout, done.stderr
     expect(host(EXAMPLE) == (0, EXAMPLE_FLAT, b""), "the example host")
-    expect(host(b"C1;E") == (1, b"", b"host: refused 12 at byte 0\n"), "the example host on a refusal")
-    expect(host(b"E".ljust(MOST + 1)) == (1, b"", b"host: refused 1 at byte 0\n"), "the example host on a text that is too long")
+    expect(host(b"C1;E") == (1, b"", b"host: refused 12 on line 1, column 1\n"), "the example host on a refusal")
+    expect(host(b"DS1;C2;DF;DS2;C1;DF;\nC1;E") == (1, b"", b"host: refused 13 on line 1, column 15; in the calls at bytes 21, 4\n"), "the example host on a refusal in calls")
+    expect(host(b"E".ljust(MOST + 1)) == (1, b"", b"host: refused 1 on line 1, column 1\n"), "the example host on a text that is too long")
     expect(document("examples/host.c").count("\n") <= 40, "the example host has at most forty lines")
 
 
 def expect_answers(name):
-    """Every text of a document that is written as `text`: number at place, or `text`: accepted. Answers the numbers found, with None for accepted."""
-    found = re.findall(r"`([^`\n]+)`: (accepted|(\d+) at (\d+))", document(name))
-    for text, verdict, number, place in found:
+    """Every text of a document that is written as `text`: number at place, perhaps with `in the calls at` and their places, or `text`: accepted. Answers the
+    numbers found, with None for accepted."""
+    found = re.findall(r"`([^`\n]+)`: (accepted|(\d+) at (\d+)(?: in the calls? at (\d+(?:, \d+)*))?)", document(name))
+    for text, verdict, number, place, chain in found:
         done = cif("list", "-", text=text.encode())
-        told = done.returncode == 0 if verdict == "accepted" else done.stdout == f"refused\t{number}\t{place}\n".encode()
-        expect(told, f"a text of {name}", text, verdict, done)
-    return [int(number) if number else None for _, _, number, _ in found]
+        fields = done.stdout.decode().rstrip("\n").split("\t")
+        refused = fields[:5] == ["refused", number, place, "1", str(int(place or 0) + 1)] and (not chain or fields[5:] == chain.split(", "))
+        expect(done.returncode == 0 if verdict == "accepted" else refused, f"a text of {name}", text, verdict, done)
+    return [int(number) if number else None for _, _, number, _, _ in found]
 
 
 def test_rules():
@@ -37,10 +40,10 @@ def test_rules():
 def test_refusals():
     page = document("docs/REFUSALS.md")
     found = expect_answers("docs/REFUSALS.md")
-    short = {2, 3, 4, 6, 7, 8, 9, 11, 12, 13, 16}
+    short = {2, 3, 4, 6, 7, 8, 9, 11, 12, 13, 16, 20}
     expect(5 not in found, "5 never occurs")
     expect(set(found) >= short, "REFUSALS.md has a text for each number that a short text can get")
-    expect([int(n) for n in re.findall(r"^## (\d+):", page, re.M)] == [*range(1, 19), 25], "REFUSALS.md has a part for each number")
+    expect([int(n) for n in re.findall(r"^## (\d+):", page, re.M)] == [*range(1, 19), 20, 25], "REFUSALS.md has a part for each number")
 
 
 def test_hints():

@@ -1,4 +1,4 @@
-"""How a refusal is told: number, place, line and column, two sentences, and the line with a caret under the place."""
+"""How a refusal is told: number, place, line and column, two sentences, the calls that lead to it, and the line with a caret under the place."""
 import fcntl
 import os
 import pty
@@ -11,11 +11,12 @@ from common import MOST, Run, cif, content, expect, leftovers, scratch
 
 
 def refusals():
-    """A text for each number, with its place."""
+    """A text for each number, with its place and those of the calls that are open there, the outermost first."""
     many = b"".join(b"DS%d;DF;" % i for i in range(513))
     deep = b"".join(b"DS%d;C%d;DF;" % (i, i + 1) for i in range(1, 33)) + b"DS33;DF;C1;E"
     double = b"".join(b"DS%d;C%d;C%d;DF;" % (i, i + 1, i + 1) for i in range(1, 21)) + b"DS21;DF;C1;E"
     shapes = b"DS1;LA;" + b"R1 0 0;" * 1024 + b"DF;" + b"C1;" * 1025 + b"E"
+    down = [deep.rindex(b"C1"), *(deep.index(b"C%d;" % i) for i in range(2, 33))]
     return [
         (1, 0, b"E".ljust(MOST + 1)),
         (2, 0, b""),
@@ -28,22 +29,26 @@ def refusals():
         (10, many.rindex(b"DS"), many + b"E"),
         (11, 0, b"C1 R 1 1;E"),
         (12, 0, b"C1;E"),
-        (13, 4, b"DS1;C1;DF;C1;E"),
-        (14, deep.index(b"C33"), deep),
-        (15, double.index(b"C2;DF"), double),
-        (16, 7, b"DS1;LA;R1 1 0;DF;C1T16777215 0;E"),
-        (17, shapes.index(b"R"), shapes),
+        (13, 4, b"DS1;C1;DF;C1;E", 10),
+        (14, deep.index(b"C33"), deep, *down),
+        (15, double.index(b"C2;DF"), double, double.rindex(b"C1")),
+        (16, 7, b"DS1;LA;R1 1 0;DF;C1T16777215 0;E", 17),
+        (20, 10, b"DS1;\nLA;\r\nR1 0 1;DF;DS2;\nC1;DF;\tC2\n\rT0\t 16777215 ;E", 32, 25),
+        (17, shapes.index(b"R"), shapes, len(shapes) - 4),
         (18, 0, b"DS1;LA;" + b"B16777215 16777215 16777215 16777215 16777215 16777215;" * 512 + b"DF;" + b"C1;" * 600 + b"E"),
     ]
 
 
-def expect_told(text, number, place, told, name="standard input"):
+def expect_told(text, number, place, told, name="standard input", chain=()):
     """Looks at all that is told; answers the two sentences."""
     head, *rest = told.decode("ascii").split("\n")
     line, start = text.count(b"\n", 0, place) + 1, text.rfind(b"\n", 0, place) + 1
     opening = f"{name}:{line}:{place - start + 1}: refused {number} at byte {place}: "
     if not expect(head.startswith(opening) and len(head) > len(opening) + 10 and head[-1] in ".;", "the first line of a refusal", text[:80], told):
         return None
+    if chain:
+        expect_chain(text, chain, rest[:len(chain) + 2])
+        rest = rest[len(chain) + 2:]
     excerpt = [] if number in (1, 18) else rest[:2]
     rest = rest[len(excerpt):]
     if len(rest) == 5:
@@ -53,6 +58,21 @@ def expect_told(text, number, place, told, name="standard input"):
     if excerpt:
         expect_caret(*line_around(text, place), *excerpt)
     return head[len(opening):], rest[0]
+
+
+def position(text, place):
+    return text.count(b"\n", 0, place) + 1, place - text.rfind(b"\n", 0, place)
+
+
+def expect_chain(text, chain, told):
+    """A line for each open call, with its position and its text up to the semicolon, and one before and after them."""
+    head = "  In 1 call:" if len(chain) == 1 else f"  In {len(chain)} calls, the outermost first:"
+    expect((told[0], told[-1]) == (head, "  and there:"), "around the open calls", text[:80], told)
+    for place, line in zip(chain, told[1:-1]):
+        start = "    line %d, column %d: " % position(text, place)
+        call = re.sub(r"\s+", " ", shown(text[place:text.index(b";", place)], "\n\v\f\r")).strip()
+        cut = line.endswith("...") and call.startswith(line[len(start):-3]) and 60 < len(line) < 80
+        expect(line.startswith(start) and (line[len(start):] == call and len(line) < 80 or cut), "an open call", text[:80], line, start + call)
 
 
 def line_around(text, place):
@@ -73,9 +93,9 @@ def expect_origin(text, place, told):
         expect_caret(*line_around(text, at), *told[1:])
 
 
-def shown(line):
-    """Bytes as they are shown."""
-    return "".join(" " if byte == 9 else chr(byte) if 32 <= byte < 127 else f"\\x{byte:02X}" for byte in line)
+def shown(line, blanks=""):
+    """Bytes as they are shown, a tab and some others as blanks."""
+    return "".join(" " if byte == 9 or chr(byte) in blanks else chr(byte) if 32 <= byte < 127 else f"\\x{byte:02X}" for byte in line)
 
 
 def expect_caret(line, place, told, caret):
@@ -91,20 +111,46 @@ def expect_caret(line, place, told, caret):
     expect(right == behind or cut, "what stands after the caret", line[:80], told, caret)
 
 
+def listed(text, number, place, chain=()):
+    """The line of a refusal in the list."""
+    return "\t".join(["refused", *map(str, (number, place, *position(text, place), *chain))]).encode() + b"\n"
+
+
 def test_every_number():
     numbers, sentences = set(), set()
-    for number, place, text in refusals():
+    for number, place, text, *chain in refusals():
         name, out, new = scratch(f"refused{number}.cif", text), scratch("kept.out", b"as it was"), scratch("new.out")
         for words, stdout in ((["check", name], b""), (["flat", name], b""), (["plot", name, "-o", out], b""), (["flat", name, "-o", new], b""),
-                              (["list", name], f"refused\t{number}\t{place}\n".encode())):
+                              (["list", name], listed(text, number, place, chain))):
             done = cif(*words)
             expect((done.returncode, done.stdout) == (1, stdout), "a refusal ends with 1", number, words[0], done)
-            told = expect_told(text, number, place, done.stderr, name)
+            told = expect_told(text, number, place, done.stderr, name, chain)
         kept = content(out) == b"as it was" and not os.path.exists(new) and not leftovers(os.path.dirname(out))
         expect(kept, "a refusal writes no file", number)
         numbers.add(number)
         sentences.add(told)
-    expect(numbers == set(range(1, 19)) - {5} and len(sentences) == 17, "each number but 5, which never comes, has its own sentences", sentences)
+    expect(numbers == {*range(1, 19), 20} - {5} and len(sentences) == 18, "each number but 5, which never comes, has its own sentences", sentences)
+
+
+def test_chains():
+    """The open calls as they are shown: on lines of every kind, long ones, and with bytes that cannot be shown."""
+    for text, number, place, chain in (
+        (b"DS1;C2;DF;\nDS2;C3;DF;\r\nDS3;\n\n  C9;DF;C1;E", 12, 31, (37, 4, 15)),
+        (b"DS1;C2;DF;DS2;C1;DF;\nCall Symbol #2 Mirrored in X\n then T 10 20  ;E", 13, 4, (21, 14)),
+        (b"DS1;C9;DF;C1" + b"T 100 100 " * 32 + b";E", 12, 4, (10,)),
+        (b"DS1;C9;DF;C1" + b" " * 300 + b"T 100 100;E", 12, 4, (10,)),
+        (b"DS1;C9;DF;C\x01\x7f1\x00\x1b[mT0\x1b0;E", 12, 4, (10,)),
+        (b"DS1;C9;DF;C1" + b"\x01" * 100 + b"MX;E", 12, 4, (10,)),
+        (b"\n" * 1000 + b";DS1;C9;DF;" + b";" * 1000 + b"C1" + b"MX" * 32 + b";E", 12, 1005, (2011,)),
+    ):
+        done = cif("list", "-", text=text)
+        expect(done.stdout == listed(text, number, place, chain), "the chain in the list", text[:80], done)
+        expect_told(text, number, place, done.stderr, chain=chain)
+        name = scratch("chain.cif", text)
+        one, two = cif("check", name, name).stderr.split(b"\n")[:-1] or (b"", b"")
+        expect(one == two and one.startswith(b"%s:%d:%d: refused" % (name.encode(), *position(text, place))), "of several files only the first line is told", one)
+    told = on_terminal(40, b"DS1;C9;DF;C1" + b"T 100 100 " * 32 + b";E", TERM="xterm", NO_COLOR="1")
+    expect(told[1] == "  In 1 call:" and told[2].endswith("...") and 34 < len(told[2]) < 40, "an open call on a narrow terminal", told)
 
 
 def test_words():
@@ -211,7 +257,8 @@ def test_no_layout():
     ):
         for text in texts:
             done = cif("list", "-", text=text)
-            number, place = map(int, done.stdout.split()[1:])
+            number, place, *where = map(int, done.stdout.split()[1:])
+            expect(tuple(where) == position(text, place), "line and column in the list", text, done)
             told = expect_told(text, number, place, done.stderr)
             expect(number == 2 and told is not None and words in told[0], "what is no layout", words, text, done)
     for text in (b"\xef\xbb\xbfE", b"(\xb5m);E", b"X;E", b"(data_);X", b"LA"):
@@ -295,7 +342,8 @@ def test_any_bytes():
     for text in random_texts(150):
         done = cif("list", "-", text=text)
         if done.returncode == 1:
-            number, place = map(int, done.stdout.split()[1:])
-            expect_told(text, number, place, done.stderr)
+            number, place, line, column, *chain = map(int, done.stdout.split()[1:])
+            expect((line, column) == position(text, place), "line and column in the list", text, done)
+            expect_told(text, number, place, done.stderr, chain=chain)
         else:
             expect(done.returncode == 0 and done.stdout.count(b"total\t") == 1, "any bytes get an answer", text, done)

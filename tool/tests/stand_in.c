@@ -13,7 +13,10 @@ void cif_flatten(const unsigned char *text, size_t text_length, int32_t *words, 
   else if (text_length != sizeof example - 1 || memcmp(text, example, text_length) != 0) answer[CIF_NUMBER] = 12;
   else if (words_length < text_length) answer[CIF_NUMBER] = 25;
   else if (room_length != CIF_MOST_BYTES) answer[CIF_NUMBER] = 18;
-  if (answer[CIF_NUMBER] != 0) return;
+  if (answer[CIF_NUMBER] != 0) {
+    answer[CIF_LINE] = answer[CIF_COLUMN] = 1;
+    return;
+  }
   memcpy(room, flat, sizeof flat - 1);
   answer[CIF_LENGTH] = sizeof flat - 1;
   answer[CIF_SHAPES] = answer[CIF_CALLS] = 1;

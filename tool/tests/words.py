@@ -5,7 +5,7 @@ import os
 import re
 
 from common import EXAMPLE, EXAMPLE_FLAT, EXAMPLE_LIST, MOST, TOP, cif, content, expect, scratch
-from refusals import expect_told
+from refusals import expect_told, position
 
 
 def test_help():
@@ -73,7 +73,8 @@ def listed(flat, totals):
 
 
 def try_vector(row):
-    text, number, place, rounded, flat = bytes.fromhex(row[2]), int(row[3]), int(row[4]), int(row[9]), bytes.fromhex(row[10])
+    text, number, place, rounded, flat = bytes.fromhex(row[2]), int(row[3]), int(row[4]), int(row[9]), bytes.fromhex(row[13])
+    where, chain = row[10:12], row[12].split()
     if number == 18:  # of a small room; the tool's is always the largest
         return
     done = cif("list", "-", text=text)
@@ -82,12 +83,15 @@ def try_vector(row):
         expect(cif("flat", "-", text=text).stdout == flat, "the flat file of a vector", text)
         expect(json.loads(cif("check", "--json", "-", text=text).stdout)["rounded"] == rounded, "the rounded distances of a vector", text)
     else:
-        expect((done.returncode, done.stdout) == (1, f"refused\t{number}\t{place}\n".encode()), "the refusal of a vector", text, done)
-        expect_told(text, number, place, done.stderr)
+        expect((done.returncode, done.stdout) == (1, "\t".join(["refused", *row[3:5], *where, *chain]).encode() + b"\n"), "the refusal of a vector", text, done)
+        expect_told(text, number, place, done.stderr, chain=list(map(int, chain)))
+        told = json.loads(cif("check", "--json", "-", text=text).stdout)
+        expect([told["line"], told["column"], *[call["place"] for call in told["chain"]]] == [*map(int, where), *map(int, chain)], "where a vector is refused, in JSON", text, told)
+        expect(all((call["line"], call["column"]) == position(text, call["place"]) for call in told["chain"]), "where its open calls are", text, told)
 
 
 def test_vectors():
-    rows = [line.split("\t") for line in content(os.path.join(TOP, "tests", "base.tsv")).decode().split("\n")[1:-1]]
+    rows = [line.split("\t") for name in ("base.tsv", "positions.tsv") for line in content(os.path.join(TOP, "tests", name)).decode().split("\n")[1:-1]]
     with concurrent.futures.ThreadPoolExecutor(os.cpu_count()) as pool:
         list(pool.map(try_vector, rows))
 
@@ -154,12 +158,15 @@ def test_json():
     expect(good == {"file": files[0], "status": "accepted", "number": 0, "bytes": 26, "shapes": 1, "calls": 1, "redefinitions": 0, "rounded": 0, "window": [75, 0, 75, 0],
                     "layers": [{"name": "CM", "shapes": 1, "window": [75, 0, 75, 0]}], "hints": []}, "an accepted text", good)
     message = bad.pop("message", "")
-    expect(bad == {"file": files[1], "status": "refused", "number": 2, "place": 11, "line": 2, "column": 8} and "this box" in message, "a refused text", bad)
+    expect(bad == {"file": files[1], "status": "refused", "number": 2, "place": 11, "line": 2, "column": 8, "chain": []} and "this box" in message, "a refused text", bad)
     layers = [{"name": "A", "shapes": 2, "window": [0, 0, 7, 7]}, {"name": "B", "shapes": 1, "window": [5, -5, 9, 9]}]
     hint = {"name": "extensions", "place": 25, "line": 1, "column": 26, "message": "1 user extension is skipped: 94 (1)."}
     expect(odd["layers"] == layers and odd["hints"] == [hint] and odd["window"] == [0, -5, 9, 9], "layers and hints", odd)
     expect(empty["window"] is None and empty["layers"] == [], "no shapes, no window", empty)
     expect(cif("check", "--json", "--strict", files[2]).returncode == 1 and cif("check", "--json", files[2]).stderr == b"", "--json tells all in its object")
+    found = [*found, json.loads(cif("check", "--json", "-", text=b"DS1;\nC1;\nDF;\nC1;E").stdout)]
+    expect(found[-1].pop("message") and found[-1] == {"file": "standard input", "status": "refused", "number": 13, "place": 5, "line": 2, "column": 1,
+                                                      "chain": [{"place": 13, "line": 4, "column": 1}]}, "a text refused in a call", found[-1])
     page = content(os.path.join(TOP, "docs", "JSON.md")).decode()
     names = {name for o in found + odd["layers"] + odd["hints"] for name in o} | {"message"}
     expect(names == set(re.findall(r"^\| `([a-z]+)` \|", page, re.M)), "docs/JSON.md has every field", names)
