@@ -14,5 +14,6 @@ pub mod Held
 pub mod Lean
 pub mod Position
 pub mod Answer
+pub mod Window
 pub mod Listing
 pub mod Computed

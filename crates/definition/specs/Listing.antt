@@ -1,16 +1,16 @@
 -- The lines of the list program (01, "The list program"): read off the outcome, so that the program adds nothing of its own.
-use mathlib.Core.Bool.{Bool, true, false}
-use mathlib.Core.List.{List, [], _∷_, _++_, map, flatMap}
+use mathlib.Core.List.{List, [], _∷_, _++_, map}
+use mathlib.Core.Option.{Option, none, some}
 use Prim.Native.Nat.{ℕ, _+_, _<_, _≤_}
-use lib.IntN.{ℤ, pos}
+use lib.IntN.{pos}
 use lib.ListN.{length}
-use lib.Signed.{leZ}
-use Rattle.definition.specs.Words.{if_then_else_, Point, bytesOf}
+use Rattle.definition.specs.Words.{bytesOf}
 use Rattle.definition.specs.Rules.{textTooLong, refuse}
 use Rattle.definition.specs.Drawing.{Drawn}
 use Rattle.definition.specs.Counts.{shapesOf}
 use Rattle.definition.specs.Flat.{decimal, spaced, letterOf, numbersOfShape}
 use Rattle.definition.specs.Position.{lineOf, columnOf, placesOf}
+use Rattle.definition.specs.Window.{Window, windowOf}
 use Rattle.definition.specs.Answer.{Outcome, accepted, rejected, Answers}
 
 unfoldable pub fields : List (List ℕ) → List ℕ  -- fields behind a word, each after a tab
@@ -23,24 +23,15 @@ shapeLines n (d ∷ ds) =
     bytesOf "shape" ++ (fields (decimal (pos n) ∷ d .layer-of ∷ (letterOf (d .itself .kind) ∷ []) ∷ spaced (numbersOfShape (d .itself)) ∷ [])
     ++ shapeLines (n + 1) ds)
 
-unfoldable pub extreme : (ℤ → ℤ → Bool) → ℤ → List ℤ → ℤ  -- the lowest, or the highest, of numbers: the one before which the test puts it
-extreme before z [] = z
-extreme before z (y ∷ ys) = extreme before (if before z y then z else y) ys
-
-unfoldable pub windowLine : List (Point ℤ) → List ℕ
-windowLine [] = bytesOf "window" ++ fields (bytesOf "none" ∷ [])
-windowLine (p ∷ ps) =
-    let lowest : ℤ → List ℤ → ℤ = extreme leZ in
-    let highest : ℤ → List ℤ → ℤ = extreme (λ a b. leZ b a) in
-    let xs = map (λ (q : Point ℤ). q .x) ps in
-    let ys = map (λ (q : Point ℤ). q .y) ps in
-    bytesOf "window" ++ fields (decimal (lowest (p .x) xs) ∷ decimal (lowest (p .y) ys) ∷ decimal (highest (p .x) xs) ∷ decimal (highest (p .y) ys) ∷ [])
+unfoldable pub windowLine : Option Window → List ℕ  -- 02, P6: the window that holds the figures, in half units
+windowLine none = bytesOf "window" ++ fields (bytesOf "none" ∷ [])
+windowLine (some w) = bytesOf "window" ++ fields (map decimal (w .left ∷ w .bottom ∷ w .right ∷ w .top ∷ []))
 
 unfoldable pub listing : List ℕ → Outcome → List ℕ  -- of a text. 02, P4: line, column and the places of the chain come after the place
 listing t (accepted cs c es) =
     shapeLines 1 (shapesOf es)
     ++ (bytesOf "total" ++ (fields (decimal (pos (c .shapes)) ∷ decimal (pos (c .calls)) ∷ decimal (pos (c .redefinitions)) ∷ [])
-    ++ windowLine (flatMap (λ d. d .itself .points) (shapesOf es))))
+    ++ windowLine (windowOf (map (λ d. d .itself) (shapesOf es)))))
 listing t (rejected r chain) =
     bytesOf "refused"
     ++ fields (map (λ n. decimal (pos n)) (r .number ∷ r .place ∷ lineOf t (r .place) ∷ columnOf t (r .place) ∷ placesOf chain))
