@@ -1,9 +1,11 @@
-// A flat file followed byte by byte: the line and the number that are being read, and the window of the points before them. Plain values come in and
-// plain values go out; what is printed of them is the business of listing, above. It takes any bytes.
+// A flat file followed byte by byte: the line and the number that are being read, and the window of the figures before them (02, P6). Plain values come
+// in and plain values go out; what is printed of them is the business of listing, above. It takes any bytes.
 ghost use mathlib.Core.Path.{_≡_};
 ghost use Prim.Native.Nat.{_+_, _*_, _^_, _≤_};
+ghost use lib.IntN.{natAbs};
 ghost use Rattle.lines.specs.Followed.{opened, named, lineAfter, pushed, ends, numeralAfter, valueOf};
-ghost use Rattle.lines.specs.Followed.{nowhere, lower, higher, includes, alternate, behindSize, axisOf, spanAfter, Fits, unread, seenAfter};
+ghost use Rattle.lines.specs.Followed.{blank, kept, leadAfter, reachBy, alongBy, boxReachBy, centreOf, boxTaken, stretched};
+ghost use Rattle.lines.specs.Followed.{nowhere, lower, higher, widened, alternate, afterSize, axisOf, spanAfter, Fits, unread, seenAfter};
 
 // No number of a flat file is larger.
 const LARGEST: u32 = definition::LARGEST as u32;
@@ -43,10 +45,22 @@ pub struct Span {
     pub high: i64,
 }
 
-// What is known of a flat file behind some of its bytes: the line and the number that are being read, and the x and the y of all points before.
+// The first numbers of a line, by which its shape reaches beyond its points: the sizes, and of a box its centre and the x of its direction, which is
+// known only after the centre. All 0 at a line's start.
+pub struct Lead {
+    pub first: u32,
+    pub second: u32,
+    pub x: Numeral,
+    pub y: Numeral,
+    pub dx: u32,
+}
+
+// What is known of a flat file after some of its bytes: the line and the number that are being read, the first numbers of the line, and the window of
+// all shapes before.
 pub struct Seen {
     pub line: Line,
     pub number: Numeral,
+    pub lead: Lead,
     pub xs: Span,
     pub ys: Span,
 }
@@ -183,6 +197,7 @@ fn numeral_after(n: Numeral, b: u8) -> Numeral
 
 fn value_of(n: Numeral) -> i64
     ensures { λ r. ⌜ r ≡ valueOf n ⌝ }
+    ensures { λ r. ⌜ natAbs r ≤ 2 ^ 32 ⌝ }
 {
     let v = n.value as i64;
     let negative = n.negative;
@@ -222,24 +237,35 @@ fn higher_of(a: i64, b: i64) -> i64
     b
 }
 
-fn include(span: Span, z: i64) -> Span
-    ensures { λ r. ⌜ r ≡ includes span z ⌝ }
+// With a stretch more.
+fn widen(span: Span, low: i64, high: i64) -> Span
+    ensures { λ r. ⌜ r ≡ widened span low high ⌝ }
 {
     let some = span.some;
     if some {
-        let low = lower_of(span.low, z);
-        let high = higher_of(span.high, z);
+        let lowest = lower_of(span.low, low);
+        let highest = higher_of(span.high, high);
         return Span {
             some: true,
-            low,
-            high,
+            low: lowest,
+            high: highest,
         };
     }
     Span {
         some: true,
-        low: z,
-        high: z,
+        low,
+        high,
     }
+}
+
+// What lies about a number, in half units: it is doubled, and the reach goes to both sides.
+fn stretch(span: Span, middle: i64, reach: i64) -> Span
+    requires { ⌜ (natAbs middle ≤ 2 ^ 32) × (natAbs reach ≤ 2 ^ 33) ⌝ }
+    ensures { λ r. ⌜ r ≡ stretched span middle reach ⌝ }
+{
+    let low = 2 * middle - reach;
+    let high = 2 * middle + reach;
+    widen(span, low, high)
 }
 
 fn alternate(index: usize) -> u8
@@ -251,10 +277,10 @@ fn alternate(index: usize) -> u8
     Y
 }
 
-// Behind one size.
-fn axis_behind(index: usize) -> u8
+// After one size.
+fn axis_after_size(index: usize) -> u8
     requires { ⌜ index ≤ 2 ^ 32 ⌝ }
-    ensures { λ r. ⌜ r ≡ behindSize index ⌝ }
+    ensures { λ r. ⌜ r ≡ afterSize index ⌝ }
 {
     if index == 0 {
         return NEITHER;
@@ -262,7 +288,7 @@ fn axis_behind(index: usize) -> u8
     alternate(index + 1)
 }
 
-// Sizes and a box's direction are in no window.
+// Sizes are in no window, and a box is taken whole at the end of its line.
 fn axis_of(letter: u8, index: usize) -> u8
     requires { ⌜ index ≤ 2 ^ 32 ⌝ }
     ensures { λ r. ⌜ r ≡ axisOf letter index ⌝ }
@@ -270,36 +296,142 @@ fn axis_of(letter: u8, index: usize) -> u8
     if letter == b'P' {
         return alternate(index);
     }
-    if letter == b'B' {
-        if index == 2 {
-            return X;
-        }
-        if index == 3 {
-            return Y;
-        }
-        return NEITHER;
-    }
     if letter == b'R' {
-        return axis_behind(index);
+        return axis_after_size(index);
     }
     if letter == b'W' {
-        return axis_behind(index);
+        return axis_after_size(index);
     }
     NEITHER
 }
 
+// How far a flash or a wire reaches beyond each doubled point, and a polygon.
+fn reach_of(letter: u8, first: u32) -> i64
+    ensures { λ r. ⌜ r ≡ reachBy letter first ⌝ }
+    ensures { λ r. ⌜ natAbs r ≤ 2 ^ 33 ⌝ }
+{
+    if letter == b'P' {
+        return 0;
+    }
+    first as i64
+}
+
+// The one of two that goes along an axis.
+fn along(axis: u8, x: u32, y: u32) -> u32
+    ensures { λ r. ⌜ r ≡ alongBy axis x y ⌝ }
+{
+    if axis == X {
+        return x;
+    }
+    y
+}
+
+// How far a box does along an axis: its length and width the proper way round, or both where it slants.
+fn box_reach(axis: u8, lead: Lead, dy: u32) -> i64
+    ensures { λ r. ⌜ r ≡ boxReachBy axis (lead .first) (lead .second) (lead .dx) dy ⌝ }
+    ensures { λ r. ⌜ natAbs r ≤ 2 ^ 33 ⌝ }
+{
+    let length = lead.first;
+    let width = lead.second;
+    if dy == 0 {
+        return along(axis, length, width) as i64;
+    }
+    if lead.dx == 0 {
+        return along(axis, width, length) as i64;
+    }
+    length as i64 + width as i64
+}
+
+fn centre_of(axis: u8, lead: Lead) -> i64
+    ensures { λ r. ⌜ r ≡ centreOf axis lead ⌝ }
+    ensures { λ r. ⌜ natAbs r ≤ 2 ^ 32 ⌝ }
+{
+    if axis == X {
+        return value_of(lead.x);
+    }
+    value_of(lead.y)
+}
+
+// A box is taken at its last number, the y of its direction.
+fn take_box(axis: u8, span: Span, lead: Lead, n: Numeral) -> Span
+    ensures { λ r. ⌜ r ≡ boxTaken axis lead span n ⌝ }
+{
+    if n.index == 5 {
+        let middle = centre_of(axis, lead);
+        let reach = box_reach(axis, lead, n.value);
+        return stretch(span, middle, reach);
+    }
+    span
+}
+
 // A number that ends is taken where it is one of the axis.
-fn span_after(axis: u8, span: Span, letter: u8, n: Numeral, b: u8) -> Span
+fn span_after(axis: u8, span: Span, letter: u8, lead: Lead, n: Numeral, b: u8) -> Span
     requires { ⌜ n .index ≤ 2 ^ 32 ⌝ }
-    ensures { λ r. ⌜ r ≡ spanAfter axis span letter n b ⌝ }
+    ensures { λ r. ⌜ r ≡ spanAfter axis span letter lead n b ⌝ }
 {
     if ends_number(b) {
+        if letter == b'B' {
+            return take_box(axis, span, lead, n);
+        }
         if axis_of(letter, n.index) == axis {
-            return include(span, value_of(n));
+            let middle = value_of(n);
+            let reach = reach_of(letter, lead.first);
+            return stretch(span, middle, reach);
         }
         return span;
     }
     span
+}
+
+// ---- the first numbers of a line
+
+fn no_lead() -> Lead
+    ensures { λ r. ⌜ r ≡ blank ⌝ }
+{
+    let none = Numeral {
+        index: 0,
+        negative: false,
+        value: 0,
+    };
+    Lead {
+        first: 0,
+        second: 0,
+        x: none,
+        y: none,
+        dx: 0,
+    }
+}
+
+// With a number that ends, by how many stand before it.
+fn keep_number(lead: Lead, n: Numeral) -> Lead
+    ensures { λ r. ⌜ r ≡ kept lead n ⌝ }
+{
+    let before = n.index;
+    let mut more = lead;
+    if before == 0 {
+        more.first = n.value;
+    } else if before == 1 {
+        more.second = n.value;
+    } else if before == 2 {
+        more.x = n;
+    } else if before == 3 {
+        more.y = n;
+    } else if before == 4 {
+        more.dx = n.value;
+    }
+    more
+}
+
+fn lead_after(lead: Lead, n: Numeral, b: u8) -> Lead
+    ensures { λ r. ⌜ r ≡ leadAfter lead n b ⌝ }
+{
+    if b == LINE_FEED {
+        return no_lead();
+    }
+    if ends_number(b) {
+        return keep_number(lead, n);
+    }
+    lead
 }
 
 // ---- all of it
@@ -321,12 +453,13 @@ pub fn start() -> Seen
             negative: false,
             value: 0,
         },
+        lead: no_lead(),
         xs: none,
         ys: none,
     }
 }
 
-// Behind one byte more.
+// After one byte more.
 pub fn after(seen: Seen, b: u8) -> Seen
     requires { ⌜ Fits (seen .line) ⌝ }
     requires { ⌜ seen .number .index ≤ 2 ^ 32 ⌝ }
@@ -334,12 +467,15 @@ pub fn after(seen: Seen, b: u8) -> Seen
 {
     let line = seen.line;
     let number = seen.number;
-    let xs = span_after(X, seen.xs, line.letter, number, b);
-    let ys = span_after(Y, seen.ys, line.letter, number, b);
+    let lead = seen.lead;
+    let xs = span_after(X, seen.xs, line.letter, lead, number, b);
+    let ys = span_after(Y, seen.ys, line.letter, lead, number, b);
     let next = numeral_after(number, b);
+    let more = lead_after(lead, number, b);
     Seen {
         line: line_after(line, b),
         number: next,
+        lead: more,
         xs,
         ys,
     }

@@ -1,14 +1,13 @@
 -- The account is the definition's listing, for the answer and the flat file of every text; and it is short.
 -- Assumes nothing.
 use mathlib.Core.Path.{_≡_, sym, ap, ap₂, _∙_, subst}
-use mathlib.Core.List.{List, [], _∷_, _++_, flatMap}
+use mathlib.Core.List.{List, [], _∷_, _++_, map, flatMap}
 use Prim.Native.Nat.{ℕ, _+_, _-_, _*_, _≤_, _<_}
 use native.Mathlib.Omega.{arith}
 use borrow.Author.Tests.{lt-ltb, le-ltb, eq-eqb, ne-eqb}
-use lib.IntN.{ℤ}
 use lib.ListN.{length, length-append, length-map, take, replicate}
 use lib.Seq.{take-at}
-use Rattle.definition.specs.Words.{Placed, Point, bytesOf}
+use Rattle.definition.specs.Words.{Placed, bytesOf}
 use Rattle.definition.specs.declared.Refusal.{Refusal}
 use Rattle.definition.specs.Commands.{Command}
 use Rattle.definition.specs.Drawing.{Drawn, Chain, Event}
@@ -18,6 +17,7 @@ use Rattle.definition.specs.declared.Answer.{Answer}
 use Rattle.definition.specs.Answer.{Outcome, accepted, rejected, flatFile, success, failure, given-back, Answers}
 use Rattle.definition.specs.Limits.{deepest}
 use Rattle.definition.specs.Position.{lineOf, columnOf, placesOf, chainTold}
+use Rattle.definition.specs.Window
 use Rattle.definition.specs.Listing.{shapeLines, windowLine, listing}
 use Rattle.laws.proofs.Lists.Range.{All}
 use Rattle.laws.proofs.FlatFile.Sound.{Sound, all-sound}
@@ -31,23 +31,21 @@ use Rattle.listing.specs.Account.{printed, spanOf, totalLine, windowOf, 
 use Rattle.listing.specs.Listed.{Walks, Listed}
 use Rattle.listing.specs.declared.Walked.{Walked}
 use Rattle.listing.proofs.Lines.{lines-printed}
-use Rattle.listing.proofs.Window.{along-x, along-y, lines-taken, window-is}
+use Rattle.listing.proofs.Window.{across, upward, along-x, along-y, lines-taken, window-is}
 use Rattle.listing.proofs.Places.{tabbed-fields}
 use Rattle.listing.proofs.Short.{lines-short}
 
 -- ---- shapes
 
-abbrev pointsOf : List Drawn → List (Point ℤ)
-pointsOf ds = flatMap (λ (d : Drawn). d .itself .points) ds
-
 shapes-printed : (ds : List Drawn) → All Sound ds → printed (fresh 1 0) (flat ds) ≡ shapeLines 1 ds
 unfolding flat packed packedBy
 shapes-printed ds h = lines-printed 1 [] ds h
 
-window-printed : (ds : List Drawn) → All Sound ds → windowOf (spanOf 1 (flat ds)) (spanOf 2 (flat ds)) ≡ windowLine (pointsOf ds)
+window-printed : (ds : List Drawn) → All Sound ds → windowOf (spanOf 1 (flat ds)) (spanOf 2 (flat ds)) ≡ windowLine (Window.windowOf (map (λ (d : Drawn). d .itself) ds))
 unfolding flat packed packedBy
 window-printed ds h =
-    ap₂ windowOf (lines-taken 1 (λ (p : Point ℤ). p .x) along-x 1 [] ds nowhere h) (lines-taken 2 (λ (p : Point ℤ). p .y) along-y 1 [] ds nowhere h) ∙ window-is (pointsOf ds)
+    ap₂ windowOf (lines-taken 1 across (λ p. p .x) along-x 1 [] ds nowhere h) (lines-taken 2 upward (λ p. p .y) along-y 1 [] ds nowhere h)
+    ∙ window-is (flatMap Window.windows (map (λ (d : Drawn). d .itself) ds))
 
 -- ---- outcomes
 

@@ -7,9 +7,10 @@ use native.Mathlib.Omega.{arith}
 use lib.ListN.{length, getD, drop}
 use Rattle.digits.specs.Writes.{Writes}
 use Rattle.digits.proofs.Writing.{Going, begun, goes-on, over}
-use Rattle.lines.specs.Followed.{fresh, lineAfter, numeralAfter, spanAfter, Fits, unread, seenAfter}
+use Rattle.lines.specs.Followed.{fresh, lineAfter, numeralAfter, leadAfter, spanAfter, Fits, unread, seenAfter}
 use Rattle.lines.specs.declared.Line.{Line}
 use Rattle.lines.specs.declared.Numeral.{Numeral}
+use Rattle.lines.specs.declared.Lead.{Lead}
 use Rattle.lines.specs.declared.Span.{Span}
 use Rattle.lines.specs.declared.Seen.{Seen}
 use Rattle.lines.proofs.Kept.{line-kept, index-kept}
@@ -21,8 +22,8 @@ use Rattle.listing.proofs.Steps.{next-byte, no-byte}
 pub record Walking (f old new : List ℕ) (at : ℕ) (s : Seen) (i : ℕ) : Type 0 where
   pub within : i ≤ length f
   pub going : Going old new 0 at (printed (fresh 1 0) f) (printed (s .line) (drop i f))
-  pub xs-left : spanned 1 (s .line) (s .number) (s .xs) (drop i f) ≡ spanOf 1 f
-  pub ys-left : spanned 2 (s .line) (s .number) (s .ys) (drop i f) ≡ spanOf 2 f
+  pub xs-left : spanned 1 (s .line) (s .number) (s .lead) (s .xs) (drop i f) ≡ spanOf 1 f
+  pub ys-left : spanned 2 (s .line) (s .number) (s .lead) (s .ys) (drop i f) ≡ spanOf 2 f
   pub near : at ≤ 64 * i
   pub few : s .line .count ≤ i + 1
   pub name : s .line .layer + 256 * s .line .unit ≤ 4294967296
@@ -44,10 +45,10 @@ printed-next : (s : Line) (f : List ℕ) (i : ℕ) → i < length f → printed 
 unfolding printed
 printed-next s f i h = ap (printed s) (next-byte f i h)
 
-spanned-next : (axis : ℕ) (s : Line) (n : Numeral) (w : Span) (f : List ℕ) (i : ℕ) → i < length f
-    → spanned axis s n w (drop i f) ≡ spanned axis (lineAfter s (getD f i 0)) (numeralAfter n (getD f i 0)) (spanAfter axis w (s .letter) n (getD f i 0)) (drop (i + 1) f)
+spanned-next : (axis : ℕ) (s : Line) (n : Numeral) (l : Lead) (w : Span) (f : List ℕ) (i : ℕ) → i < length f
+    → let b = getD f i 0 in spanned axis s n l w (drop i f) ≡ spanned axis (lineAfter s b) (numeralAfter n b) (leadAfter l n b) (spanAfter axis w (s .letter) l n b) (drop (i + 1) f)
 unfolding spanned
-spanned-next axis s n w f i h = ap (spanned axis s n w) (next-byte f i h)
+spanned-next axis s n l w f i h = ap (spanned axis s n l w) (next-byte f i h)
 
 pub next : {f r₀ r₁ r₂ : List ℕ} {at at′ : ℕ} {s s′ : Seen} {i : ℕ} → Walking f r₀ r₁ at s i → i < length f → getD f i 0 < 256
     → Writes r₁ r₂ at at′ (wrote (s .line) (getD f i 0)) → at′ ≤ at + 34 → s′ ≡ seenAfter s (getD f i 0) → Walking f r₀ r₂ at′ s′ (i + 1)
@@ -58,8 +59,8 @@ next {f} {r₀} {r₁} {r₂} {at} {at′} {s} {s′} {i} g h byte w more e =
     rw e (record {
       within = omega arith;
       going = goes-on (wrote (s .line) b) (g .going) (printed-next (s .line) f i h) w;
-      xs-left = sym (spanned-next 1 (s .line) (s .number) (s .xs) f i h) ∙ g .xs-left;
-      ys-left = sym (spanned-next 2 (s .line) (s .number) (s .ys) f i h) ∙ g .ys-left;
+      xs-left = sym (spanned-next 1 (s .line) (s .number) (s .lead) (s .xs) f i h) ∙ g .xs-left;
+      ys-left = sym (spanned-next 2 (s .line) (s .number) (s .lead) (s .ys) f i h) ∙ g .ys-left;
       near = let a = g .near in omega (arith, a, more);
       few = let a = g .few in let c = k .few in omega (arith, a, c);
       name = k .name;
@@ -74,7 +75,7 @@ pub all-walked : {f old new : List ℕ} {at : ℕ} {s : Seen} {i : ℕ} → Walk
 unfolding printed spanned
 all-walked {f} {s = s} {i} g h = record {
   writes = over (g .going) (ap (printed (s .line)) (no-byte f i h));
-  xs-are = sym (ap (spanned 1 (s .line) (s .number) (s .xs)) (no-byte f i h)) ∙ g .xs-left;
-  ys-are = sym (ap (spanned 2 (s .line) (s .number) (s .ys)) (no-byte f i h)) ∙ g .ys-left;
+  xs-are = sym (ap (spanned 1 (s .line) (s .number) (s .lead) (s .xs)) (no-byte f i h)) ∙ g .xs-left;
+  ys-are = sym (ap (spanned 2 (s .line) (s .number) (s .lead) (s .ys)) (no-byte f i h)) ∙ g .ys-left;
   near = let a = g .near in let c = g .within in omega (arith, a, c, h);
 }

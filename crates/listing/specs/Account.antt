@@ -12,9 +12,10 @@ use Rattle.definition.specs.Flat.{decimal}
 use Rattle.definition.specs.Listing.{fields}
 use Rattle.definition.specs.declared.Answer.{Answer}
 use Rattle.pen.specs.Names.{nameOf}
-use Rattle.lines.specs.Followed.{fresh, lineAfter, numeral, numeralAfter, nowhere, spanAfter}
+use Rattle.lines.specs.Followed.{fresh, lineAfter, numeral, numeralAfter, blank, leadAfter, nowhere, spanAfter}
 use Rattle.lines.specs.declared.Line.{Line}
 use Rattle.lines.specs.declared.Numeral.{Numeral}
+use Rattle.lines.specs.declared.Lead.{Lead}
 use Rattle.lines.specs.declared.Span.{Span}
 
 -- ---- the lines of all shapes
@@ -40,12 +41,12 @@ printed s (b ∷ l) = wrote s b ++ printed (lineAfter s b) l
 
 -- ---- the window: what the spans along the rest of the flat file come to
 
-unfoldable pub spanned : (axis : ℕ) → Line → Numeral → Span → List ℕ → Span
-spanned axis s n w [] = w
-spanned axis s n w (b ∷ l) = spanned axis (lineAfter s b) (numeralAfter n b) (spanAfter axis w (s .letter) n b) l
+unfoldable pub spanned : (axis : ℕ) → Line → Numeral → Lead → Span → List ℕ → Span
+spanned axis s n h w [] = w
+spanned axis s n h w (b ∷ l) = spanned axis (lineAfter s b) (numeralAfter n b) (leadAfter h n b) (spanAfter axis w (s .letter) h n b) l
 
 abbrev pub spanOf : (axis : ℕ) → List ℕ → Span
-spanOf axis f = spanned axis (fresh 1 0) (numeral 0 false 0) nowhere f
+spanOf axis f = spanned axis (fresh 1 0) (numeral 0 false 0) blank nowhere f
 
 -- ---- the listing
 
