@@ -1,12 +1,59 @@
-"""What document 01's list program prints of a text, by the second opinion: its flat file is listed by the section on the list program."""
+"""What document 01's list program prints of a text, by the second opinion: its flat file is listed by the section on the list program, with the window of
+request 6. Sentences in quotation marks are document 01's, those after "request" document 02's."""
 import reader
 
 MOST = 32_768  # "takes at most 32,768 bytes; a longer one is refusal 1. Its room is 32,768 bytes."
-POINTS = {"B": slice(2, 4), "R": slice(1, 3), "W": slice(1, None), "P": slice(None)}  # "all centres and path points"
+POINTS = {"B": slice(2, 4), "R": slice(1, 3), "W": slice(1, None), "P": slice(None)}  # centres and path points
 
 
 def line(*fields):
     return "\t".join(map(str, fields)) + "\n"
+
+
+def reach(letter, numbers):
+    """How far a shape reaches beyond each of its doubled points, along x and along y; from its line of the flat file, so that, as request 6 has it, "a box's
+    direction after transformation decides"."""
+    if letter == "R":  # request 6: "a flash or wire reaches its whole diameter or width beyond each doubled point"
+        diameter = numbers[0]
+        return diameter, diameter
+    if letter == "W":
+        width = numbers[0]
+        return width, width
+    if letter == "P":  # "a polygon reaches its points"
+        return 0, 0
+    length, width, dx, dy = numbers[0], numbers[1], numbers[4], numbers[5]
+    if dy == 0:  # "a box along x or along y reaches its length and width the proper way round"
+        return length, width
+    if dx == 0:
+        return width, length
+    return length + width, length + width  # "a slanting box reaches length plus width on all four sides"
+
+
+def window(shapes):
+    """Lowest x, lowest y, highest x and highest y of shapes, each a letter and its numbers; None of none. Request 6: "Print it in half units, all four numbers
+    doubled"."""
+    lowest_x, lowest_y, highest_x, highest_y = [], [], [], []
+    for letter, numbers in shapes:
+        along_x, along_y = reach(letter, numbers)
+        points = numbers[POINTS[letter]]
+        for x in points[0::2]:
+            lowest_x.append(2 * x - along_x)
+            highest_x.append(2 * x + along_x)
+        for y in points[1::2]:
+            lowest_y.append(2 * y - along_y)
+            highest_y.append(2 * y + along_y)
+    return (min(lowest_x), min(lowest_y), max(highest_x), max(highest_y)) if lowest_x else None
+
+
+def shapes_of(flat):
+    """The shapes of a flat file: layer, letter and numbers of each."""
+    layer = ""
+    for command in flat.decode().split(";\n")[:-1]:
+        letter, rest = command[0], command[1:]
+        if letter == "L":
+            layer = rest
+        else:
+            yield layer, letter, [int(n) for n in rest.split(" ")]
 
 
 def lines_of(text, drawn):
@@ -16,19 +63,11 @@ def lines_of(text, drawn):
         answer = reader.refused(text, 1, 0)
     if answer.number:  # request 4: "The program prints these after the place, parted by tabs."
         return line("refused", answer.number, answer.place, answer.line, answer.column, *answer.chain).encode()
-    out, count, layer, xs, ys = [], 0, "", [], []
-    for command in answer.flat.decode().split(";\n")[:-1]:
-        letter, rest = command[0], command[1:]
-        if letter == "L":
-            layer = rest
-            continue
-        count += 1
-        out.append(line("shape", count, layer, letter, rest))
-        points = [int(n) for n in rest.split(" ")][POINTS[letter]]
-        xs += points[0::2]
-        ys += points[1::2]
+    shapes = list(shapes_of(answer.flat))
+    out = [line("shape", count, layer, letter, " ".join(map(str, numbers))) for count, (layer, letter, numbers) in enumerate(shapes, 1)]
     out.append(line("total", answer.shapes, answer.calls, answer.redefinitions))
-    out.append(line("window", min(xs), min(ys), max(xs), max(ys)) if xs else line("window", "none"))
+    found = window((letter, numbers) for _, letter, numbers in shapes)
+    out.append(line("window", *found) if found else line("window", "none"))
     return "".join(out).encode()
 
 
