@@ -94,8 +94,8 @@ void cif_flatten(const unsigned char *text, size_t text_length, int32_t *words, 
                  uint64_t answer[CIF_WORDS]);
 
 /* Lists what was drawn, from an answer of cif_flatten and the flat file that goes with it (of a refusal: no bytes): a line for each shape, with its count,
-   layer, kind and numbers, then the totals and the window; or of a refusal one line with its number, place, line and column and the places of the open calls.
-   Fields are separated by tabs.
+   layer, kind and numbers, then the totals and the window, which holds all figures and is in half units (all four numbers doubled); or of a refusal one line
+   with its number, place, line and column and the places of the open calls. Fields are separated by tabs.
 
    The lines come to stand at the start of `out`, as far as it reaches; the rest of it is unchanged. Given back is how many bytes they are, whatever the
    length of `out`: a call with an `out` of no bytes measures. For a flat file of cif_flatten that is at most four times its length and 1,024 more. Of a

@@ -119,7 +119,7 @@ size_t cif_list(const unsigned char *flat, size_t flat_length, const uint64_t an
   char lines[400];
   uint64_t kept = fuzz_state;
   fuzz_state = seed_of(flat, flat_length);
-  int length = 0, far = (int)below(16777216), near = (int)below(300);
+  int length = 0, far = (int)below(67108861), near = (int)below(300);
   if (answer[CIF_NUMBER] != 0) length = snprintf(lines, sizeof lines, "refused\t%u\t%u\n", (unsigned)answer[CIF_NUMBER], (unsigned)answer[CIF_PLACE]);
   else if (below(4) == 0) length = snprintf(lines, sizeof lines, "total\t0\t0\t0\nwindow\tnone\n");
   else length = snprintf(lines, sizeof lines, "shape\t1\tA\tR\t1 0 0\ntotal\t1\t0\t0\nwindow\t%d\t%d\t%d\t%d\n", -far, -near, near, far);

@@ -54,11 +54,12 @@ static void put_hints(struct output *out, struct bytes text, const struct hints 
   put_text(out, "]");
 }
 
+/* In CIF's unit, as all else is here: half units may end in .5. */
 static void put_window(struct output *out, const struct window *window) {
   put_field(out, "window");
   for (int i = 0; i < 4 && window->some; i++) {
     put_text(out, i == 0 ? "[" : ",");
-    put_number(out, window->number[i]);
+    put_decimal(out, 5 * window->number[i], 1);
   }
   put_text(out, window->some ? "]" : "null");
 }

@@ -61,10 +61,9 @@ static bool ask_window(struct bytes flat, struct window *window) {
   return true;
 }
 
-/* The lines of one layer, as a flat file of their own in the room. */
-static size_t gather_layer(const struct reading *reading, const struct layers *layers, const struct layer *layer, unsigned char *room) {
+/* The lines of one layer, after what the room has already. */
+static size_t gather_layer(const struct reading *reading, const struct layers *layers, const struct layer *layer, unsigned char *room, size_t used) {
   char name[5];
-  size_t used = 0;
   spell_layer(layer->name, name);
   room[used++] = 'L';
   for (size_t i = 0; name[i] != 0; i++) room[used++] = (unsigned char)name[i];
@@ -75,18 +74,35 @@ static size_t gather_layer(const struct reading *reading, const struct layers *l
     memcpy(room + used, reading->flat.at + run->start, run->end - run->start);
     used += run->end - run->start;
   }
-  room[used++] = 'E';
-  room[used++] = '\n';
   return used;
 }
 
+static bool ask_gathered(unsigned char *room, size_t used, struct window *window) {
+  room[used++] = 'E';
+  room[used++] = '\n';
+  return ask_window((struct bytes){room, used}, window);
+}
+
+/* For some or all layers, one after the other: each has one L line then, and had one or more in the flat file. */
+static unsigned char *room_to_gather(const struct reading *reading) { return malloc(reading->flat.count + 16); }
+
 bool find_windows(const struct reading *reading, struct layers *layers, struct window *whole) {
-  unsigned char *room = malloc(reading->flat.count + 16);
+  unsigned char *room = room_to_gather(reading);
   bool found = room != NULL && ask_window(reading->flat, whole);
   for (size_t i = 0; found && i < layers->count; i++) {
     struct layer *layer = &layers->all[i];
-    found = ask_window((struct bytes){room, gather_layer(reading, layers, layer, room)}, &layer->window);
+    found = ask_gathered(room, gather_layer(reading, layers, layer, room, 0), &layer->window);
   }
+  free(room);
+  return found;
+}
+
+bool find_window(const struct reading *reading, const struct layers *layers, struct window *window) {
+  unsigned char *room = room_to_gather(reading);
+  size_t used = 0;
+  if (room == NULL) return false;
+  for (size_t i = 0; i < layers->count; i++) used = gather_layer(reading, layers, &layers->all[i], room, used);
+  bool found = ask_gathered(room, used, window);
   free(room);
   return found;
 }

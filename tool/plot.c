@@ -18,9 +18,9 @@ struct reach {
 };
 
 struct frame {
-  struct reach drawn; /* or the window that was asked for */
+  struct reach window; /* that holds all that is drawn, or that was asked for */
   bool windowed;
-  fine left, top, width, height; /* of what is shown: a margin more than what is drawn, and just the window */
+  fine left, top, width, height; /* of what is shown: a margin more than the first of these, and just the second */
   int64_t pixels_wide, pixels_high;
   fine pixel;   /* how much of the plane a pixel covers */
   int decimals; /* where the decimal point stands in numbers of the frame */
@@ -123,25 +123,19 @@ static fine rounded_off(fine value) {
   return value / power * power;
 }
 
-static struct reach reach_of(struct bytes flat, const struct layers *layers) {
-  static struct shape shape;
-  struct reach reach = nothing;
-  for (size_t i = 0; i < layers->count; i++) {
-    struct layer_walk walk = walk_over_layer(flat, layers, &layers->all[i]);
-    while (next_on_layer(&walk, &shape)) extend_by_shape(&reach, &shape);
-  }
-  return reach;
+/* Numbers of a window, each worth so much of the plane. */
+static struct reach reach_of(const int64_t number[4], fine worth) {
+  return (struct reach){.low = {number[0] * worth, number[1] * worth}, .high = {number[2] * worth, number[3] * worth}};
 }
 
-static struct frame frame_of(struct bytes flat, const struct layers *layers, const struct view *view) {
-  const int64_t *window = view->window;
-  struct frame frame = {.drawn = {{window[0], window[1]}, {window[2], window[3]}}, .windowed = view->windowed};
-  if (!view->windowed) frame.drawn = reach_of(flat, layers);
-  fine margin = view->windowed ? 0 : larger(rounded_off(longer_side(&frame.drawn) / 25), FINE);
-  frame.left = frame.drawn.low.x - margin;
-  frame.top = frame.drawn.high.y + margin;
-  frame.width = frame.drawn.high.x - frame.left + margin;
-  frame.height = frame.top - frame.drawn.low.y + margin;
+/* The view is what was asked for, or else the window of what is shown, which the archive tells: so nothing that is drawn is cut. */
+static struct frame frame_of(const struct window *shown, const struct view *view) {
+  struct frame frame = {.window = view->windowed ? reach_of(view->window, 1) : reach_of(shown->number, FINE / 2), .windowed = view->windowed};
+  fine margin = view->windowed ? 0 : larger(rounded_off(longer_side(&frame.window) / 25), FINE);
+  frame.left = frame.window.low.x - margin;
+  frame.top = frame.window.high.y + margin;
+  frame.width = frame.window.high.x - frame.left + margin;
+  frame.height = frame.top - frame.window.low.y + margin;
   fine side = larger(frame.width, frame.height);
   frame.pixels_wide = (view->size * frame.width + side - 1) / side;
   frame.pixels_high = (view->size * frame.height + side - 1) / side;
@@ -634,8 +628,8 @@ static void put_foot(struct output *out, const struct frame *frame, const struct
   put_part_of(out, layers->count, all.layers, " layer");
   put_text(out, "</text>\n");
   open_text(out, EDGE, y + 56);
-  put_range(out, "x ", frame->drawn.low.x, frame->drawn.high.x);
-  put_range(out, ", y ", frame->drawn.low.y, frame->drawn.high.y);
+  put_range(out, "x ", frame->window.low.x, frame->window.high.x);
+  put_range(out, ", y ", frame->window.low.y, frame->window.high.y);
   put_text(out, " \xC2\xB5m</text>\n");
 }
 
@@ -716,25 +710,28 @@ static void put_picture(struct output *out, const struct reading *reading, const
   put_text(out, "</svg>\n");
 }
 
+static void put_shown(struct output *out, const struct reading *reading, struct layers *layers, const struct frame *frame, struct amount all) {
+  if (layers->count > 0) choose_met(reading->flat, layers, frame);
+  if (layers->count > 0) put_picture(out, reading, frame, layers, all);
+  else put_empty(out, reading->name, all);
+}
+
 /* Colours are given before anything is left out, so that a layer looks the same in every view. */
-static void put_view(struct output *out, const struct reading *reading, struct layers *layers, const struct view *view) {
+static bool put_view(struct output *out, const struct reading *reading, struct layers *layers, const struct view *view) {
   struct amount all = {all_shapes(layers), layers->count};
-  struct frame frame = {0};
+  struct window shown = {0};
   tell_undrawn_layers(view, layers, reading->name);
   if (layers->count > 0) colour_layers(layers->all, layers->count);
   choose_named(layers, view);
-  if (layers->count > 0) {
-    frame = frame_of(reading->flat, layers, view);
-    choose_met(reading->flat, layers, &frame);
-  }
-  if (layers->count > 0) put_picture(out, reading, &frame, layers, all);
-  else put_empty(out, reading->name, all);
+  if (layers->count > 0 && !view->windowed && !find_window(reading, layers, &shown)) return false;
+  struct frame frame = frame_of(&shown, view);
+  put_shown(out, reading, layers, &frame, all);
+  return true;
 }
 
 bool put_plot(struct output *out, const struct reading *reading, const struct view *view) {
   struct layers layers;
-  bool found = find_layers(reading->flat, &layers);
-  if (found) put_view(out, reading, &layers, view);
+  bool found = find_layers(reading->flat, &layers) && put_view(out, reading, &layers, view);
   release_layers(&layers);
   return found;
 }

@@ -19,11 +19,12 @@ static void count_kinds(struct bytes flat, const struct layers *layers, const st
   while (next_on_layer(&walk, &shape)) counts[strchr(kinds, shape.kind) - kinds]++;
 }
 
+/* Half units in microns: each is five thousandths of one. */
 static void put_range(struct output *out, const char *axis, int64_t low, int64_t high) {
   put_text(out, axis);
-  put_decimal(out, low, 2);
+  put_decimal(out, 5 * low, 3);
   put_text(out, " to ");
-  put_decimal(out, high, 2);
+  put_decimal(out, 5 * high, 3);
 }
 
 static void put_window(struct output *out, const struct window *window) {
@@ -44,7 +45,7 @@ static void put_row(struct output *out, const char *name, const int64_t counts[K
 
 static void put_table(struct output *out, const struct reading *reading, const struct layers *layers, const struct window *whole) {
   int64_t all[KINDS] = {0};
-  put_text(out, "  layer    boxes polygons  flashes    wires   window of centres and points, in microns\n");
+  put_text(out, "  layer    boxes polygons  flashes    wires   window that holds the figures, in microns\n");
   for (size_t i = 0; i < layers->count; i++) {
     int64_t counts[KINDS] = {0};
     char name[5];

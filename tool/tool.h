@@ -222,7 +222,7 @@ struct run { /* neighbouring shapes on one layer */
   uint32_t shapes;
 };
 
-/* Lowest x and y, highest x and y, of all centres and path points: what the list calls a window. */
+/* Lowest x and y, highest x and y that hold every figure, in half units: what the list calls a window. */
 struct window {
   bool some;
   int64_t number[4];
@@ -270,6 +270,8 @@ bool flatten(struct bytes text, unsigned char *room, uint64_t answer[CIF_WORDS])
 bool put_list(struct output *out, const struct reading *reading);
 /* The window of each layer and of all of them. False where there is no memory. */
 bool find_windows(const struct reading *reading, struct layers *layers, struct window *whole);
+/* The window of these layers together. False where there is no memory. */
+bool find_window(const struct reading *reading, const struct layers *layers, struct window *window);
 
 /* ---- calls.c, summary.c */
 

@@ -7,7 +7,7 @@ MOST = 16777216  # bytes of a text and of a flat file
 BUILT = b"target/tool/cif and target/tool/libcif.so are built: try target/tool/cif --help\n"  # the build's last line
 EXAMPLE = b"DS 7 50 2; L CM; B 4 2 1 0; DF; C 7 MX T 100 0; E"
 EXAMPLE_FLAT = b"LCM;\nB100 50 75 0 -1 0;\nE\n"
-EXAMPLE_LIST = b"shape\t1\tCM\tB\t100 50 75 0 -1 0\ntotal\t1\t1\t0\nwindow\t75\t0\t75\t0\n"
+EXAMPLE_LIST = b"shape\t1\tCM\tB\t100 50 75 0 -1 0\ntotal\t1\t1\t0\nwindow\t50\t-50\t250\t50\n"
 
 
 class Run:

@@ -158,6 +158,22 @@ def test_frames():
     expect(empty.words == ["standard input", "no shapes"] and len(empty.root.get("viewBox").split()) == 4, "no shapes: a picture that says so", empty.words)
 
 
+def test_views():
+    """The whole picture shows the window of the list, and so holds every figure, slanting boxes too; of some layers it is the window of those."""
+    for text, layers, window in ((EXAMPLE, None, "x 0.25 to 1.25, y -0.25 to 0.25"), (b"LA;B10 4 0 0 3 4;E", None, "x -0.07 to 0.07, y -0.07 to 0.07"), (b"LA;R3 1 2;E", None, "x -0.005 to 0.025, y 0.005 to 0.035"),
+                                 (b"LA;B10 5 3 2 0 -9;LB;W3 100 0 0 100;LA;P0 0 1 0 1 40;E", None, "x -0.015 to 1.015, y -0.03 to 1.015"),
+                                 (b"LA;B10 5 3 2 0 -9;LB;W3 100 0 0 100;LA;P0 0 1 0 1 40;E", "A", "x 0 to 0.055, y -0.03 to 0.4"),
+                                 (b"LA;B1 40 0 0 1 1;LC;R2 0 0;LB;B7 3 90 0;LA;R5 0 0;E", "B,C", "x -0.01 to 0.935, y -0.015 to 0.015")):
+        picture = Picture(text, *(["--layers", layers] if layers else []))
+        expect(picture.words[-1] == window + " \u00b5m", "what the foot says of the view", text, picture.words)
+        left, top, right, bottom = reach(picture)
+        _, _, width, height = map(float, picture.frame.get("viewBox").split())
+        expect(0 < left <= right < width and 0 < top <= bottom < height, "the frame holds all, with a margin", text, picture.frame.attrib)
+        listed = cif("list", "-", text=text).stdout.decode().split("\n")[-2].split("\t")[1:]
+        shown = [float(n) for n in re.findall(r"-?[\d.]+", picture.words[-1])]
+        expect(layers or [round(shown[i] * 200, 6) for i in (0, 2, 1, 3)] == [float(n) for n in listed], "the view is the list's window", text, shown, listed)
+
+
 def test_legend_and_colours():
     one = Picture(b"LNM;R9 0 0;R9 20 0;LND;R9 9 9;LNM;R9 40 0;LQQ;R9 5 5;E")
     other = Picture(b"LY;R9 0 0;LND;R9 0 0;LQQ;R9 0 0;LNM;R9 0 0;E")

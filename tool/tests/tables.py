@@ -17,10 +17,13 @@ def test_summary():
     expect(head == "standard input: 1 shape, 1 call (1 deep), 1 definition, 0 redefinitions, 0 user extensions skipped", "the first line", head)
     head, rows = summary(b"9 x;LA;B4 4 0 0;B4 4 150 -25;W2 1 1;LB1;R4 -7 0;P0 0 9 9 0 9;P0 0 9 9 9 0;LA;W2 200 5 3 3;94 y;E")
     expect(head.endswith(" 7 shapes, 0 calls, 0 definitions, 0 redefinitions, 2 user extensions skipped"), "what is counted", head)
-    want = [("A", 2, 0, 0, 2, "x 0 to 2, y -0.25 to 0.05"), ("B1", 0, 2, 1, 0, "x -0.07 to 0.09, y 0 to 0.09"), ("all", 2, 2, 1, 2, "x -0.07 to 2, y -0.25 to 0.09")]
+    want = [("A", 2, 0, 0, 2, "x -0.02 to 2.01, y -0.27 to 0.06"), ("B1", 0, 2, 1, 0, "x -0.09 to 0.09, y -0.02 to 0.09"), ("all", 2, 2, 1, 2, "x -0.09 to 2.01, y -0.27 to 0.09")]
     got = [re.fullmatch(r"  (\w+) +(\d+) +(\d+) +(\d+) +(\d+)   (.*)", row).groups() for row in rows[1:]]
     expect(got == [tuple(map(str, w)) for w in want], "a row for each layer: boxes, polygons, flashes, wires, window", rows)
     expect(len({re.search(r"\d(?=   x)", row).start() for row in rows[1:]}) == 1, "columns stand under each other", rows)
+    expect(rows[0].endswith("   window that holds the figures, in microns"), "which window it is", rows)
+    for text, window in ((b"LA;R3 1 2;E", "x -0.005 to 0.025, y 0.005 to 0.035"), (b"LA;B5 2 -1 0 0 -7;E", "x -0.02 to 0, y -0.025 to 0.025"), (b"LA;B10 5 0 1 3 4;E", "x -0.075 to 0.075, y -0.065 to 0.085")):
+        expect([row.split("   ")[-1] for row in summary(text)[1][1:]] == [window] * 2, "half a hundredth of a micron", text, summary(text))
     expect(summary(b"(nothing);E")[1] == [], "no table where nothing is drawn")
     head, rows = summary(b"DS1 100 3;LA;R1 1 2;DF;E")
     expect(head.endswith(" 0 redefinitions, 3 rounded distances, 0 user extensions skipped"), "rounded distances, though nothing is drawn", head)

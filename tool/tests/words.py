@@ -55,9 +55,18 @@ def test_accepted():
     expect((done.returncode, done.stdout, done.stderr) == (0, told, b""), "check", done)
 
 
+def reach(kind, n):
+    """How far a shape reaches beyond its doubled points, along x and along y (document 02, request 6)."""
+    if kind == "P":
+        return 0, 0
+    if kind != "B":
+        return n[0], n[0]
+    return (n[0], n[1]) if n[5] == 0 else (n[1], n[0]) if n[4] == 0 else (n[0] + n[1], n[0] + n[1])
+
+
 def listed(flat, totals):
     """Document 01's list of a flat file."""
-    lines, layer, points = [], "", []
+    lines, layer, x, y = [], "", [], []
     for line in flat.decode().split("\n")[:-2]:
         kind, numbers = line[0], line[1:-1]
         if kind == "L":
@@ -65,10 +74,10 @@ def listed(flat, totals):
             continue
         lines.append(f"shape\t{len(lines) + 1}\t{layer}\t{kind}\t{numbers}")
         n = [int(x) for x in numbers.split()]
-        n = n[2:4] if kind == "B" else n if kind == "P" else n[1:]
-        points += zip(n[::2], n[1::2])
-    x, y = [p[0] for p in points], [p[1] for p in points]
-    window = [min(x), min(y), max(x), max(y)] if points else ["none"]
+        points = n[2:4] if kind == "B" else n if kind == "P" else n[1:]
+        x += [2 * a + side for a in points[::2] for side in (-reach(kind, n)[0], reach(kind, n)[0])]
+        y += [2 * b + side for b in points[1::2] for side in (-reach(kind, n)[1], reach(kind, n)[1])]
+    window = [min(x), min(y), max(x), max(y)] if x else ["none"]
     return "\n".join([*lines, "\t".join(["total", *totals]), "\t".join(["window", *map(str, window)]), ""]).encode()
 
 
@@ -135,7 +144,7 @@ def test_rounding():
     expect(done.returncode == 0 and told.startswith(line) and done.stderr == b"", "rounded distances", done)
     expect(told.count("\n") == 2 and told[len(line):].startswith("  ") and "a third of a micron" in told, "why they are rounded", told)
     expect(cif("flat", grid).stdout == b"LA;\nW100 0 0 33 0 67 -33;\nE\n", "what is drawn of them")
-    expect(cif("list", grid).stdout.endswith(b"\ntotal\t1\t1\t0\nwindow\t0\t-33\t67\t0\n"), "the list stays as it is")
+    expect(cif("list", grid).stdout.endswith(b"\ntotal\t1\t1\t0\nwindow\t-100\t-166\t234\t100\n"), "the list of them")
     expect(cif("check", grid, grid).stdout.decode() == 2 * line + "2 files: 2 accepted, 0 refused\n", "a line for each of several files")
     expect(cif("check", "-q", "--strict", grid).returncode == 0 and cif("check", "-q", grid).stdout == b"", "no hint, and nothing to tell with -q")
     expect(json.loads(cif("check", "--json", grid).stdout)["rounded"] == 3, "their number in JSON")
@@ -148,20 +157,20 @@ def test_rounding():
 
 def test_json():
     """An object for each file: every field that docs/JSON.md names, and no other."""
-    texts = {"good": EXAMPLE, "bad": b"LA;\nB 4 4 - 0;\nE", "odd": b"LA;R4 0 0;LB;W2 5 -5 9 9;94 \x01;LA;B2 2 7 7;E", "empty": b"E"}
+    texts = {"good": EXAMPLE, "bad": b"LA;\nB 4 4 - 0;\nE", "odd": b"LA;R3 0 0;LB;W2 5 -5 9 9;94 \x01;LA;B2 2 7 7;E", "empty": b"E"}
     files = [scratch(name + ".cif", text) for name, text in texts.items()] + [scratch("n\"\\\t\udcff\u00e4.cif", EXAMPLE), scratch("none.cif")]
     done = cif("check", "--json", *files)
     found = [json.loads(line) for line in done.stdout.split(b"\n")[:-1]]
     expect(done.returncode == 2 and [f["file"] for f in found] == files, "an object for each file, in their order, under its name", files, found)
     good, bad, odd, empty, _, none = found
     expect(none == {"file": files[-1], "status": "unread"}, "a file that cannot be read", none)
-    expect(good == {"file": files[0], "status": "accepted", "number": 0, "bytes": 26, "shapes": 1, "calls": 1, "redefinitions": 0, "rounded": 0, "window": [75, 0, 75, 0],
-                    "layers": [{"name": "CM", "shapes": 1, "window": [75, 0, 75, 0]}], "hints": []}, "an accepted text", good)
+    expect(good == {"file": files[0], "status": "accepted", "number": 0, "bytes": 26, "shapes": 1, "calls": 1, "redefinitions": 0, "rounded": 0, "window": [25, -25, 125, 25],
+                    "layers": [{"name": "CM", "shapes": 1, "window": [25, -25, 125, 25]}], "hints": []}, "an accepted text", good)
     message = bad.pop("message", "")
     expect(bad == {"file": files[1], "status": "refused", "number": 2, "place": 11, "line": 2, "column": 8, "chain": []} and "this box" in message, "a refused text", bad)
-    layers = [{"name": "A", "shapes": 2, "window": [0, 0, 7, 7]}, {"name": "B", "shapes": 1, "window": [5, -5, 9, 9]}]
+    layers = [{"name": "A", "shapes": 2, "window": [-1.5, -1.5, 8, 8]}, {"name": "B", "shapes": 1, "window": [4, -6, 10, 10]}]
     hint = {"name": "extensions", "place": 25, "line": 1, "column": 26, "message": "1 user extension is skipped: 94 (1)."}
-    expect(odd["layers"] == layers and odd["hints"] == [hint] and odd["window"] == [0, -5, 9, 9], "layers and hints", odd)
+    expect(odd["layers"] == layers and odd["hints"] == [hint] and odd["window"] == [-1.5, -6, 10, 10], "layers and hints", odd)
     expect(empty["window"] is None and empty["layers"] == [], "no shapes, no window", empty)
     expect(cif("check", "--json", "--strict", files[2]).returncode == 1 and cif("check", "--json", files[2]).stderr == b"", "--json tells all in its object")
     found = [*found, json.loads(cif("check", "--json", "-", text=b"DS1;\nC1;\nDF;\nC1;E").stdout)]
@@ -184,5 +193,5 @@ def test_longest():
 
 def test_a_million_shapes():
     done = cif("list", "-", text=b"DS1;LA;" + b"R1 0 0;" * 1024 + b"DF;" + b"C1;" * 1024 + b"E")
-    end = b"shape\t1048576\tA\tR\t1 0 0\ntotal\t1048576\t1024\t0\nwindow\t0\t0\t0\t0\n"
+    end = b"shape\t1048576\tA\tR\t1 0 0\ntotal\t1048576\t1024\t0\nwindow\t-1\t-1\t1\t1\n"
     expect(done.returncode == 0 and done.stdout.endswith(end) and done.stdout.count(b"\n") == 1048578, "1,048,576 shapes listed", done.stderr)
