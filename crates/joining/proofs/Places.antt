@@ -18,8 +18,9 @@ use Rattle.definition.specs.Words.{if_then_else_, Placed, at, Point, point, tho
 use Rattle.definition.specs.Commands.{Number, box, flash, wire, polygon, Shape, shapeOf, Turn, translate, mirrorX, mirrorY, rotate}
 use Rattle.definition.specs.Commands.{Command, draw, layer, call, start, finish, delete, nothing, _plays_, _is_}
 use Rattle.definition.specs.Commands.{worth, numbers, nth, paired, next, turnAt, turns, commandAt, commands}
-use Rattle.definition.specs.Standing.{Standing, after, given, scaled, scaledPoint, scaledShape, scaledTurn, outside}
+use Rattle.definition.specs.Standing.{Standing, after, given, scaled, scaledPoint, scaledShape, scaledTurn, outside, whole}
 use Rattle.definition.specs.Faults.{Parts, parts, partsOf, shifts, bearings, both, distances, numbersOf, zeroScale, degenerate, layerless, tooMany, atNumbers, atCommand, faults, allFaults, zero?, beyond, nowhere, emptyShape, firstFault}
+use Rattle.definition.specs.Rounded.{ragged, roundedFrom}
 use Rattle.definition.specs.Table.{shape, instance}
 use Rattle.definition.specs.Drawing.{stepOf}
 use Rattle.laws.proofs.Lists.Joined.{standing}
@@ -355,3 +356,21 @@ firstFault-shift k cs = ap first (allFaults-shift k (outside []) cs) ∙ go (all
     go : (rs : List Refusal) → first (map (shiftRefusal k) rs) ≡ Option·map (shiftRefusal k) (first rs)
     go [] = unfold first in refl
     go (r ∷ rs) = unfold first in refl
+
+-- ---- rounded distances
+
+those-shift : (k : ℕ) (test : ℤ → Bool) (ds : List Number) → those (λ (d : Number). test (d .what)) (map (shift k) ds) ≡ map (shift k) (those (λ (d : Number). test (d .what)) ds)
+unfolding those
+those-shift k test [] = refl
+those-shift k test (d ∷ ds) = chosen (map (shift k)) (test (d .what)) (ap (λ (x : List Number). shift k d ∷ x) (those-shift k test ds)) (those-shift k test ds)
+
+ragged-shift : (k : ℕ) (s : Standing) (c : Command) → ragged s (shiftCommand k c) ≡ map (shift k) (ragged s c)
+unfolding ragged
+ragged-shift k s c = ap (those (λ (d : Number). not (whole s (d .what)))) (distances-shift k c) ∙ those-shift k (λ z. not (whole s z)) (distances c)
+
+pub rounded-shift : (k : ℕ) (s : Standing) (cs : List (Placed Command)) → roundedFrom s (map (shifted k) cs) ≡ roundedFrom s cs
+unfolding roundedFrom
+rounded-shift k s [] = refl
+rounded-shift k s (c ∷ cs) =
+    ap₂ {C = ℕ} (λ (m n : ℕ). m + n) (ap (λ (x : List Number). length x) (ragged-shift k s (c .what)) ∙ length-map (ragged s (c .what)) (shift k))
+    (ap (λ (x : Standing). roundedFrom x (map (shifted k) cs)) (after-shift k (c .what) s) ∙ rounded-shift k (after (c .what) s) cs)

@@ -5,7 +5,7 @@ use mathlib.Core.Path.{_≡_, refl, sym, ap, ap₂, _∙_}
 use mathlib.Core.Bool.{Bool, true, false}
 use mathlib.Core.List.{List, [], _∷_, _++_, map, map-map, map-append}
 use mathlib.Core.Option.{Option, none, some, Option·map}
-use Prim.Native.Nat.{ℕ, zero, suc, _+_}
+use Prim.Native.Nat.{ℕ, zero, suc, _+_, max}
 use lib.Dec.{ltb, eqb}
 use lib.IntN.{ℤ, natAbs}
 use lib.ListN.{length, length-map}
@@ -22,6 +22,7 @@ use Rattle.definition.specs.Drawing.{stepOf, retained, Deed, output, define, re
 use Rattle.definition.specs.Drawing.{drawShape, drawStep, drawBody, Passage, barred, leads, passageTo, passageOf, through, drawCall, happens, tableAfter, story}
 use Rattle.definition.specs.Counts.{Counts, End, finished, stopped, counted, goOn, ending, shapesOf}
 use Rattle.definition.specs.Flat.{said, lines}
+use Rattle.definition.specs.Held.{wordsOfStep, wordsOfBody, wordsIn, wordsAfter, wordsNeeded}
 use Rattle.laws.proofs.Lists.Joined.{tableThen}
 use Rattle.laws.proofs.Story.Tables.{chosen, find-map, enter-map, forget-map}
 use Rattle.joining.proofs.Places.{shift, shiftCommand, shifted, any-map, after-shift, stepOf-shift}
@@ -217,6 +218,31 @@ module _ (f : ℕ → ℕ) where
   unfolding lines said
   lines-relocated before [] = refl
   lines-relocated before (d ∷ ds) = ap (λ (x : List ℕ). said before d ++ x) (lines-relocated (d .layer-of) ds)
+
+  -- ---- the words that bodies need
+
+  body-words : (b : List (Placed Step)) → wordsOfBody (map relocate b) ≡ wordsOfBody b
+  unfolding wordsOfBody
+  body-words [] = refl
+  body-words (s ∷ b) = ap (λ (n : ℕ). wordsOfStep (s .what) + n) (body-words b)
+
+  table-words : (t : Table) → wordsIn (map relocateDefinition t) ≡ wordsIn t
+  unfolding wordsIn
+  table-words [] = refl
+  table-words (d ∷ t) = ap₂ {C = ℕ} (λ (m n : ℕ). m + n) (body-words (d .body)) (table-words t)
+
+  event-words : (e : Event) → wordsAfter (relocateEvent e) ≡ wordsAfter e
+  unfolding wordsAfter relocateEvent
+  event-words (entered d before) = ap wordsIn (enter-relocated d before) ∙ table-words (enter d before)
+  event-words (called p chain d) = refl
+  event-words (drew d) = refl
+  event-words (removed n before) = refl
+  event-words (refused r chain) = refl
+
+  pub needed-relocated : (es : List Event) → wordsNeeded (map relocateEvent es) ≡ wordsNeeded es
+  unfolding wordsNeeded
+  needed-relocated [] = refl
+  needed-relocated (e ∷ es) = ap₂ {C = ℕ} (λ (m n : ℕ). max m n) (event-words e) (needed-relocated es)
 
 -- ---- the commands of a text that stands k places further on
 

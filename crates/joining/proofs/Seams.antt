@@ -37,6 +37,9 @@ items = many (itemOf command)
 
 -- ---- where a text is cut
 
+abbrev pub NotE : Letter → Type 0
+NotE l = (l is 'E') ≡ false
+
 -- the E of a text, before which only such stand, and behind which only blanks
 pub record Ending (m : List Letter) : Type 0 where
   pub before : List Letter
@@ -47,9 +50,14 @@ pub record Ending (m : List Letter) : Type 0 where
   pub role : last .role ≡ head
   pub byte : (last is 'E') ≡ true
   pub quiet : All Quiet blanks
+  pub no-letter-E : All NotE blanks
+
+not-E-is : (ρ : Role) (c : Class) (a : Letter) → T (not (has c 69)) → T (matches ρ c a) → NotE a
+unfolding has
+not-E-is ρ c a t h = other c (a .byte) 69 t (byte-of ρ c a h)
 
 pub ending-of : {m : List Letter} → Match cifFile m → Ending m
-unfolding everywhere Rattle.laws.proofs.Commands.Ordered.quiet
+unfolding everywhere Rattle.laws.proofs.Commands.Ordered.quiet has
 ending-of (both u v k (both p q (char {a = a} h) n f) e) = record {
   before = u;
   last = a;
@@ -59,6 +67,7 @@ ending-of (both u v k (both p q (char {a = a} h) n f) e) = record {
   role = role-of head 'E' a h;
   byte = true-of _ (byte-of head 'E' a h);
   quiet = all-quiet n tt;
+  no-letter-E = match-all (λ ρ c. not (has c 69)) NotE not-E-is n tt;
 }
 
 -- no E before, none behind

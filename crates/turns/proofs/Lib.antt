@@ -3,3 +3,4 @@ pub mod Nets
 pub mod Lists
 pub mod Sole
 pub mod Rows
+pub mod Placing
