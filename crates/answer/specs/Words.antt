@@ -1,8 +1,8 @@
 -- An answer as a host is told it: 64 words, each with a meaning that is fixed for good. include/cif.h has the same positions for programs in C.
 --   0 the refusal's number, 0 for an accepted text; 1 its place; 2 how long the flat file is; 3, 4 and 5 how many shapes, calls and redefinitions; 6 how
 --     many rounded distances
---   7 and 8 line and column of the place; 9 how many calls are open there; 10 in which of two texts it is; 11 which of several texts
---     is refused: 0, since neither of these two is told yet
+--   7 and 8 line and column of the place; 9 how many calls are open there; 10 in which of two texts it is, 1 or 2, and 0 where there is one text or neither
+--     is to blame; 11 which of several texts is refused: 0, since it is not told yet
 --   16 to 47 the places of the open calls, the outermost first, and zeros after them; 12 to 15 and 48 to 63 are free, and 0
 use mathlib.Core.List.{List, [], _∷_, _++_}
 use Prim.Native.Nat.{ℕ, zero, suc}
@@ -18,6 +18,9 @@ firstWords a =
 
 abbrev pub answerWords : Answer → List ℕ  -- 0 to 9, 10 and 11, 12 to 15, 16 to 47, 48 to 63
 answerWords a = firstWords a ++ (zeros 2 ++ (zeros 4 ++ (a .chain ++ zeros 16)))
+
+abbrev pub wordsAbout : Answer → (text : ℕ) → List ℕ  -- the same of an answer about one of two texts
+wordsAbout a text = firstWords a ++ (text ∷ (zeros 1 ++ (zeros 4 ++ (a .chain ++ zeros 16))))
 
 unfoldable pub wordsFrom : (first many : ℕ) → List ℕ → List ℕ  -- so many words, from one on
 wordsFrom i zero w = []

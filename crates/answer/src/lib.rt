@@ -9,7 +9,7 @@ ghost use lib.ListN.{length};
 ghost use Rattle.definition.specs.Answer.{success, failure};
 ghost use Rattle.counts.specs.Counting.{tally};
 ghost use Rattle.chain.specs.Chain.{runLength, chainIn};
-ghost use Rattle.answer.specs.Words.{zeros, firstWords, answerWords, chainBy, answerBy};
+ghost use Rattle.answer.specs.Words.{zeros, firstWords, answerWords, wordsAbout, chainBy, answerBy};
 
 // How many words a host lends, and where those stand that an answer sets today. All others are 0.
 pub const WORDS: usize = 64;
@@ -33,6 +33,8 @@ const LINE: usize = 7;
 const COLUMN: usize = 8;
 
 const OPENED: usize = 9;
+
+const TEXT: usize = 10;
 
 const CHAIN: usize = 16;
 
@@ -117,6 +119,15 @@ pub fn words(answer: Answer) -> [u64; WORDS]
         told[CHAIN + i] = chain[i] as u64;
         i += 1;
     }
+    told
+}
+
+// The words of an answer about one of two texts: which of them it is, is told too.
+pub fn words_about(answer: Answer, text: usize) -> [u64; WORDS]
+    ensures { λ r. ⌜ r ≡ wordsAbout answer text ⌝ }
+{
+    let mut told = words(answer);
+    told[TEXT] = text as u64;
     told
 }
 

@@ -13,7 +13,9 @@ use Rattle.reading.proofs.Unique.{one-refusal}
 use Rattle.answer.specs.Words.{answerWords}
 use Rattle.listing.specs.Listed.{Listed}
 use Rattle.listing.proofs.Agrees.{one-listing}
-use Rattle.cif.specs.Told.{FlattenTold, ListTold, RefusalTold, VerdictTold, faultAnswer, verdictAnswer}
+use Rattle.join.specs.declared.JoinAnswer.{JoinAnswer}
+use Rattle.join.proofs.Once.{made-once}
+use Rattle.cif.specs.Told.{FlattenTold, ListTold, RefusalTold, VerdictTold, JoinTold, faultAnswer, verdictAnswer, joinWords}
 
 -- words that say one answer are one list
 same-words : {words words′ : List ℕ} {a a′ : Answer} → words ≡ answerWords a → words′ ≡ answerWords a′ → a ≡ a′ → words ≡ words′
@@ -36,3 +38,9 @@ pub verdict-told-once : {t words words′ : List ℕ} → VerdictTold t words �
 verdict-told-once {t} a b =
     let one = ap (λ (v : Verdict). verdictAnswer t v) (one-verdict t (a .verdict) (b .verdict) (a .judged) (b .judged)) in
     same-words (a .said) (b .said) (a .is ∙ one ∙ sym (b .is))
+
+pub join-told-once : {first second room words words′ left left′ : List ℕ} → JoinTold first second room words left → JoinTold first second room words′ left′
+    → (words ≡ words′) × (left ≡ left′)
+join-told-once {first} {second} a b =
+    let one = made-once (a .made) (b .made) in
+    (a .said ∙ (ap (λ (x : JoinAnswer). joinWords first second x) (one .0) ∙ sym (b .said)), one .1)

@@ -2,19 +2,25 @@
 use mathlib.Core.Path.{_≡_}
 use mathlib.Core.List.{List, []}
 use Prim.Native.Nat.{ℕ}
+use lib.Dec.{eqb}
 use lib.IntN.{ℤ}
 use Rattle.grammar.specs.Viable.{Judged}
 use Rattle.grammar.specs.declared.Verdict.{Verdict}
 use Rattle.grammar.specs.declared.Verdict.the-variants.{InGrammar, StuckAt}
 use Rattle.definition.specs.declared.Answer.{Answer}
+use Rattle.definition.specs.declared.Refusal.{Refusal}
+use Rattle.definition.specs.Words.{if_then_else_}
 use Rattle.definition.specs.Rules.{notInGrammar, refuse}
 use Rattle.definition.specs.Counts.{counts}
 use Rattle.definition.specs.Answer.{success, failure, Promised}
 use Rattle.checking.specs.declared.Fault.{Fault}
 use Rattle.checking.specs.declared.Fault.the-variants.{Clear, Refused}
 use Rattle.reading.specs.Refusal.{Refuses}
-use Rattle.answer.specs.Words.{answerWords, answerBy}
+use Rattle.answer.specs.Words.{answerWords, wordsAbout, answerBy}
 use Rattle.listing.specs.Listed.{Listed}
+use Rattle.join.specs.declared.JoinAnswer.{JoinAnswer}
+use Rattle.join.specs.declared.JoinAnswer.the-variants.{Written, NotJoined}
+use Rattle.join.specs.Made.{Made}
 
 -- where nothing is drawn there is no length, no counts, no rounded distances, and no call is open
 abbrev pub clean : Answer
@@ -52,3 +58,16 @@ pub record VerdictTold (t words : List ℕ) : Type 0 where  -- `cif_recognise`: 
   pub given : Answer
   pub is : given ≡ verdictAnswer t verdict
   pub said : words ≡ answerWords given
+
+-- a refusal of two texts that are joined, in the text that it is about. 18 is about neither, and its place 0 is on line 1 in column 1 of any text
+abbrev pub refusedIn : (first second : List ℕ) → Refusal → (text : ℕ) → List ℕ
+refusedIn first second r text = wordsAbout (failure (if eqb text 2 then second else first) r []) text
+
+abbrev pub joinWords : (first second : List ℕ) → JoinAnswer → List ℕ
+joinWords first second (Written length) = answerWords (success length (counts 0 0 0) 0)
+joinWords first second (NotJoined r text) = refusedIn first second r text
+
+pub record JoinTold (first second room words left : List ℕ) : Type 0 where  -- `cif_join`: the joined text in the room, and its length; or a refusal
+  pub answer : JoinAnswer
+  pub made : Made first second room answer left
+  pub said : words ≡ joinWords first second answer

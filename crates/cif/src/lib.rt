@@ -4,8 +4,9 @@ use checking::Fault;
 use definition::Answer;
 use definition::Refusal;
 use grammar::Verdict;
+use join::JoinAnswer;
 ghost use mathlib.Core.Path.{_≡_};
-ghost use Rattle.cif.specs.Told.{FlattenTold, ListTold, RefusalTold, VerdictTold, faultAnswer, verdictAnswer};
+ghost use Rattle.cif.specs.Told.{FlattenTold, ListTold, RefusalTold, VerdictTold, JoinTold, faultAnswer, verdictAnswer, refusedIn, joinWords};
 
 // A check makes no flat file and counts nothing, and no call is open.
 fn fault_answer(text: &[u8], fault: Fault) -> Answer
@@ -66,4 +67,43 @@ pub extern "C" fn cif_recognise(text: &[u8], answer: &mut [u64; answer::WORDS])
 {
     let given = verdict_answer(text, grammar::recognise(text));
     *answer = answer::words(given);
+}
+
+// A refusal of two texts that are joined: line and column are those of the text that it is about.
+fn refusal_words(first: &[u8], second: &[u8], refusal: Refusal, text: usize) -> [u64; answer::WORDS]
+    ensures { λ r. ⌜ r ≡ refusedIn (now (first .entry)) (now (second .entry)) refusal text ⌝ }
+{
+    if text == join::SECOND {
+        let given = answer::refused_outside(second, refusal, counts::no_counts());
+        return answer::words_about(given, text);
+    }
+    let given = answer::refused_outside(first, refusal, counts::no_counts());
+    answer::words_about(given, text)
+}
+
+fn join_words(first: &[u8], second: &[u8], made: JoinAnswer) -> [u64; answer::WORDS]
+    ensures { λ r. ⌜ r ≡ joinWords (now (first .entry)) (now (second .entry)) made ⌝ }
+{
+    match made {
+        JoinAnswer::Written(length) => answer::words(answer::accepted(
+            length,
+            counts::no_counts(),
+            0,
+        )),
+        JoinAnswer::NotJoined(refusal, text) => refusal_words(first, second, refusal, text),
+    }
+}
+
+// Two texts joined into the room, or which of them is refused and why. All is settled: `join-told-once`.
+#[no_mangle]
+pub extern "C" fn cif_join(
+    first: &[u8],
+    second: &[u8],
+    room: &mut [u8],
+    answer: &mut [u64; answer::WORDS],
+)
+    ensures { λ _. ⌜ JoinTold (now (first .entry)) (now (second .entry)) (now (room .entry)) (now (answer .exit)) (now (room .exit)) ⌝ }
+{
+    let made = join::join(first, second, room);
+    *answer = join_words(first, second, made);
 }
