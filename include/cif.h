@@ -25,7 +25,7 @@ extern "C" {
 enum cif_word {
   CIF_NUMBER = 0,        /* why the text is refused (the table below), or 0 */
   CIF_PLACE = 1,         /* at which byte of the text, counted from 0 */
-  CIF_LENGTH = 2,        /* how many bytes of the room are the flat file */
+  CIF_LENGTH = 2,        /* how many bytes of the room are the flat file, or the joined text */
   CIF_SHAPES = 3,        /* how many shapes are drawn */
   CIF_CALLS = 4,         /* how many calls are drawn, at any depth */
   CIF_REDEFINITIONS = 5, /* how many definitions replaced one of the same number */
@@ -33,8 +33,8 @@ enum cif_word {
   CIF_LINE = 7,          /* on which line the place is: one more than the bytes 10 before it */
   CIF_COLUMN = 8,        /* in which column: one more than the bytes since the last of these */
   CIF_OPEN_CALLS = 9,    /* how many calls were open there, at most CIF_MOST_OPEN_CALLS */
-  CIF_TEXT = 10,         /* nothing is told yet here and in the next, and both are 0: in which of two texts the place is; */
-  CIF_POSITION = 11,     /* which of several texts is refused */
+  CIF_TEXT = 10,         /* of two texts that are joined: in which of them the place is, 1 or 2 */
+  CIF_POSITION = 11,     /* nothing is told yet here, and it is 0: which of several texts is refused */
   CIF_CHAIN = 16,        /* 16 to 47: the places of the open calls, the outermost first, and 0 after them. 12 to 15 and 48 to 63 are free, and 0 */
   CIF_WORDS = 64
 };
@@ -109,6 +109,26 @@ void cif_refusal(const unsigned char *text, size_t text_length, uint64_t answer[
 /* Whether a text of any length is in the grammar: answer[CIF_NUMBER] is 0, or 2 with the place of refusal 2 in answer[CIF_PLACE], and its line and column. All
    other words are 0. */
 void cif_recognise(const unsigned char *text, size_t text_length, uint64_t answer[CIF_WORDS]);
+
+/* Joins two texts into the room: the first up to its E, then `DD0;`, which forgets its definitions, then the second. Where cif_flatten accepts both, it accepts the
+   joined text as well, as long as that and its flat file have at most CIF_MOST_BYTES bytes and both together have at most 1,048,576 calls and 1,048,576 shapes; it then
+   draws the shapes of the first and after them those of the second, and calls, redefinitions and rounded distances are the sums. A joined text can be joined again.
+
+   Joined: answer[CIF_LENGTH] bytes of the room are the joined text and the rest of the room is unchanged. It is never longer than the two and 3 bytes. All other
+   words are 0.
+
+   Refused: answer[CIF_TEXT] is 1 or 2 for the text that answer[CIF_PLACE], answer[CIF_LINE] and answer[CIF_COLUMN] are in, and 0 for 18, whose place is 0. All other
+   words are 0 and not one byte of the room is changed.
+
+      number  when
+         1    the first text is longer than CIF_MOST_BYTES, or the second is
+         2    the first text is not in the grammar, or the second is not
+        18    the joined text is longer than the room, or than CIF_MOST_BYTES
+
+   Nothing is drawn here. Texts that are in the grammar and break another rule are joined too: a second text that sets no layer, which cif_flatten refuses, is then drawn
+   on the last layer of the first. */
+void cif_join(const unsigned char *first, size_t first_length, const unsigned char *second, size_t second_length, unsigned char *room, size_t room_length,
+              uint64_t answer[CIF_WORDS]);
 
 #ifdef __cplusplus
 }

@@ -3,7 +3,7 @@ _cif() {
   local word=${COMP_WORDS[COMP_CWORD]} before=${COMP_WORDS[COMP_CWORD - 1]} task=${COMP_WORDS[1]} options=
   COMPREPLY=()
   if ((COMP_CWORD == 1)); then
-    mapfile -t COMPREPLY < <(compgen -W "check flat list plot summary compare -h --help -V --version" -- "$word")
+    mapfile -t COMPREPLY < <(compgen -W "check flat list plot summary compare join -h --help -V --version" -- "$word")
     return
   fi
   case $before in
@@ -11,7 +11,7 @@ _cif() {
   esac
   case $task in
   check) options="-q --json --strict" ;;
-  flat | list | summary) options="-o --strict" ;;
+  flat | list | summary | join) options="-o --strict" ;;
   plot) options="-o --strict --window --layers --size" ;;
   compare) options="--any-order" ;;
   esac

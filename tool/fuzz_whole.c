@@ -128,6 +128,24 @@ size_t cif_list(const unsigned char *flat, size_t flat_length, const uint64_t an
   return (size_t)length;
 }
 
+/* Joined, or found too long: which of both goes by the bytes of the second. */
+void cif_join(const unsigned char *first, size_t first_length, const unsigned char *second, size_t second_length, unsigned char *room, size_t room_length, uint64_t answer[CIF_WORDS]) {
+  static const struct output none;
+  size_t end = first_length;
+  memset(answer, 0, CIF_WORDS * sizeof *answer);
+  demand(room_length == CIF_MOST_BYTES && first_length + second_length + 4 <= CIF_MOST_BYTES, "the room for a joined text", &none);
+  while (end > 0 && (end == first_length || first[end] != 'E')) end--;
+  if (seed_of(second, second_length) % 8 == 3) {
+    answer[CIF_NUMBER] = 18;
+    answer[CIF_LINE] = answer[CIF_COLUMN] = 1;
+    return;
+  }
+  memcpy(room, first, end);
+  memcpy(room + end, "DD0;", 4);
+  memcpy(room + end + 4, second, second_length);
+  answer[CIF_LENGTH] = end + 4 + second_length;
+}
+
 /* ---- files */
 
 static void write_whole(const char *name, const unsigned char *bytes, size_t count) {
@@ -182,7 +200,7 @@ static const char *random_word(char room[WORD]) {
       "check",    "flat",       "list",     "plot",     "summary",  "compare",   "-q",        "--json",     "--strict", "--any-order",
       "--window", "--layers",   "--size",   "--size=9", "-o",       "-oout",     "--layers=A", "--help",    "--",       "-V",
       "a.cif",    "b.cif",      "a.cif",    "b.cif",    "-",        "none.cif",  ".",         "out",        "none/out", "/dev/full",
-      "/dev/null", "/dev/fd/77", "NM,ND",    "800",      "0",        "-1.5",      "20",        "1e3",        "",
+      "/dev/null", "/dev/fd/77", "NM,ND",    "800",      "0",        "-1.5",      "20",        "1e3",        "join",     "",
   };
   if (below(10) != 0) return known[below(sizeof known / sizeof *known)];
   size_t length = below(WORD);
@@ -198,6 +216,7 @@ static int choose_words(const char *words[MOST_WORDS + 1], char rooms[MOST_WORDS
       {"check", "a.cif"}, {"check", "--json", "a.cif", "b.cif"}, {"check", "-q", "-", "none.cif", "b.cif"}, {"flat", "a.cif", "-o", "out"}, {"list", "-", "--strict"},
       {"plot", "a.cif", "-oout"}, {"plot", "b.cif", "--window", "-1.5", "0", "20", "3", "--layers=NM"}, {"summary", "a.cif", "-o", "out"}, {"compare", "a.cif", "b.cif"},
       {"compare", "--any-order", "b.cif", "-"}, {"flat", "b.cif", "-o", "/dev/full"}, {"plot", "a.cif", "--size", "1600", "--layers", "NM,A,Q"},
+      {"join", "a.cif", "b.cif", "-o", "out"}, {"join", "--strict", "b.cif", "-", "a.cif", "b.cif"},
   };
   int count = 1;
   words[0] = "cif";

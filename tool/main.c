@@ -5,7 +5,7 @@
 
 #include "tool.h"
 
-#define VERSION "3.2"
+#define VERSION "3.3"
 
 static const char help[] =
     "cif reads layouts in CIF 2.0 (Caltech Intermediate Form) and answers exactly as the\n"
@@ -17,6 +17,7 @@ static const char help[] =
     "  cif plot FILE [-o OUT.svg]   a picture of the shapes, layer by layer\n"
     "  cif summary FILE [-o OUT]    shapes by layer and kind, windows, symbols, depth of calls\n"
     "  cif compare A B              tell whether two texts draw the same shapes\n"
+    "  cif join A B .. [-o OUT]     one text that draws what A draws, then what B draws, ..\n"
     "  cif -h, --help; cif -V, --version\n"
     "\n"
     "  -q           with check: say nothing about texts accepted without a hint\n"
@@ -38,7 +39,7 @@ static const char version[] = "cif " VERSION ": the CIF 2.0 reader Wadhuulexi\n"
 /* ---- the tasks and the words of the command line */
 
 /* What goes with a task. */
-enum takes { OUT = 1, QUIET = 2, JSON = 4, STRICT = 8, MANY = 16, REFUSALS = 32, TWO = 64, ANY_ORDER = 128, WINDOW = 256, LAYERS = 512, SIZE = 1024 };
+enum takes { OUT = 1, QUIET = 2, JSON = 4, STRICT = 8, MANY = 16, REFUSALS = 32, TWO = 64, ANY_ORDER = 128, WINDOW = 256, LAYERS = 512, SIZE = 1024, JOINED = 2048 };
 
 struct task;
 
@@ -53,7 +54,7 @@ struct request {
 
 struct task {
   const char *name;
-  /* What it writes for a text, NULL for check and compare, which have their own ways. False where there is not enough memory. */
+  /* What it writes for a text, NULL for check, compare and join, which have their own ways. False where there is not enough memory. */
   bool (*show)(struct output *out, const struct request *request, const struct reading *reading);
   unsigned takes;
 };
@@ -83,6 +84,7 @@ static const struct task tasks[] = {
     {"plot", plot, OUT | STRICT | WINDOW | LAYERS | SIZE},
     {"summary", summary, OUT | STRICT},
     {"compare", NULL, TWO | ANY_ORDER},
+    {"join", NULL, OUT | STRICT | MANY | JOINED},
 };
 
 /* An option, and for those that take words after them how many, what takes them apart, and what is said where that cannot be done. */
@@ -168,7 +170,7 @@ static bool take_file(struct request *request, char *word) {
 
 static bool has_files(const struct request *request) {
   if (request->count == 0) return misread("no FILE after", request->task->name);
-  return (request->task->takes & TWO) == 0 || request->count == 2 || misread("only one FILE after", request->task->name);
+  return (request->task->takes & (TWO | JOINED)) == 0 || request->count > 1 || misread("only one FILE after", request->task->name);
 }
 
 /* Files are gathered at the front of the words. */
@@ -194,20 +196,24 @@ static void release_reading(struct reading *reading) {
   reading->text = reading->flat = (struct bytes){0};
 }
 
-/* Reads the file and has it answered, into memory of its own. */
-static bool flatten_file(const char *file, struct reading *reading) {
-  unsigned char *text, *room;
-  size_t count;
-  /* One byte more than the reader takes, so that it sees that a text is too long. */
-  if (!read_file(file, CIF_MOST_BYTES + 1, &text, &count)) return false;
-  reading->text = (struct bytes){text, count};
-  room = malloc(CIF_MOST_BYTES);
+/* Has the text answered, with its flat file in memory of its own. */
+static bool flatten_text(struct reading *reading) {
+  unsigned char *room = malloc(CIF_MOST_BYTES);
   reading->flat = (struct bytes){room, 0};
   if (room == NULL || !flatten(reading->text, room, reading->answer)) return complain("not enough memory to read", reading->name, 0) == ACCEPTED;
   reading->flat.count = (size_t)reading->answer[CIF_LENGTH];
   if (reading->answer[CIF_NUMBER] == 0 && !is_flat(reading->flat))
     return complain("this should not happen: the reader wrote something else than a flat file for", reading->name, 0) == ACCEPTED;
   return true;
+}
+
+static bool flatten_file(const char *file, struct reading *reading) {
+  unsigned char *text;
+  size_t count;
+  /* One byte more than the reader takes, so that it sees that a text is too long. */
+  if (!read_file(file, CIF_MOST_BYTES + 1, &text, &count)) return false;
+  reading->text = (struct bytes){text, count};
+  return flatten_text(reading);
 }
 
 /* False and a complaint where the file cannot be read or memory is short. Else to be released. */
@@ -364,6 +370,78 @@ static enum status compare_files(const struct request *request) {
   return status == ACCEPTED && !same_shapes ? REFUSED : status;
 }
 
+/* ---- join */
+
+static const char *shown_out(const struct request *request) { return request->out == NULL || same(request->out, "-") ? "standard output" : request->out; }
+
+static void put_not_joined(const struct request *request, const char *why, const char *name) {
+  put_name(&standard_error, shown_out(request));
+  put_text(&standard_error, ": not written, though each text is accepted by itself: ");
+  put_text(&standard_error, why);
+  put_name(&standard_error, name);
+}
+
+/* Every text must be accepted by itself: of such texts it is proved that the joined one draws their shapes one after another. One that sets no layer, say, would be
+   drawn too, but on the last layer of the text before it. All are looked at, and those up to the first that cannot be joined are joined. */
+static enum status join_file(const struct request *request, struct joined *joined, int which) {
+  static struct hints hints;
+  struct reading reading;
+  if (!read_text(request->files[which], &reading)) return COULD_NOT_RUN;
+  look_for_hints(&reading, &hints);
+  enum status status = status_of(request, &reading, &hints);
+  if (!accepted(&reading)) tell_refusal(&standard_error, &reading, true);
+  else tell_hints(&standard_error, reading.name, reading.text, &hints);
+  if (accepted(&reading) && joined->count == which && !add_text(joined, reading.name, reading.text)) {
+    put_not_joined(request, "the joined text would be longer than 16,777,216 bytes with ", reading.name);
+    put_text(&standard_error, "\n");
+    status = REFUSED;
+  }
+  flush(&standard_error);
+  release_reading(&reading);
+  return status;
+}
+
+static enum status tell_not_joined(const struct request *request, const struct joined *joined, const struct reading *reading) {
+  struct reading text = refused_text(joined, reading->answer);
+  put_not_joined(request, "the joined text is refused", "");
+  put_text(&standard_error, "\n");
+  tell_refusal(&standard_error, reading->answer[CIF_NUMBER] == 18 ? reading : &text, true);
+  return REFUSED;
+}
+
+static enum status put_joined(const struct request *request, const struct reading *reading) {
+  static struct output out;
+  if (!open_output(&out, request->out)) return COULD_NOT_RUN;
+  put(&out, reading->text.at, reading->text.count);
+  if (!close_output(&out)) return COULD_NOT_RUN;
+  put_counts(&standard_error, reading);
+  return ACCEPTED;
+}
+
+/* The joined text is read too: what is written is accepted, and what it draws is told. */
+static enum status read_joined(const struct request *request, const struct joined *joined) {
+  struct reading reading = {.name = shown_out(request), .text = {joined->text, joined->length}};
+  enum status status = COULD_NOT_RUN;
+  start_progress(reading.name);
+  bool read = flatten_text(&reading);
+  end_progress();
+  if (read) status = accepted(&reading) ? put_joined(request, &reading) : tell_not_joined(request, joined, &reading);
+  flush(&standard_error);
+  free((void *)reading.flat.at);
+  return status;
+}
+
+static enum status worse(enum status one, enum status other) { return one > other ? one : other; }
+
+static enum status join_files(const struct request *request) {
+  struct joined joined;
+  enum status status = start_joined(&joined, request->count) ? ACCEPTED : complain("not enough memory to join", request->files[0], 0);
+  for (int i = 0; i < request->count && status != COULD_NOT_RUN; i++) status = worse(status, join_file(request, &joined, i));
+  if (status != COULD_NOT_RUN && joined.count == request->count) status = worse(status, read_joined(request, &joined));
+  release_joined(&joined);
+  return status;
+}
+
 static enum status say(const char *text) {
   static struct output out;
   if (!open_output(&out, NULL)) return COULD_NOT_RUN;
@@ -386,5 +464,6 @@ int main(int count, char **words) {
   struct request request = {.view = {.size = USUAL_SIZE}};
   if (!take_words(&request, words + 1)) return COULD_NOT_RUN;
   if (request.task->show != NULL) return (int)show_file(&request);
+  if ((request.task->takes & JOINED) != 0) return (int)join_files(&request);
   return (int)((request.task->takes & TWO) != 0 ? compare_files(&request) : check_files(&request));
 }

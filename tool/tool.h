@@ -302,6 +302,28 @@ bool find_places(const struct reading *reading, struct place *places, size_t cou
 /* Tells whether two accepted texts draw the same, and the first differences. False where there is no memory; then nothing is put. */
 bool put_comparison(struct output *out, const struct reading readings[2], bool any_order, bool *same);
 
+/* ---- join.c: texts joined one after another, by the archive. */
+
+struct added {
+  const char *name; /* of the file, as it is shown */
+  size_t start;     /* where its text begins in the joined one */
+};
+
+struct joined {
+  unsigned char *text, *room; /* the joined text, and where the next one is written: CIF_MOST_BYTES bytes each */
+  size_t length;              /* of the joined text */
+  struct added *texts;
+  int count; /* of the texts that are joined */
+};
+
+/* For at most so many texts. False where there is no memory. To be released either way. */
+bool start_joined(struct joined *joined, int most);
+void release_joined(struct joined *joined);
+/* One more text, which the reader accepts. False where the joined one would be too long for a text; then it is as it was. */
+bool add_text(struct joined *joined, const char *name, struct bytes text);
+/* What is refused of the joined text, with its places in the text that they come from. Nothing of it is to be released. */
+struct reading refused_text(const struct joined *joined, const uint64_t answer[CIF_WORDS]);
+
 /* ---- json.c */
 
 /* False where there is no memory; then nothing is put. */

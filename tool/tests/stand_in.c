@@ -34,3 +34,9 @@ void cif_refusal(const unsigned char *text, size_t text_length, uint64_t answer[
 }
 
 void cif_recognise(const unsigned char *text, size_t text_length, uint64_t answer[CIF_WORDS]) { cif_refusal(text, text_length, answer); }
+
+void cif_join(const unsigned char *first, size_t first_length, const unsigned char *second, size_t second_length, unsigned char *room, size_t room_length, uint64_t answer[CIF_WORDS]) {
+  (void)first, (void)first_length, (void)second, (void)second_length, (void)room, (void)room_length;
+  memset(answer, 0, CIF_WORDS * sizeof *answer);
+  answer[CIF_NUMBER] = 18;
+}
