@@ -33,6 +33,7 @@ use Rattle.definition.specs.Counts.{counted, goOn, ending, shapesOf}
 use Rattle.definition.specs.Flat.{digits, decimal, spaced, letterOf, said, lines, flat}
 use Rattle.definition.specs.Held.{wordsOfTurn, wordsOfStep, wordsOfBody, wordsIn, heldTo, wordsAfter, wordsNeeded}
 use Rattle.definition.specs.Lean.{lastThen, add, addAll, lean}
+use Rattle.definition.specs.Warnings.{dangles, danglingCalls, danglingAt, warningsAt, warningLine, warningLines}
 use Rattle.definition.specs.Position.{lineOf, sinceLineEnd, columnOf}
 use Rattle.definition.specs.Answer.{flatFile, success, failure, given-back, fitted, drawn, outcomeOf}
 use Rattle.definition.specs.Listing.{fields, shapeLines, windowLine, listing}
@@ -205,7 +206,7 @@ every test (r ∷ rs) = test r && every test rs
 
 -- the test of rows, and that of printouts; what both compute through is named here once
 unfoldable pub all-hold : List Row → Bool
-unfolding row-holds print-holds every small flatMap has dec kinds table kindOf entryOf nextOf modeAfter markOf roleOf marked verdictOf any those first same bytesOf worth numbers paired next named turnAt turns commandAt commands after nearest scaled whole scaledShape scaledTurn beyond partsOf shifts bearings distances numbersOf zeroScale least emptyShape degenerate layerless tooMany atNumbers faults allFaults firstFault ragged roundedFrom rounded negative heading rotated act aim inOrder moved offAxes find enter forget stepOf retained deedOf deeds drawShape drawStep drawBody passageTo passageOf through drawCall happens tableAfter story counted goOn ending shapesOf digits decimal spaced letterOf said lines flat wordsOfTurn wordsOfStep wordsOfBody wordsIn heldTo wordsAfter wordsNeeded lastThen add addAll lean lineOf sinceLineEnd columnOf flatFile success failure given-back fitted drawn outcomeOf fields shapeLines extreme boxReach reachOf reach around windows hull joined windowLine listing verdict answerOf
+unfolding row-holds print-holds every small flatMap has dec kinds table kindOf entryOf nextOf modeAfter markOf roleOf marked verdictOf any those first same bytesOf worth numbers paired next named turnAt turns commandAt commands after nearest scaled whole scaledShape scaledTurn beyond partsOf shifts bearings distances numbersOf zeroScale least emptyShape degenerate layerless tooMany atNumbers faults allFaults firstFault ragged roundedFrom rounded negative heading rotated act aim inOrder moved offAxes find enter forget stepOf retained deedOf deeds drawShape drawStep drawBody passageTo passageOf through drawCall happens tableAfter story counted goOn ending shapesOf digits decimal spaced letterOf said lines flat wordsOfTurn wordsOfStep wordsOfBody wordsIn heldTo wordsAfter wordsNeeded lastThen add addAll lean dangles danglingCalls danglingAt warningsAt warningLine warningLines lineOf sinceLineEnd columnOf flatFile success failure given-back fitted drawn outcomeOf fields shapeLines extreme boxReach reachOf reach around windows hull joined windowLine listing verdict answerOf
 all-hold rs = every row-holds rs
 
 unfoldable pub all-print : List Printout → Bool

@@ -12,6 +12,7 @@ pub mod Counts
 pub mod Flat
 pub mod Held
 pub mod Lean
+pub mod Warnings
 pub mod Position
 pub mod Answer
 pub mod Window

@@ -9,6 +9,7 @@ use Rattle.definition.specs.Rules.{textTooLong, refuse}
 use Rattle.definition.specs.Drawing.{Drawn}
 use Rattle.definition.specs.Counts.{shapesOf}
 use Rattle.definition.specs.Flat.{decimal, spaced, letterOf, numbersOfShape}
+use Rattle.definition.specs.Warnings.{warningLines}
 use Rattle.definition.specs.Position.{lineOf, columnOf, placesOf}
 use Rattle.definition.specs.Window.{Window, windowOf}
 use Rattle.definition.specs.Answer.{Outcome, accepted, rejected, Answers}
@@ -27,11 +28,13 @@ unfoldable pub windowLine : Option Window → List ℕ  -- 02, P6: the window th
 windowLine none = bytesOf "window" ++ fields (bytesOf "none" ∷ [])
 windowLine (some w) = bytesOf "window" ++ fields (map decimal (w .left ∷ w .bottom ∷ w .right ∷ w .top ∷ []))
 
-unfoldable pub listing : List ℕ → Outcome → List ℕ  -- of a text. 02, P4: line, column and the places of the chain come after the place
+-- of a text. 02, P1: the warnings stand directly before the total. 02, P4: line, column and the places of the chain come after the place
+unfoldable pub listing : List ℕ → Outcome → List ℕ
 listing t (accepted cs c es) =
     shapeLines 1 (shapesOf es)
+    ++ (warningLines es
     ++ (bytesOf "total" ++ (fields (decimal (pos (c .shapes)) ∷ decimal (pos (c .calls)) ∷ decimal (pos (c .redefinitions)) ∷ [])
-    ++ windowLine (windowOf (map (λ d. d .itself) (shapesOf es)))))
+    ++ windowLine (windowOf (map (λ d. d .itself) (shapesOf es))))))
 listing t (rejected r chain) =
     bytesOf "refused"
     ++ fields (map (λ n. decimal (pos n)) (r .number ∷ r .place ∷ lineOf t (r .place) ∷ columnOf t (r .place) ∷ placesOf chain))

@@ -2,7 +2,7 @@
 -- Assumes nothing.
 use mathlib.Core.Path.{_≡_, refl, sym, ap, ap₂, _∙_, subst}
 use mathlib.Core.Bool.{Bool, true, false, _||_}
-use mathlib.Core.List.{List, [], _∷_, _++_, append-assoc, map}
+use mathlib.Core.List.{List, [], _∷_, _++_, append-assoc, map, flatMap}
 use Prim.Native.Nat.{ℕ, suc, _+_, _-_, _*_}
 use native.Mathlib.Omega.{arith}
 use lib.IntN.{ℤ}
@@ -20,6 +20,11 @@ use Rattle.definition.specs.Drawing.{called, drew, entered, removed, refused}
 use Rattle.definition.specs.Counts.{Counts, End, finished, stopped, counted, goOn, ending, shapesOf}
 use Rattle.definition.specs.Flat.{said, lines}
 use Rattle.definition.specs.Commands.{draw, layer, call, finish, delete, nothing}
+
+pub flat-++ : {A B : Type 0} (f : A → List B) (a b : List A) → flatMap f (a ++ b) ≡ flatMap f a ++ flatMap f b
+unfolding flatMap
+flat-++ f [] b = refl
+flat-++ {B = B} f (x ∷ a) b = ap (λ (l : List B). f x ++ l) (flat-++ f a b) ∙ sym (append-assoc (f x) (flatMap f a) (flatMap f b))
 
 -- 01, "The inner call's list acts before the outer's"
 pub inOrder-++ : (f : Turn ℤ → Point ℤ → Point ℤ) (a b : List (Turn ℤ)) (p : Point ℤ) → inOrder f (a ++ b) p ≡ inOrder f b (inOrder f a p)

@@ -2,7 +2,7 @@
 -- step to a lean body is, and that the lean table is found in, entered in and forgotten from as the table is.
 -- Assumes nothing.
 use mathlib.Core.Path.{_≡_, refl, sym, ap, _∙_, subst}
-use mathlib.Core.List.{List, [], _∷_, _++_, append-assoc, append-nil}
+use mathlib.Core.List.{List, [], _∷_, _++_, flatMap, append-assoc, append-nil}
 use mathlib.Core.Option.{Option·map}
 use Prim.Native.Nat.{ℕ, zero, suc}
 use lib.IntN.{ℤ}
@@ -14,7 +14,7 @@ use Rattle.definition.specs.Table.{Step, shape, instance, setting, Definition, 
 use Rattle.definition.specs.Drawing.{Chain, Drawn, Event, called, drew, entered, removed, refused, drawStep, drawBody, Passage, barred, leads, passageOf, through, drawCall, output, happens}
 use Rattle.definition.specs.Counts.{Counts, counted, ending, shapesOf}
 use Rattle.definition.specs.Lean.{lastThen, add, addAll, lean, leanDefinition, leanTable}
-use Rattle.laws.proofs.Lists.Joined.{drawBody-++, goOn-ap}
+use Rattle.laws.proofs.Lists.Joined.{flat-++, goOn-ap}
 use Rattle.laws.proofs.Story.Tables.{Sorted, find-map, enter-map, forget-map, passageThen, passage-map, sorted-map}
 
 -- ---- events that are alike
@@ -119,35 +119,56 @@ pub lean-last : (ss : List (Placed Step)) (s : Placed Step) → lean (ss ++ s �
 unfolding lean
 lean-last ss s = addAll-last [] ss s
 
--- an L command draws nothing, so a body draws the same without it
+-- what an L command adds nothing to is the same of a lean body
+module _ {A : Type 0} (f : Placed Step → List A) (nothing : (s : Placed Step) → Setting (s .what) → f s ≡ []) where
+  last-same : (a : Placed Step) (x : Step) (s : Placed Step) (y : Step) → a .what ≡ x → flatMap f (lastThen a x s y) ≡ flatMap f (a ∷ s ∷ [])
+  unfolding lastThen flatMap Setting
+  last-same a (setting l) s (setting k) p = sym (ap (λ (z : List A). z ++ (f s ++ [])) (nothing a (subst Setting (sym p) tt)))
+  last-same a (setting l) s (shape k z) p = refl
+  last-same a (setting l) s (instance n ts) p = refl
+  last-same a (shape l x) s k p = refl
+  last-same a (instance n ts) s k p = refl
+
+  add-same : (ss : List (Placed Step)) (s : Placed Step) → flatMap f (add ss s) ≡ flatMap f (ss ++ s ∷ [])
+  unfolding add flatMap
+  add-same [] s = refl
+  add-same (a ∷ []) s = last-same a (a .what) s (s .what) refl
+  add-same (a ∷ b ∷ ss) s = ap (λ (z : List A). f a ++ z) (add-same (b ∷ ss) s)
+
+  all-same : (kept ss : List (Placed Step)) → flatMap f (addAll kept ss) ≡ flatMap f kept ++ flatMap f ss
+  unfolding addAll flatMap
+  all-same kept [] = sym (append-nil (flatMap f kept))
+  all-same kept (s ∷ ss) =
+      all-same (add kept s) ss
+      ∙ ap (λ (z : List A). z ++ flatMap f ss) (add-same kept s ∙ flat-++ f kept (s ∷ []))
+      ∙ append-assoc (flatMap f kept) (flatMap f (s ∷ [])) (flatMap f ss)
+      ∙ ap (λ (z : List A). flatMap f kept ++ z) (sym (flat-++ f (s ∷ []) ss))
+
+  pub lean-same : (ss : List (Placed Step)) → flatMap f (lean ss) ≡ flatMap f ss
+  unfolding lean flatMap
+  lean-same ss = all-same [] ss
+
+-- it draws nothing, so a body draws the same without it
 module _ (f : ℕ → ℕ → List (Turn ℤ) → List Event) (chain : Chain) (net : List (Turn ℤ)) where
-  last-draws : (a : Placed Step) (x : Step) (s : Placed Step) (y : Step) → a .what ≡ x → s .what ≡ y
-      → drawBody f chain net (lastThen a x s y) ≡ drawBody f chain net (a ∷ s ∷ [])
-  unfolding lastThen drawBody drawStep
-  last-draws a (setting l) s (setting k) p q = sym (ap (λ (x : Step). drawStep f chain net (a .place) x ++ drawBody f chain net (s ∷ [])) p)
-  last-draws a (setting l) s (shape k z) p q = refl
-  last-draws a (setting l) s (instance n ts) p q = refl
-  last-draws a (shape l x) s k p q = refl
-  last-draws a (instance n ts) s k p q = refl
+  abbrev drawn : Placed Step → List Event
+  drawn s = drawStep f chain net (s .place) (s .what)
 
-  pub add-draws : (ss : List (Placed Step)) (s : Placed Step) → drawBody f chain net (add ss s) ≡ drawBody f chain net (ss ++ s ∷ [])
-  unfolding add drawBody
-  add-draws [] s = refl
-  add-draws (a ∷ []) s = last-draws a (a .what) s (s .what) refl refl
-  add-draws (a ∷ b ∷ ss) s = ap (λ (x : List Event). drawStep f chain net (a .place) (a .what) ++ x) (add-draws (b ∷ ss) s)
+  body-drawn : (ss : List (Placed Step)) → drawBody f chain net ss ≡ flatMap drawn ss
+  unfolding drawBody flatMap
+  body-drawn [] = refl
+  body-drawn (s ∷ ss) = ap (λ (x : List Event). drawn s ++ x) (body-drawn ss)
 
-  addAll-draws : (kept ss : List (Placed Step)) → drawBody f chain net (addAll kept ss) ≡ drawBody f chain net kept ++ drawBody f chain net ss
-  unfolding addAll drawBody
-  addAll-draws kept [] = sym (append-nil (drawBody f chain net kept))
-  addAll-draws kept (s ∷ ss) =
-      addAll-draws (add kept s) ss
-      ∙ ap (λ (x : List Event). x ++ drawBody f chain net ss) (add-draws kept s ∙ drawBody-++ f chain net kept (s ∷ []))
-      ∙ append-assoc (drawBody f chain net kept) (drawBody f chain net (s ∷ [])) (drawBody f chain net ss)
-      ∙ ap (λ (x : List Event). drawBody f chain net kept ++ x) (sym (drawBody-++ f chain net (s ∷ []) ss))
+  layer-drawn : (s : Placed Step) → Setting (s .what) → drawn s ≡ []
+  unfolding drawStep Setting
+  layer-drawn s h = go (s .what) h
+    where
+      go : (x : Step) → Setting x → drawStep f chain net (s .place) x ≡ []
+      go (setting l) h = refl
+      go (shape l k) h = absurd h
+      go (instance n ts) h = absurd h
 
   pub lean-draws : (ss : List (Placed Step)) → drawBody f chain net (lean ss) ≡ drawBody f chain net ss
-  unfolding lean drawBody
-  lean-draws ss = addAll-draws [] ss
+  lean-draws ss = body-drawn (lean ss) ∙ (lean-same drawn layer-drawn ss ∙ sym (body-drawn ss))
 
 -- ---- lean tables
 
