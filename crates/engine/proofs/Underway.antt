@@ -84,7 +84,7 @@ call-left : (f : ℕ → ℕ → List (Turn ℤ) → List Event) (chain : Chain)
 unfolding drawBody drawStep
 call-left f chain net p n ts ss = refl
 
-none-left : (ss : List (Placed Step)) → allWords ss ≡ [] → ss ≡ []
+pub none-left : (ss : List (Placed Step)) → allWords ss ≡ [] → ss ≡ []
 unfolding allWords
 none-left [] e = refl
 none-left (s ∷ ss) e = absurd (let z = ap length e in omega (arith, z))

@@ -18,13 +18,13 @@ ghost use Rattle.engine.specs.Draws.{Ready, BodyAt, Draws, CallDraws};
 ghost use Rattle.engine.specs.Outer.{Says, OuterDraws};
 
 // A command in the run: its kind, its place, and where the next begins.
-struct Head {
-    kind: u8,
-    place: usize,
-    next: usize,
+pub struct Head {
+    pub kind: u8,
+    pub place: usize,
+    pub next: usize,
 }
 
-fn head_at(bodies: &[i32], at: usize) -> Head
+pub fn head_at(bodies: &[i32], at: usize) -> Head
     requires { ⌜ (at + 1 < length (now bodies)) × (length (now bodies) ≤ mostWords) ⌝ }
     ensures { λ r. ⌜ r ≡ headIn (now (bodies .entry)) at ⌝ }
 {

@@ -1,6 +1,7 @@
 pub mod Voices
 pub mod Letters
 pub mod Reading
+pub mod Stands
 pub mod Outer
 pub mod Redefinitions
 pub mod Onward

@@ -47,8 +47,9 @@ use Rattle.engine.specs.Draws.{Ready}
 use Rattle.engine.specs.Outer.{Says, OuterDraws}
 use Rattle.passing.specs.Passed.{Passed, toDraw, dry, outputs, startIn, Deletes, TextDraws, RefusedOutside}
 use Rattle.passing.proofs.Letters.{is-delete}
-use Rattle.passing.proofs.Reading.{Met, meets, run-kept, read-none, third-word, met-layer}
-use Rattle.passing.proofs.Onward.{Onward, start-text, needed-now, text-out, text-layer, text-delete, most-in, text-opens, text-defined, text-overfull, text-short, text-idle, text-says, text-same, text-drawn, text-stopped}
+use Rattle.passing.proofs.Reading.{Met, run-kept, read-none, third-word, met-layer}
+use Rattle.passing.proofs.Stands.{nothingKept, deletable, met, text-opens, start-within, may-define, comes, takes}
+use Rattle.passing.proofs.Onward.{Onward, start-text, text-out, text-layer, text-delete, text-defined, text-overfull, text-short, text-idle, text-says, text-same, text-drawn, text-stopped}
 
 pub record Passing (t : List ℕ) (w : ℕ) (words₀ numbers₀ : List ℤ) (drawing₀ room₀ rows : List ℕ) (b words numbers : List ℤ) (drawing room : List ℕ) (spot : Spot) (layer : ℕ) (stock : Stock)
     (ink : Ink) : Type 0 where
@@ -61,15 +62,12 @@ pub record Passing (t : List ℕ) (w : ℕ) (words₀ numbers₀ : List ℤ) (dr
   pub drawing-kept : length drawing ≡ length drawing₀
   pub redefined : ink .counts .redefinitions ≤ spot .at
 
-abbrev none-kept : Stock
-none-kept = record { live = 0; used = 0; needed = 0 }
-
 pub passing-begin : {t : List ℕ} (rows : List ℕ) (b words numbers : List ℤ) (drawing room : List ℕ) → Passed t → length rows ≡ rowNumbers → length b ≤ mostWords → {c : Counts} → c ≡ dry .counts
-    → Passing t (length b) words numbers drawing room rows b words numbers drawing room textStart 0 none-kept (inked c (dry .pen))
+    → Passing t (length b) words numbers drawing room rows b words numbers drawing room textStart 0 nothingKept (inked c (dry .pen))
 passing-begin {t} rows b words numbers drawing room p s h e =
-    subst (λ (c : Counts). Passing t (length b) words numbers drawing room rows b words numbers drawing room textStart 0 none-kept (inked c (dry .pen))) (sym e) begin
+    subst (λ (c : Counts). Passing t (length b) words numbers drawing room rows b words numbers drawing room textStart 0 nothingKept (inked c (dry .pen))) (sym e) begin
   where
-    begin : Passing t (length b) words numbers drawing room rows b words numbers drawing room textStart 0 none-kept dry
+    begin : Passing t (length b) words numbers drawing room rows b words numbers drawing room textStart 0 nothingKept dry
     begin = record {
       passed = p;
       onward = λ q. start-text q (length b) room rows b s h;
@@ -101,12 +99,12 @@ module _ {t : List ℕ} {w : ℕ} {words₀ numbers₀ : List ℤ} {drawing₀ r
   few-redefined = omega (arith, u .redefined, u .fit .within)
 
   -- what `delete` and `draw_outer` ask of the memory
-  pub deletable : Sorted rows (stock .live) × (stock .needed ≡ neededIn rows (stock .live)) × (stock .needed < 2 ^ 64)
-  deletable = let k = here .kept in (k .sorted, needed-now k, omega (arith, k .needs, k .enough, k .short))
+  pub may-delete : Sorted rows (stock .live) × (stock .needed ≡ neededIn rows (stock .live)) × (stock .needed < 2 ^ 64)
+  may-delete = deletable (here .stands)
 
   pub ready : mostValues + 2 ≤ length numbers₀ → length drawing₀ ≡ runLength → Ready rows b (stock .live) numbers drawing deepest ink
   ready roomy levels =
-      let k = here .kept in
+      let k = here .stands .kept in
       record {
         sorted = k .sorted;
         stocked = k .stocked;
@@ -125,8 +123,8 @@ module _ {t : List ℕ} {w : ℕ} {words₀ numbers₀ : List ℤ} {drawing₀ r
     pub words-then : mostValues + 2 ≤ length words′
     words-then = let e = run-kept r in omega (arith, big, u .words-kept)
 
-    met : {all : List _} (g : Onward t w all room₀ rows b stock spot l ink room) → Met t (g .standing) (g .commands) kind place n to words′
-    met g = meets (g .told) (g .same-a) (g .same-b) (omega (arith, big, u .words-kept)) r
+    met-by : {all : List _} (g : Onward t w all room₀ rows b stock spot l ink room) → Met t (g .stands .standing) (g .stands .commands) kind place n to words′
+    met-by g = met (g .stands) (omega (arith, big, u .words-kept)) r
 
     -- a command that leaves the runs as they are
     on-with : {stock′ : Stock} {l′ : ℕ} → ((p : Passed t) → Onward t w (toDraw p) room₀ rows b stock′ to l′ ink room) → Next rows b words′ numbers drawing room to l′ stock′ ink
@@ -144,15 +142,15 @@ module _ {t : List ℕ} {w : ℕ} {words₀ numbers₀ : List ℤ} {drawing₀ r
     -- ---- a layer
 
     pub layer-fits : kind ≡ letterL → SFits w32 (getD words′ 2 (pos 0)) → let z = toZ w32 (ofZ w32 (getD words′ 2 (pos 0))) in T (nonNeg z) × Fits w32 (natAbs z)
-    layer-fits e h = let i = met-layer (met here) e in natural-fits (getD words′ 2 (pos 0)) (i .0) (i .2) h
+    layer-fits e h = let i = met-layer (met-by here) e in natural-fits (getD words′ 2 (pos 0)) (i .0) (i .2) h
 
     pub passing-layer : kind ≡ letterL → SFits w32 (getD words′ 2 (pos 0)) → Next rows b words′ numbers drawing room to (natAbs (toZ w32 (ofZ w32 (getD words′ 2 (pos 0))))) stock ink
     passing-layer e h =
         on-with
         (λ p.
         let g = u .onward p in
-        let i = met-layer (met g) e in
-        text-layer g (met g) _ (i .1 ∙ ap (λ (x : ℕ). layer (nameOf x)) (sym (ap natAbs (toZ-ofZ h ∙ i .2)))))
+        let i = met-layer (met-by g) e in
+        text-layer g (met-by g) _ (i .1 ∙ ap (λ (x : ℕ). layer (nameOf x)) (sym (ap natAbs (toZ-ofZ h ∙ i .2)))))
 
     -- ---- a deletion
 
@@ -162,44 +160,35 @@ module _ {t : List ℕ} {w : ℕ} {words₀ numbers₀ : List ℤ} {drawing₀ r
         on-with
         (λ p.
         let g = u .onward p in
-        let i = is-delete (met g .voice) e in
-        text-delete g (met g) (i .0) (i .1) (subst (λ (x : ℕ). Deletes rows stock x stock′) (q ∙ ap natAbs (third-word (met g) (i .2))) f))
+        let i = is-delete (met-by g .voice) e in
+        text-delete g (met-by g) (i .0) (i .1) (subst (λ (x : ℕ). Deletes rows stock x stock′) (q ∙ ap natAbs (third-word (met-by g) (i .2))) f))
 
     -- ---- a definition
 
     module _ (e : kind ≡ letterS) (start : Start) (q : start ≡ startIn words′ place) where
       pub passing-starts : (start .a ≤ tooLarge) × (1 ≤ start .b)
-      passing-starts = subst (λ (s : Start). (s .a ≤ tooLarge) × (1 ≤ s .b)) (sym q) (most-in here (met here) e)
+      passing-starts = start-within (here .stands) (met-by here) e start q
 
       pub passing-begins : Begins t rows b stock to start
-      passing-begins = subst (λ (s : Start). Begins t rows b stock to s) (sym q) (record { table = here .table; kept = here .kept; opens = text-opens here (met here) e })
+      passing-begins = may-define (here .stands) (met-by here) e start q
 
       module _ {rows′ : List ℕ} {b′ : List ℤ} {d : Defined} (defines : DefinesAt t rows b stock to start (ink .counts) d rows′ b′) where
-        at-start : DefinesAt t rows b stock to (startIn words′ place) (ink .counts) d rows′ b′
-        at-start = subst (λ (s : Start). DefinesAt t rows b stock to s (ink .counts) d rows′ b′) q defines
-
         pub size-then : length b′ ≡ w
         size-then = defines .size ∙ u .bodies-kept
 
-        comes : (p : Passed t) {x : Defined} → d ≡ x → let g = u .onward p in Defines t rows′ b′ to (startIn words′ place) (ink .counts) (text-opens g (met g) e) (g .table) x
-        comes p f =
-            let g = u .onward p in
-            subst (Defines t rows′ b′ to (startIn words′ place) (ink .counts) (text-opens g (met g) e) (g .table)) f (at-start .defines (text-opens g (met g) e) (g .table) (g .kept))
-
-        takes : (p : Passed t) {stock′ : Stock} {c′ : Counts} {to′ : Spot} → d ≡ Taken stock′ c′ to′ → let g = u .onward p in
-            Takes t rows′ b′ to (startIn words′ place) (ink .counts) (text-opens g (met g) e) (g .table) stock′ c′ to′
-        unfolding Defines
-        takes p f = comes p f
+        taken : (p : Passed t) {stock′ : Stock} {c′ : Counts} {to′ : Spot} → d ≡ Taken stock′ c′ to′ → let g = u .onward p in
+            Takes t rows′ b′ to (startIn words′ place) (ink .counts) (text-opens (g .stands) (met-by g) e) (g .stands .table) stock′ c′ to′
+        taken p f = let g = u .onward p in takes (g .stands) (met-by g) e start q defines f
 
         pub defined-on : {stock′ : Stock} {c′ : Counts} {to′ : Spot} → d ≡ Taken stock′ c′ to′ → (length t - to′ .at < length t - spot .at)
-        defined-on f = let k = takes (u .passed) f in omega (arith, k .ahead, k .fit .within, r .ahead)
+        defined-on f = let k = taken (u .passed) f in omega (arith, k .ahead, k .fit .within, r .ahead)
 
         pub passing-defined : {stock′ : Stock} {c′ : Counts} {to′ : Spot} → d ≡ Taken stock′ c′ to′ → Next rows′ b′ words′ numbers drawing room to′ l stock′ (inked c′ (ink .pen))
         passing-defined f =
-            let k = takes (u .passed) f in
+            let k = taken (u .passed) f in
             record {
               passed = u .passed;
-              onward = λ p. let g = u .onward p in text-defined g (met g) e size-then (takes p f);
+              onward = λ p. let g = u .onward p in text-defined g (met-by g) e size-then (taken p f);
               fit = k .fit;
               bodies-kept = size-then;
               words-kept = run-kept r ∙ u .words-kept;
@@ -218,38 +207,38 @@ module _ {t : List ℕ} {w : ℕ} {words₀ numbers₀ : List ℤ} {drawing₀ r
 
         pub passing-overfull : {r : Drawn} {drawing′ : List ℕ} → RefusedOutside 10 place r drawing′ → d ≡ Overfull → TextDraws t w room₀ drawing′ r room
         unfolding Defines
-        passing-overfull o f p = let g = u .onward p in told-so o p (text-overfull g (met g) e (comes p f))
+        passing-overfull o f p = let g = u .onward p in told-so o p (text-overfull g (met-by g) e (comes (g .stands) (met-by g) e start q defines f))
 
         pub passing-short : {r : Drawn} {drawing′ : List ℕ} → RefusedOutside 25 place r drawing′ → d ≡ Short → TextDraws t w room₀ drawing′ r room
         unfolding Defines
         passing-short o f p =
             let g = u .onward p in
-            let k = comes p f in
-            told-so o p (text-short g (met g) e (k .0) (let s = size-then in let h = k .1 in omega (arith, s, h)))
+            let k = comes (g .stands) (met-by g) e start q defines f in
+            told-so o p (text-short g (met-by g) e (k .0) (let s = size-then in let h = k .1 in omega (arith, s, h)))
 
     -- ---- any other command
 
     module _ (no-l : kind ≡ letterL → ⊥) (no-d : kind ≡ letterD → ⊥) (no-s : kind ≡ letterS → ⊥) where
       pub passing-idle : outputs kind ≡ false → Next rows b words′ numbers drawing room to l stock ink
-      passing-idle e = on-with (λ p. let g = u .onward p in text-idle g (met g) no-l no-d no-s e)
+      passing-idle e = on-with (λ p. let g = u .onward p in text-idle g (met-by g) no-l no-d no-s e)
 
       module _ (e : outputs kind ≡ true) where
         pub passing-says : (s : Step) × Says words′ kind n (nameOf l) s
-        passing-says = (_, text-says here (met here) no-l no-d no-s e words-then)
+        passing-says = (_, text-says here (met-by here) no-l no-d no-s e words-then)
 
         module _ (drawing′ : List ℕ) {room′ : List ℕ} {d : Drawn} (draws : OuterDraws rows b (stock .live) words′ kind place n l ink room drawing′ d room′) where
           pub passing-drawn : {ink′ : Ink} {ns : List ℤ} → d ≡ Done ink′ → length ns ≡ length numbers → length drawing′ ≡ length drawing
               → Next rows b words′ ns drawing′ room′ to l stock ink′
           passing-drawn q kn kd = record {
             passed = u .passed;
-            onward = λ p. let g = u .onward p in text-drawn g (met g) no-l no-d no-s e words-then drawing′ draws q;
+            onward = λ p. let g = u .onward p in text-drawn g (met-by g) no-l no-d no-s e words-then drawing′ draws q;
             fit = r .fit;
             bodies-kept = u .bodies-kept;
             words-kept = run-kept r ∙ u .words-kept;
             numbers-kept = kn ∙ u .numbers-kept;
             drawing-kept = kd ∙ u .drawing-kept;
-            redefined = omega (arith, u .redefined, r .ahead, text-same here (met here) no-l no-d no-s e words-then drawing′ draws q);
+            redefined = omega (arith, u .redefined, r .ahead, text-same here (met-by here) no-l no-d no-s e words-then drawing′ draws q);
           }
 
           pub passing-stopped : {why : Refusal} → d ≡ Refused why → TextDraws t w room₀ drawing′ (Refused why) room′
-          passing-stopped q p = let g = u .onward p in text-stopped g (met g) no-l no-d no-s e words-then drawing′ draws q
+          passing-stopped q p = let g = u .onward p in text-stopped g (met-by g) no-l no-d no-s e words-then drawing′ draws q

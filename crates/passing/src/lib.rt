@@ -32,7 +32,7 @@ fn draws(kind: u8) -> bool
 }
 
 // What a DS says.
-fn start_in(words: &[i32], place: usize) -> Start
+pub fn start_in(words: &[i32], place: usize) -> Start
     requires { ⌜ mostValues + 2 ≤ length (now words) ⌝ }
     ensures { λ r. ⌜ r ≡ startIn (now (words .entry)) place ⌝ }
 {
@@ -48,7 +48,7 @@ fn start_in(words: &[i32], place: usize) -> Start
 }
 
 // DD: every entry of this number or more is removed, and its words are needed no more. Their room is used again when the run is full.
-fn delete(rows: &[usize; library::ROW_NUMBERS], stock: Stock, symbol: usize) -> Stock
+pub fn delete(rows: &[usize; library::ROW_NUMBERS], stock: Stock, symbol: usize) -> Stock
     requires { ⌜ Sorted (now rows) (stock .live) × (stock .needed ≡ neededIn (now rows) (stock .live)) × (stock .needed < 2 ^ 64) ⌝ }
     ensures { λ r. ⌜ Deletes (now (rows .entry)) stock symbol r ⌝ }
 {
@@ -164,7 +164,7 @@ fn draw_text(
 }
 
 // Of the words lent, as many as bodies can need.
-fn at_most(n: usize) -> usize
+pub fn at_most(n: usize) -> usize
     ensures { λ r. ⌜ r ≡ lentOf n ⌝ }
 {
     if n < MOST_WORDS {

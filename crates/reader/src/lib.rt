@@ -71,7 +71,7 @@ fn flatten_passed(
 }
 
 // The first of refusals 1 to 9.
-fn first_fault(text: &[u8]) -> Fault
+pub fn first_fault(text: &[u8]) -> Fault
     ensures { λ r. ⌜ Screened (now (text .entry)) r ⌝ }
 {
     if definition::MOST_BYTES < text.len() {

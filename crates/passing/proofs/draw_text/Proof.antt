@@ -6,7 +6,7 @@ use native.Mathlib.Omega.{arith}
 use borrow.Author.Needs.{needs}
 use lib.ListN.{length}
 use Rattle.passing.proofs.Reading.{read-one}
-use Rattle.passing.proofs.Passing.{Passing, passing-begin, room-there, few-redefined, deletable, ready, passing-out, words-then, layer-fits, passing-layer, passing-delete, passing-starts, passing-begins, size-then, defined-on, passing-defined, passing-overfull, passing-short, passing-idle, passing-says, passing-drawn, passing-stopped}
+use Rattle.passing.proofs.Passing.{Passing, passing-begin, room-there, few-redefined, may-delete, ready, passing-out, words-then, layer-fits, passing-layer, passing-delete, passing-starts, passing-begins, size-then, defined-on, passing-defined, passing-overfull, passing-short, passing-idle, passing-says, passing-drawn, passing-stopped}
 use Rattle.passing.proofs.draw_text.Statement.{statement}
 use Rattle.passing.proofs.draw_text.Tie as tie
 use Rattle.passing.proofs.draw_text.Reads as reads
@@ -78,7 +78,7 @@ size-at-requires : tie.Need-size-at-requires Inv-loop μ-loop
 size-at-requires c κs = omega (arith, words-then (c .before .before .before .before .before .before .before .before .before .loop .inv) (c .before .before .before .before .before .before .before .before .before .before .before .before .before .before .pre .1 .1 .0) (read-one (c .before .before .before .before .before .before .before .read-command .ensures) (c .before .before .before .before .kind .given .1) .1))
 
 delete-requires : tie.Need-delete-requires Inv-loop μ-loop
-delete-requires c κs = deletable (c .before .before .before .before .before .before .before .before .before .before .before .loop .inv)
+delete-requires c κs = may-delete (c .before .before .before .before .before .before .before .before .before .before .before .loop .inv)
 
 loop-less-2 : tie.Need-loop-less-2 Inv-loop μ-loop
 loop-less-2 c = omega (arith, (read-one (c .before .before .before .before .before .before .before .before .before .before .read-command .ensures) (c .before .before .before .before .before .before .before .kind .given .1) .1) .ahead, (read-one (c .before .before .before .before .before .before .before .before .before .before .read-command .ensures) (c .before .before .before .before .before .before .before .kind .given .1) .1) .fit .within)
