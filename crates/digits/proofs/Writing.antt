@@ -3,11 +3,12 @@
 use mathlib.Core.Path.{_≡_, refl, sym, ap, _∙_, subst}
 use mathlib.Core.Logic.{_≢_}
 use mathlib.Core.List.{List, [], _∷_, _++_, append-assoc, append-nil}
-use Prim.Native.Nat.{ℕ, suc, _+_, _≤_}
+use Prim.Native.Nat.{ℕ, suc, _+_, _≤_, _<_}
 use native.Mathlib.Nat.{add-zero, add-suc, suc-add}
+use native.Mathlib.Numerals.{add-one}
 use native.Mathlib.Omega.{arith}
-use lib.ListN.{length, set, drop, length-append}
-use lib.Seq.{set-out, set-comm, sets, length-sets, sets-eq}
+use lib.ListN.{length, set, getD, drop, length-append, drop-of-length-le}
+use lib.Seq.{set-out, set-comm, sets, length-sets, sets-eq, drop-cons}
 use Rattle.digits.specs.Writes.{Writes}
 
 pub sets-append : {A : Type 0} (l : List A) (i : ℕ) (a b : List A) → sets (sets l i a) (i + length a) b ≡ sets l i (a ++ b)
@@ -88,3 +89,11 @@ over g e = same-bytes (sym (append-nil (g .done)) ∙ ap (λ (l : List ℕ). g .
 
 pub reaches : {old new : List ℕ} {start at : ℕ} {all left : List ℕ} → Going old new start at all left → at + length left ≡ start + length all
 reaches {left = left} g = let e = ap length (g .parts) in omega (arith, g .writes .ends, length-append (g .done) left, e)
+
+-- ---- a run of bytes, one by one
+
+pub next-byte : (l : List ℕ) (i : ℕ) → i < length l → drop i l ≡ (getD l i 0 ∷ []) ++ drop (i + 1) l
+next-byte l i h = rw (add-one) (drop-cons l i 0 h)
+
+pub no-byte : (l : List ℕ) (i : ℕ) → length l ≤ i → drop i l ≡ []
+no-byte l i h = drop-of-length-le l h

@@ -21,6 +21,20 @@ pub fn put(room: &mut [u8], at: usize, byte: u8) -> usize
     at + 1
 }
 
+// Bytes as they are given, one after another.
+pub fn put_word(room: &mut [u8], start: usize, word: &[u8]) -> usize
+    requires { ⌜ (start ≤ 2 ^ 60) × (length (now word) ≤ 2 ^ 50) ⌝ }
+    ensures { λ r. ⌜ Writes (now (room .entry)) (now (room .exit)) start r (now (word .entry)) ⌝ }
+{
+    let mut at = start;
+    let mut i = 0;
+    while i < word.len() {
+        at = put(room, at, word[i]);
+        i += 1;
+    }
+    at
+}
+
 // A byte that surely lies within the room: no test.
 pub fn lay(room: &mut [u8], at: usize, byte: u8) -> usize
     requires { ⌜ at < length (now room) ⌝ }
