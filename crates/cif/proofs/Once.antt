@@ -4,6 +4,7 @@ use mathlib.Core.Path.{_≡_, sym, ap, _∙_, subst}
 use mathlib.Core.List.{List}
 use Prim.Native.Nat.{ℕ}
 use lib.IntN.{ℤ}
+use lib.ListN.{length}
 use Rattle.grammar.specs.declared.Verdict.{Verdict}
 use Rattle.grammar.proofs.Unique.{one-verdict}
 use Rattle.definition.specs.declared.Answer.{Answer}
@@ -25,9 +26,11 @@ pub flatten-told-once : {t room words words′ left left′ : List ℕ} {lent le
     → FlattenTold t lent room words′ lent″ left′ → (words ≡ words′) × (left ≡ left′) × (lent′ ≡ lent″)
 flatten-told-once a b = let one = one-answer (a .promised) (b .promised) in (same-words (a .said) (b .said) (one .0), one .1, one .2)
 
-pub list-told-once : {words f old new new′ : List ℕ} {r r′ : ℕ} → ListTold words f old new r → ListTold words f old new′ r′ → (new ≡ new′) × (r ≡ r′)
-list-told-once {f = f} {old} {new′ = new′} {r′ = r′} a b =
-    one-listing (a .listed) (subst (λ (x : Answer). Listed x f old new′ r′) (b .read ∙ sym (a .read)) (b .listed))
+pub list-told-once : {t words f old new new′ : List ℕ} {lent lent′ lent″ : List ℤ} {r r′ : ℕ} → ListTold t lent words f old lent′ new r
+    → ListTold t lent words f old lent″ new′ r′ → (new ≡ new′) × (r ≡ r′) × (lent′ ≡ lent″)
+list-told-once {t} {f = f} {old} {new′ = new′} {lent} {r′ = r′} a b =
+    let one = one-listing (a .listed) (subst (λ (x : Answer). Listed t (length lent) x f old new′ r′) (b .read ∙ sym (a .read)) (b .listed)) in
+    (one .0, one .1, a .cleared ∙ sym (b .cleared))
 
 pub refusal-told-once : {t words words′ : List ℕ} → RefusalTold t words → RefusalTold t words′ → words ≡ words′
 refusal-told-once {t} a b =

@@ -4,6 +4,7 @@ use mathlib.Core.List.{List, []}
 use Prim.Native.Nat.{ℕ}
 use lib.Dec.{eqb}
 use lib.IntN.{ℤ}
+use lib.ListN.{length}
 use Rattle.grammar.specs.Viable.{Judged}
 use Rattle.grammar.specs.declared.Verdict.{Verdict}
 use Rattle.grammar.specs.declared.Verdict.the-variants.{InGrammar, StuckAt}
@@ -12,7 +13,7 @@ use Rattle.definition.specs.declared.Refusal.{Refusal}
 use Rattle.definition.specs.Words.{if_then_else_}
 use Rattle.definition.specs.Rules.{notInGrammar, refuse}
 use Rattle.definition.specs.Counts.{counts}
-use Rattle.definition.specs.Answer.{success, failure, Promised}
+use Rattle.definition.specs.Answer.{success, failure, zeros, Promised}
 use Rattle.checking.specs.declared.Fault.{Fault}
 use Rattle.checking.specs.declared.Fault.the-variants.{Clear, Refused}
 use Rattle.reading.specs.Refusal.{Refuses}
@@ -40,10 +41,12 @@ pub record FlattenTold (t : List ℕ) (lent : List ℤ) (room words : List ℕ) 
   pub promised : Promised t lent room given lent′ left
   pub said : words ≡ answerWords given
 
-pub record ListTold (words f old new : List ℕ) (r : ℕ) : Type 0 where  -- `cif_list`: the listing of the answer that the words say
+-- `cif_list`: the listing of the text and the answer that the words say, with so many words lent, which are all zero afterwards
+pub record ListTold (t : List ℕ) (lent : List ℤ) (words f old : List ℕ) (lent′ : List ℤ) (new : List ℕ) (r : ℕ) : Type 0 where
   pub given : Answer
   pub read : given ≡ answerBy words
-  pub listed : Listed given f old new r
+  pub listed : Listed t (length lent) given f old new r
+  pub cleared : lent′ ≡ zeros lent
 
 pub record RefusalTold (t words : List ℕ) : Type 0 where  -- `cif_refusal`: the first of refusals 2 to 9
   pub fault : Fault

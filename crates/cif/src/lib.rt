@@ -42,13 +42,21 @@ pub extern "C" fn cif_flatten(
     *answer = answer::words(given);
 }
 
-// The lines of the list program, of an answer's words and its flat file: as far as `out` reaches, and how many bytes they are whatever its length.
-// Two outcomes that are allowed are equal: `list-told-once`.
+// The lines of the list program, of a text, an answer's words and its flat file: as far as `out` reaches, and how many bytes they are whatever its length.
+// The words lent for the definitions are all zero afterwards. Two outcomes that are allowed are equal: `list-told-once`.
 #[no_mangle]
-pub extern "C" fn cif_list(flat: &[u8], answer: &[u64; answer::WORDS], out: &mut [u8]) -> usize
-    ensures { λ r. ⌜ ListTold (now (answer .entry)) (now (flat .entry)) (now (out .entry)) (now (out .exit)) r ⌝ }
+pub extern "C" fn cif_list(
+    text: &[u8],
+    words: &mut [i32],
+    flat: &[u8],
+    answer: &[u64; answer::WORDS],
+    out: &mut [u8],
+) -> usize
+    ensures { λ r. ⌜ ListTold (now (text .entry)) (now (words .entry)) (now (answer .entry)) (now (flat .entry)) (now (out .entry)) (now (words .exit)) (now (out .exit)) r ⌝ }
 {
-    listing::list(flat, answer::by_words(answer), out)
+    let length = listing::list(text, words, flat, answer::by_words(answer), out);
+    library::clear(words);
+    length
 }
 
 // The first of refusals 2 to 9 of a text, with no drawing. One answer is allowed: `refusal-told-once`.

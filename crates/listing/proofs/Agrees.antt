@@ -1,10 +1,12 @@
 -- The account is the definition's listing, for the answer and the flat file of every text; and it is short.
 -- Assumes nothing.
-use mathlib.Core.Path.{_≡_, sym, ap, ap₂, _∙_, subst}
+use mathlib.Core.Path.{_≡_, refl, sym, ap, ap₂, _∙_, subst}
+use mathlib.Core.Bool.{Bool, true, false}
 use mathlib.Core.List.{List, [], _∷_, _++_, map, flatMap}
 use Prim.Native.Nat.{ℕ, _+_, _-_, _*_, _≤_, _<_}
 use native.Mathlib.Omega.{arith}
-use borrow.Author.Tests.{lt-ltb, le-ltb, eq-eqb, ne-eqb}
+use borrow.Author.Tests.{lt-ltb, le-ltb, ltb-false, eq-eqb, ne-eqb, eqb-true}
+use lib.Dec.{ltb, eqb}
 use lib.ListN.{length, length-append, length-map, take, replicate}
 use lib.Seq.{take-at}
 use Rattle.definition.specs.Words.{Placed, bytesOf}
@@ -17,6 +19,7 @@ use Rattle.definition.specs.declared.Answer.{Answer}
 use Rattle.definition.specs.Answer.{Outcome, accepted, rejected, flatFile, success, failure, given-back, Answers}
 use Rattle.definition.specs.Limits.{deepest}
 use Rattle.definition.specs.Position.{lineOf, columnOf, placesOf, chainTold}
+use Rattle.definition.specs.Warnings.{warningLines}
 use Rattle.definition.specs.Window
 use Rattle.definition.specs.Listing.{shapeLines, windowLine, listing}
 use Rattle.laws.proofs.Lists.Range.{All}
@@ -27,8 +30,10 @@ use Rattle.digits.specs.Writes.{Writes}
 use Rattle.pen.specs.Names.{packedBy, packed}
 use Rattle.digits.proofs.Writing.{nothing, both, same-bytes, one-outcome}
 use Rattle.lines.specs.Followed.{fresh, nowhere}
-use Rattle.listing.specs.Account.{printed, spanOf, totalLine, windowOf, tabbed, refusedLine, account}
-use Rattle.listing.specs.Listed.{Walks, Listed}
+use Rattle.warning.specs.Warned.{WarnedAny, WarnsAny}
+use Rattle.warning.proofs.Any.{one-any, accepted-any}
+use Rattle.listing.specs.Account.{printed, spanOf, totalLine, windowOf, tabbed, refusedLine, account, ending}
+use Rattle.listing.specs.Listed.{Walks, Along, Listed}
 use Rattle.listing.specs.declared.Walked.{Walked}
 use Rattle.listing.proofs.Lines.{lines-printed}
 use Rattle.listing.proofs.Window.{across, upward, along-x, along-y, lines-taken, window-is}
@@ -50,30 +55,38 @@ window-printed ds h =
 -- ---- outcomes
 
 accepted-is : {t : List ℕ} {words room : ℕ} (cs : List (Placed Command)) (c : Counts) (es : List Event) → Answers t words room (accepted cs c es)
-    → account (given-back t (accepted cs c es)) (flatFile (accepted cs c es)) ≡ listing t (accepted cs c es)
+    → account (given-back t (accepted cs c es)) (warningLines es) (flatFile (accepted cs c es)) ≡ listing t (accepted cs c es)
 unfolding account given-back success flatFile listing totalLine bytesOf
 accepted-is cs c es k =
     let ds = shapesOf es in
     let s = all-sound k in
     rw (le-ltb 16777216 (length (flat ds)) (within-limit (reading k .as-read)))
-    (ap₂ (λ (x y : List ℕ). x ++ (totalLine (c .shapes) (c .calls) (c .redefinitions) ++ y)) (shapes-printed ds s) (window-printed ds s))
+    (ap₂ (λ (x y : List ℕ). x ++ (warningLines es ++ (totalLine (c .shapes) (c .calls) (c .redefinitions) ++ y))) (shapes-printed ds s) (window-printed ds s))
 
 told-places : (chain : Chain) → take (length chain) (chainTold chain) ≡ placesOf chain
 told-places chain = take-at (placesOf chain) (replicate (deepest - length chain) 0) (length chain) (length-map chain (λ (c : Placed ℕ). c .place))
 
-rejected-is : {t : List ℕ} {words room : ℕ} (r : Refusal) (chain : Chain) → Answers t words room (rejected r chain)
-    → account (given-back t (rejected r chain)) (flatFile (rejected r chain)) ≡ listing t (rejected r chain)
+rejected-is : {t : List ℕ} {words room : ℕ} (r : Refusal) (chain : Chain) (w : List ℕ) → Answers t words room (rejected r chain)
+    → account (given-back t (rejected r chain)) w (flatFile (rejected r chain)) ≡ listing t (rejected r chain)
 unfolding account given-back failure flatFile listing refusedLine
-rejected-is {t} r chain k =
+rejected-is {t} r chain w k =
     let h = located k .first-number in
     let told : List ℕ → List ℕ = λ places. r .number ∷ r .place ∷ lineOf t (r .place) ∷ columnOf t (r .place) ∷ places in
     rw (ne-eqb (r .number) 0 (λ e. omega (arith, h, e)))
     (ap (λ (places : List ℕ). bytesOf "refused" ++ (tabbed (told places) ++ (10 ∷ []))) (told-places chain)
     ∙ ap (λ (l : List ℕ). bytesOf "refused" ++ l) (tabbed-fields (told (placesOf chain))))
 
-pub account-is : {t : List ℕ} {words room : ℕ} (o : Outcome) → Answers t words room o → account (given-back t o) (flatFile o) ≡ listing t o
-account-is (accepted cs c es) k = accepted-is cs c es k
-account-is (rejected r chain) k = rejected-is r chain k
+-- the warnings are those of the text
+account-is : {t : List ℕ} {words room : ℕ} (o : Outcome) → Answers t words room o → {a : Answer} {f w : List ℕ} → a ≡ given-back t o → f ≡ flatFile o
+    → (length f ≤ 16777216 → a .number ≡ 0 → WarnedAny t words w) → account a w f ≡ listing t o
+unfolding given-back success flatFile
+account-is {t} (accepted cs c es) k {a} {f} {w} e g due =
+    let fits : length f ≤ 16777216 = subst (λ (x : List ℕ). length x ≤ 16777216) (sym g) (within-limit (reading k .as-read)) in
+    let is : w ≡ warningLines es = accepted-any k (due fits (ap (λ (x : Answer). x .number) e)) in
+    ap (λ (x : Answer). account x w f) e
+    ∙ (ap₂ {C = List ℕ} (λ (x y : List ℕ). account (given-back t (accepted cs c es)) x y) is g ∙ accepted-is cs c es k)
+account-is {t} (rejected r chain) k {f = f} {w} e g due =
+    ap (λ (x : Answer). account x w f) e ∙ (ap (account (given-back t (rejected r chain)) w) g ∙ rejected-is r chain w k)
 
 -- ---- how long it is
 
@@ -89,34 +102,53 @@ shapes-short (accepted cs c es) k =
 
 -- ---- the contract of `list`
 
--- what is written settles it, if there is not much behind the shapes' lines
-pub listed : {a : Answer} {f old new : List ℕ} {r : ℕ} → Writes old new 0 r (account a f) → r ≤ length (printed (fresh 1 0) f) + 1024 → Listed a f old new r
-listed {a} {f} w h = record {
-  is = λ {t} {room} {o} k e g. same-bytes (ap₂ account e g ∙ account-is o k) w;
-  short = λ {t} {room} {o} k e g.
+-- what is written settles it, if there is not much behind the shapes' lines and the warnings
+pub listed : {t : List ℕ} {words : ℕ} {a : Answer} {f old new : List ℕ} {r : ℕ} → Along t words a f old new r → r ≤ length (printed (fresh 1 0) f) + 15 * length t + 1024
+    → Listed t words a f old new r
+listed {t} {words} {a} {f} w h = record {
+  is = λ {room} {o} k e g. same-bytes (account-is o k e g (w .due)) (w .writes);
+  short = λ {room} {o} k e g.
       let q : length (printed (fresh 1 0) f) ≤ 4 * length f = subst (λ (x : List ℕ). length (printed (fresh 1 0) x) ≤ 4 * length x) (sym g) (shapes-short o k) in
       omega (arith, q, h);
   along = w;
 }
 
-pub nothing-listed : (a : Answer) (f room : List ℕ) → 16777216 < length f → Listed a f room room 0
+pub nothing-listed : (t : List ℕ) (words : ℕ) (a : Answer) (f room : List ℕ) → 16777216 < length f → Listed t words a f room room 0
 unfolding account
-nothing-listed a f room h = listed (rw (lt-ltb 16777216 (length f) h) (nothing room 0)) (omega arith)
+nothing-listed t words a f room h =
+    listed (record { warnings = []; due = λ l n. absurd (omega (arith, l, h)); writes = rw (lt-ltb 16777216 (length f) h) (nothing room 0) }) (omega arith)
 
-pub refusal-listed : {a : Answer} {f old new : List ℕ} {r : ℕ} → length f ≤ 16777216 → (a .number ≡ 0 → ⊥) → Writes old new 0 r (refusedLine a)
-    → r ≤ 764 → Listed a f old new r
+pub refusal-listed : (t : List ℕ) (words : ℕ) {a : Answer} {f old new : List ℕ} {r : ℕ} → length f ≤ 16777216 → (a .number ≡ 0 → ⊥) → Writes old new 0 r (refusedLine a)
+    → r ≤ 764 → Listed t words a f old new r
 unfolding account
-refusal-listed {a} {f} h n w s = listed (rw (le-ltb 16777216 (length f) h, ne-eqb (a .number) 0 n) w) (omega arith)
+refusal-listed t words {a} {f} h n w s =
+    listed (record { warnings = []; due = λ l e. absurd (n e); writes = rw (le-ltb 16777216 (length f) h, ne-eqb (a .number) 0 n) w }) (omega arith)
 
-pub shapes-listed : {a : Answer} {f r₀ r₁ r₂ r₃ : List ℕ} {j k : ℕ} (v : Walked) → length f ≤ 16777216 → a .number ≡ 0 → Walks f r₀ r₁ v
-    → Writes r₁ r₂ (v .at) j (totalLine (a .shapes) (a .calls) (a .redefinitions)) → j ≤ v .at + 69
-    → Writes r₂ r₃ j k (windowOf (v .xs) (v .ys)) → k ≤ j + 91 → Listed a f r₀ r₃ k
+pub shapes-listed : {t : List ℕ} {words : ℕ} {a : Answer} {f r₀ r₁ r₂ r₃ : List ℕ} {j k : ℕ} (v : Walked) → length f ≤ 16777216 → a .number ≡ 0 → Walks f r₀ r₁ v
+    → WarnsAny t words r₁ r₂ (v .at) j → Writes r₂ r₃ j k (ending a (v .xs) (v .ys)) × (k ≤ j + 160) → Listed t words a f r₀ r₃ k
 unfolding account
-shapes-listed {a} {f} v h n g t p w q =
+shapes-listed {a = a} {f} v h n g w (x, q) =
     let e = g .writes .ends in
-    let all = both (g .writes) (both t w) in
-    listed (rw (le-ltb 16777216 (length f) h, eq-eqb (a .number) 0 n) (rw (g .xs-are, g .ys-are) at all)) (omega (arith, e, p, q))
+    let p = w .near in
+    let all = both (g .writes) (both (w .writes) x) in
+    listed
+    (record { warnings = w .bytes; due = λ l i. w .warned; writes = rw (le-ltb 16777216 (length f) h, eq-eqb (a .number) 0 n) (rw (g .xs-are, g .ys-are) at all) })
+    (omega (arith, e, p, q))
 
--- two outcomes that the contract allows are one, whatever the bytes
-pub one-listing : {a : Answer} {f old new new′ : List ℕ} {r r′ : ℕ} → Listed a f old new r → Listed a f old new′ r′ → (new ≡ new′) × (r ≡ r′)
-one-listing h k = one-outcome (h .along) (k .along)
+-- ---- two outcomes that the contract allows are one, whatever the bytes
+
+same-account : {t : List ℕ} {words : ℕ} {a : Answer} {f old new new′ : List ℕ} {r r′ : ℕ} (p : Along t words a f old new r) (q : Along t words a f old new′ r′)
+    → account a (p .warnings) f ≡ account a (q .warnings) f
+unfolding account
+same-account {a = a} {f} p q = go (ltb 16777216 (length f)) (eqb (a .number) 0) refl refl
+  where
+    go : (x y : Bool) → ltb 16777216 (length f) ≡ x → eqb (a .number) 0 ≡ y → account a (p .warnings) f ≡ account a (q .warnings) f
+    go true y e g = rw e
+    go false true e g =
+        let l = ltb-false 16777216 (length f) e in
+        let n = eqb-true (a .number) 0 g in
+        ap (λ (w : List ℕ). account a w f) (one-any (p .due l n) (q .due l n))
+    go false false e g = rw (e, g)
+
+pub one-listing : {t : List ℕ} {words : ℕ} {a : Answer} {f old new new′ : List ℕ} {r r′ : ℕ} → Listed t words a f old new r → Listed t words a f old new′ r′ → (new ≡ new′) × (r ≡ r′)
+one-listing h k = one-outcome (same-bytes (same-account (h .along) (k .along)) (h .along .writes)) (k .along .writes)

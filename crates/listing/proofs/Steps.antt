@@ -1,4 +1,4 @@
--- What the code's single steps rest on: a run of bytes is written one by one, and the window's line field by field.
+-- What the code's single steps rest on: the window's line is written field by field.
 -- Assumes nothing.
 use mathlib.Core.Path.{_≡_, subst}
 use mathlib.Core.Bool.{true, false}
@@ -18,14 +18,6 @@ use Rattle.digits.specs.Writes.{Writes}
 use Rattle.digits.proofs.Signs.{wrap}
 use Rattle.lines.specs.declared.Span.{Span}
 use Rattle.listing.specs.Account.{windowOf}
-
--- ---- a run of bytes, one by one
-
-pub next-byte : (l : List ℕ) (i : ℕ) → i < length l → drop i l ≡ (getD l i 0 ∷ []) ++ drop (i + 1) l
-next-byte l i h = rw (add-one) (drop-cons l i 0 h)
-
-pub no-byte : (l : List ℕ) (i : ℕ) → length l ≤ i → drop i l ≡ []
-no-byte l i h = drop-of-length-le l h
 
 -- ---- the window
 

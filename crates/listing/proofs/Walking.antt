@@ -6,7 +6,7 @@ use Prim.Native.Nat.{ℕ, _+_, _*_, _≤_, _<_}
 use native.Mathlib.Omega.{arith}
 use lib.ListN.{length, getD, drop}
 use Rattle.digits.specs.Writes.{Writes}
-use Rattle.digits.proofs.Writing.{Going, begun, goes-on, over}
+use Rattle.digits.proofs.Writing.{Going, begun, goes-on, over, next-byte, no-byte}
 use Rattle.lines.specs.Followed.{fresh, lineAfter, numeralAfter, leadAfter, spanAfter, Fits, unread, seenAfter}
 use Rattle.lines.specs.declared.Line.{Line}
 use Rattle.lines.specs.declared.Numeral.{Numeral}
@@ -16,7 +16,6 @@ use Rattle.lines.specs.declared.Seen.{Seen}
 use Rattle.lines.proofs.Kept.{line-kept, index-kept}
 use Rattle.listing.specs.Account.{wrote, printed, spanned, spanOf}
 use Rattle.listing.specs.Listed.{Walks}
-use Rattle.listing.proofs.Steps.{next-byte, no-byte}
 
 -- i bytes of f are read
 pub record Walking (f old new : List ℕ) (at : ℕ) (s : Seen) (i : ℕ) : Type 0 where

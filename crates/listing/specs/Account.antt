@@ -66,9 +66,13 @@ tabbed (n ∷ ns) = (9 ∷ decimal (pos n)) ++ tabbed ns
 unfoldable pub refusedLine : Answer → List ℕ
 refusedLine a = bytesOf "refused" ++ (tabbed (a .number ∷ a .place ∷ a .line ∷ a .column ∷ take (a .opened) (a .chain)) ++ (10 ∷ []))
 
--- what is printed of an answer and the bytes of a flat file; nothing where there are more of them than a flat file can have
-unfoldable pub account : Answer → List ℕ → List ℕ
-account a f =
+-- what follows the warnings
+abbrev pub ending : Answer → Span → Span → List ℕ
+ending a xs ys = totalLine (a .shapes) (a .calls) (a .redefinitions) ++ windowOf xs ys
+
+-- what is printed of an answer, warnings and the bytes of a flat file; nothing where there are more of these than a flat file can have
+unfoldable pub account : Answer → (warnings : List ℕ) → List ℕ → List ℕ
+account a w f =
     if ltb 16777216 (length f) then []
-    else if eqb (a .number) 0 then printed (fresh 1 0) f ++ (totalLine (a .shapes) (a .calls) (a .redefinitions) ++ windowOf (spanOf 1 f) (spanOf 2 f))
+    else if eqb (a .number) 0 then printed (fresh 1 0) f ++ (w ++ ending a (spanOf 1 f) (spanOf 2 f))
     else refusedLine a

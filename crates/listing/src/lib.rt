@@ -1,5 +1,5 @@
-// What the list program prints (01, "The list program"), from the answer and the flat file alone. The flat file is read once, byte by byte: a shape's
-// line is copied after its count and its layer, and its points are taken into the window, which crate lines keeps.
+// What the list program prints (01, "The list program"), from the answer, the flat file and, for its warnings, the text. The flat file is read once, byte by
+// byte: a shape's line is copied after its count and its layer, and its points are taken into the window, which crate lines keeps.
 ghost use mathlib.Core.Path.{_≡_};
 ghost use mathlib.Core.List.{_∷_, []};
 ghost use Prim.Native.Nat.{_+_, _^_, _≤_};
@@ -8,7 +8,7 @@ ghost use lib.ListN.{length, take};
 ghost use Rattle.definition.specs.Flat.{decimal};
 ghost use Rattle.digits.specs.Writes.{Writes};
 ghost use Rattle.pen.specs.Names.{nameOf};
-ghost use Rattle.listing.specs.Account.{quiet, heading, wrote, totalLine, windowOf, tabbed, refusedLine};
+ghost use Rattle.listing.specs.Account.{quiet, heading, wrote, totalLine, windowOf, tabbed, refusedLine, ending};
 ghost use Rattle.listing.specs.Listed.{Walks, Listed};
 
 const TAB: u8 = 9;
@@ -20,19 +20,6 @@ struct Walked {
     at: usize,
     xs: lines::Span,
     ys: lines::Span,
-}
-
-fn put_word(out: &mut [u8], start: usize, word: &[u8]) -> usize
-    requires { ⌜ (start ≤ 2 ^ 60) × (length (now word) ≤ 2 ^ 50) ⌝ }
-    ensures { λ r. ⌜ Writes (now (out .entry)) (now (out .exit)) start r (now (word .entry)) ⌝ }
-{
-    let mut at = start;
-    let mut i = 0;
-    while i < word.len() {
-        at = digits::put(out, at, word[i]);
-        i += 1;
-    }
-    at
 }
 
 fn put_field(out: &mut [u8], at: usize, n: u64) -> usize
@@ -77,7 +64,7 @@ fn put_heading(out: &mut [u8], at: usize, count: u64, layer: u32, letter: u8) ->
     ensures { λ r. ⌜ Writes (now (out .entry)) (now (out .exit)) at r (heading count layer letter) ⌝ }
     ensures { λ r. ⌜ r ≤ at + 34 ⌝ }
 {
-    let first = put_word(out, at, b"shape");
+    let first = digits::put_word(out, at, b"shape");
     let second = put_field(out, first, count);
     let third = put_name_field(out, second, layer);
     put_kind_field(out, third, letter)
@@ -142,7 +129,7 @@ fn put_total(out: &mut [u8], at: usize, shapes: u64, calls: u64, redefinitions: 
     ensures { λ r. ⌜ Writes (now (out .entry)) (now (out .exit)) at r (totalLine shapes calls redefinitions) ⌝ }
     ensures { λ r. ⌜ r ≤ at + 69 ⌝ }
 {
-    let first = put_word(out, at, b"total");
+    let first = digits::put_word(out, at, b"total");
     let second = put_field(out, first, shapes);
     let third = put_field(out, second, calls);
     let last = put_field(out, third, redefinitions);
@@ -154,7 +141,7 @@ fn put_window(out: &mut [u8], at: usize, xs: lines::Span, ys: lines::Span) -> us
     ensures { λ r. ⌜ Writes (now (out .entry)) (now (out .exit)) at r (windowOf xs ys) ⌝ }
     ensures { λ r. ⌜ r ≤ at + 91 ⌝ }
 {
-    let first = put_word(out, at, b"window");
+    let first = digits::put_word(out, at, b"window");
     let some = xs.some;
     if some {
         let second = put_signed_field(out, first, xs.low);
@@ -163,7 +150,7 @@ fn put_window(out: &mut [u8], at: usize, xs: lines::Span, ys: lines::Span) -> us
         let last = put_signed_field(out, fourth, ys.high);
         return digits::put(out, last, LINE_FEED);
     }
-    put_word(out, first, b"\tnone\n")
+    digits::put_word(out, first, b"\tnone\n")
 }
 
 // The places of the open calls, each after a tab: as many as are told, and of more than the chain has, all.
@@ -191,7 +178,7 @@ fn put_refusal(out: &mut [u8], answer: definition::Answer) -> usize
 {
     let chain = answer.chain;
     let opened = answer.opened;
-    let first = put_word(out, 0, b"refused");
+    let first = digits::put_word(out, 0, b"refused");
     let second = put_field(out, first, answer.number as u64);
     let third = put_field(out, second, answer.place as u64);
     let fourth = put_field(out, third, answer.line as u64);
@@ -200,11 +187,39 @@ fn put_refusal(out: &mut [u8], answer: definition::Answer) -> usize
     digits::put(out, last, LINE_FEED)
 }
 
-// Prints into `out` what the list program prints of an answer and its flat file, as far as the room reaches, and gives back how many bytes that are
-// whatever the room: so a room of no bytes measures. It takes any bytes: of those that are no text's flat file the contract says by the account what is
-// printed, and two outcomes that it allows are equal (`one-listing` of proofs/Agrees.antt).
-pub fn list(flat: &[u8], answer: definition::Answer, out: &mut [u8]) -> usize
-    ensures { λ r. ⌜ Listed answer (now (flat .entry)) (now (out .entry)) (now (out .exit)) r ⌝ }
+// The total and the window.
+fn put_ending(
+    out: &mut [u8],
+    at: usize,
+    answer: definition::Answer,
+    xs: lines::Span,
+    ys: lines::Span,
+) -> usize
+    requires { ⌜ at ≤ 2 ^ 57 ⌝ }
+    ensures { λ r. ⌜ Writes (now (out .entry)) (now (out .exit)) at r (ending answer xs ys) × (r ≤ at + 160) ⌝ }
+{
+    let next = put_total(
+        out,
+        at,
+        answer.shapes as u64,
+        answer.calls as u64,
+        answer.redefinitions as u64,
+    );
+    put_window(out, next, xs, ys)
+}
+
+// Prints into `out` what the list program prints of a text, its answer and its flat file, as far as the room reaches, and gives back how many bytes that are
+// whatever the room: so a room of no bytes measures. The words are lent for the text's definitions, as many as were lent for the answer. It takes any
+// bytes: of those that are not the text's the contract says by the account what is printed, and two outcomes that it allows are equal (`one-listing` of
+// proofs/Agrees.antt).
+pub fn list(
+    text: &[u8],
+    words: &mut [i32],
+    flat: &[u8],
+    answer: definition::Answer,
+    out: &mut [u8],
+) -> usize
+    ensures { λ r. ⌜ Listed (now (text .entry)) (length (now (words .entry))) answer (now (flat .entry)) (now (out .entry)) (now (out .exit)) r ⌝ }
 {
     if flat.len() > definition::MOST_BYTES {
         return 0;
@@ -214,14 +229,8 @@ pub fn list(flat: &[u8], answer: definition::Answer, out: &mut [u8]) -> usize
         let w = put_shapes(flat, out);
         let xs = w.xs;
         let ys = w.ys;
-        let next = put_total(
-            out,
-            w.at,
-            answer.shapes as u64,
-            answer.calls as u64,
-            answer.redefinitions as u64,
-        );
-        return put_window(out, next, xs, ys);
+        let next = warning::warn_any(text, words, out, w.at);
+        return put_ending(out, next, answer, xs, ys);
     }
     put_refusal(out, answer)
 }

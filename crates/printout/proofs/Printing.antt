@@ -5,8 +5,8 @@ use mathlib.Core.Path.{_≡_, refl, sym, ap, _∙_, subst}
 use mathlib.Core.List.{List, []}
 use Prim.Native.Nat.{ℕ, _+_, _*_, _≤_, _<_}
 use native.Mathlib.Omega.{arith}
-use lib.IntN.{ℤ}
-use lib.ListN.{length, take, drop, length-append, length-drop}
+use lib.IntN.{ℤ, pos}
+use lib.ListN.{length, take, drop, replicate, length-append, length-drop, length-replicate}
 use lib.Seq.{take-at}
 use Rattle.definition.specs.Counts.{shapesOf}
 use Rattle.definition.specs.Words.{bytesOf, those}
@@ -67,17 +67,19 @@ lays {old} {new} {bytes} {r} w h =
     record { writes = w; fits = omega (arith, k, h); part = sym (ap length l ∙ e); is = l }
 
 pub printed : {t room left old new : List ℕ} {words words′ : List ℤ} {a : Answer} {r : ℕ} → length t ≤ 32768 → length words ≡ wordsLent → length room ≡ roomLength → length old ≡ listingLength
-    → Promised t words room a words′ left → Listed a (take (a .length) left) old new r → Prints t old new r
-printed {t} {room} {left} {a = a} {r} h w n m p l =
+    → Promised t words room a words′ left → Listed t (length words′) a (take (a .length) left) old new r → Prints t old new r
+printed {t} {room} {left} {old} {new} {words} {words′} {a} {r} h w n m p list =
+    let same : length words′ ≡ length words = ap length (p .cleared) ∙ length-replicate (length words) (pos 0) in
+    let l : Listed t (length words) a (take (a .length) left) old new r = subst (λ (k : ℕ). Listed t k a (take (a .length) left) old new r) same list in
     let f = flat-left p in
     let k = left-length p in
-    let short : r ≤ 4 * length (take (a .length) left) + 1024 = l .short (p .answers) (p .given) (f .is) in
+    let short : r ≤ 4 * length (take (a .length) left) + 15 * length t + 1024 = l .short (p .answers) (p .given) (f .is) in
     let size : length (take (a .length) left) ≡ a .length = ap length (f .is) ∙ f .size in
     let inside = f .fits in
     record {
       bytes = listing t (p .outcome);
       lists = within h (subst (λ (x : ℕ). Answers t wordsLent x (p .outcome)) n (subst (λ (x : ℕ). Answers t x (length room) (p .outcome)) w (p .answers)));
-      lays = lays (l .is (p .answers) (p .given) (f .is)) (omega (arith, short, size, inside, k, n, m));
+      lays = lays (l .is (p .answers) (p .given) (f .is)) (omega (arith, short, size, inside, h, k, n, m));
     }
 
 -- ---- a text that is longer than the program takes
@@ -85,18 +87,18 @@ printed {t} {room} {left} {a = a} {r} h w n m p l =
 abbrev tooLong : List ℕ → List ℕ
 tooLong t = listing t (rejected (refuse textTooLong 0) [])
 
-refusal-is : (t : List ℕ) → account (failure t (refuse textTooLong 0) []) [] ≡ tooLong t
+refusal-is : (t w : List ℕ) → account (failure t (refuse textTooLong 0) []) w [] ≡ tooLong t
 unfolding account listing refusedLine failure tabbed fields bytesOf decimal digits lineOf columnOf those sinceLineEnd
-refusal-is t = refl
+refusal-is t w = refl
 
 refusal-length : (t : List ℕ) → length (tooLong t) ≡ 16
 unfolding listing fields bytesOf decimal digits lineOf columnOf those sinceLineEnd
 refusal-length t = refl
 
-pub refusal-laid : (t : List ℕ) {old new : List ℕ} {r : ℕ} {a : Answer} → length old ≡ listingLength → a ≡ failure t (refuse textTooLong 0) [] → Listed a [] old new r
+pub refusal-laid : (t : List ℕ) {old new : List ℕ} {r : ℕ} {a : Answer} → length old ≡ listingLength → a ≡ failure t (refuse textTooLong 0) [] → Listed t 0 a [] old new r
     → Lays old new r (listing t (rejected (refuse textTooLong 0) []))
 refusal-laid t {old} {new} {r} m is l =
-    let w : Writes old new 0 r (tooLong t) = subst (Writes old new 0 r) (ap (λ (a : Answer). account a []) is ∙ refusal-is t) (l .along) in
+    let w : Writes old new 0 r (tooLong t) = subst (Writes old new 0 r) (ap (λ (a : Answer). account a (l .along .warnings) []) is ∙ refusal-is t (l .along .warnings)) (l .along .writes) in
     let e = w .ends in
     let k = refusal-length t in
     lays w (omega (arith, e, k, m))

@@ -11,12 +11,12 @@ use Rattle.digits.specs.Writes.{Writes}
 abbrev pub wordsLent : ℕ
 wordsLent = 32768
 
--- 01: its room is 32,768 bytes; no listing is longer than four bytes for each of those and 1,024 more
+-- 01: its room is 32,768 bytes; no listing is longer than four bytes for each of those, fifteen for each of the text's and 1,024 more
 abbrev pub roomLength : ℕ
 roomLength = 32768
 
 abbrev pub listingLength : ℕ
-listingLength = 132096
+listingLength = 623616
 
 -- the bytes stand whole at the start of the room, and r is how many they are
 pub record Lays (old new : List ℕ) (r : ℕ) (bytes : List ℕ) : Type 0 where

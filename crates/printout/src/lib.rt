@@ -1,4 +1,4 @@
-// What 01's list program prints of a text: the reader flattens it, and its flat file is listed. The programs only read and write.
+// What 01's list program prints of a text: the reader flattens it, and its flat file is listed, with its warnings. The programs only read and write.
 use definition::Refusal;
 ghost use mathlib.Core.Path.{_≡_};
 ghost use mathlib.Core.List.{[]};
@@ -11,8 +11,8 @@ ghost use Rattle.printout.specs.Prints.{Lays, Prints, wordsLent, roomLen
 
 // The longest text that is taken, the room for its flat file, and the words lent.
 pub const MOST: usize = 32_768;
-// No listing is longer: four bytes for each of a flat file's, and 1,024 (`Listed` of crates/listing).
-pub const LONGEST_LISTING: usize = 132_096;
+// No listing is longer: four bytes for each of a flat file's, fifteen for each of the text's, which are its warnings, and 1,024 (`Listed` of crates/listing).
+pub const LONGEST_LISTING: usize = 623_616;
 
 // The contracts of these two spare the caller the zeros.
 fn flat_room() -> [u8; MOST]
@@ -38,8 +38,9 @@ fn print_refusal(text: &[u8], out: &mut [u8]) -> usize
         place: 0,
     };
     let nothing: [u8; 0] = [];
+    let mut none: [i32; 0] = [];
     let answer = answer::refused_outside(text, over, counts::no_counts());
-    listing::list(&nothing, answer, out)
+    listing::list(text, &mut none, &nothing, answer, out)
 }
 
 fn print_flat(text: &[u8], words: &mut [i32], room: &mut [u8], out: &mut [u8]) -> usize
@@ -48,7 +49,7 @@ fn print_flat(text: &[u8], words: &mut [i32], room: &mut [u8], out: &mut [u8]) -
 {
     let answer = reader::flatten(text, words, room);
     let length = answer.length;
-    listing::list(&room[..length], answer, out)
+    listing::list(text, words, &room[..length], answer, out)
 }
 
 // What is printed of a text comes to stand at the start of `out`, the rest of which is unchanged; its length is given back. Two outcomes that this

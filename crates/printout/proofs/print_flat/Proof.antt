@@ -13,10 +13,10 @@ flatten-requires : tie.Need-flatten-requires
 flatten-requires c κs = search needs
 
 slice-reshare-prefix-list : tie.Need-slice-reshare-prefix-list
-slice-reshare-prefix-list c = flat-left (c .before .before .before .flatten .ensures) .fits
+slice-reshare-prefix-list c = flat-left (c .before .before .before .before .flatten .ensures) .fits
 
 slice-aggregate-list : tie.Need-slice-aggregate-list
-slice-aggregate-list c = let f = flat-left (c .before .before .before .before .flatten .ensures) in sym (ap (λ (l : List ℕ). length l) (f .is) ∙ f .size)
+slice-aggregate-list c = let f = flat-left (c .before .before .before .before .before .flatten .ensures) in sym (ap (λ (l : List ℕ). length l) (f .is) ∙ f .size)
 
 list-requires : tie.Need-list-requires
 list-requires c κs = search needs
@@ -31,7 +31,7 @@ same-length-3 : tie.Need-same-length-3
 same-length-3 c = search needs
 
 returns : tie.Need-returns
-returns c = printed (c .before .before .before .before .before .before .before .before .before .before .before .before .before .before .pre .0) (c .before .before .before .before .before .before .before .before .before .before .before .before .before .before .pre .1) (c .before .before .before .before .before .before .before .before .before .before .before .before .before .before .pre .2) (c .before .before .before .before .before .before .before .before .before .before .before .before .before .before .pre .3) (c .before .before .before .before .before .before .before .before .flatten .ensures) (c .before .before .list .ensures)
+returns c = printed (c .before .before .before .before .before .before .before .before .before .before .before .before .before .before .before .before .pre .0) (c .before .before .before .before .before .before .before .before .before .before .before .before .before .before .before .before .pre .1) (c .before .before .before .before .before .before .before .before .before .before .before .before .before .before .before .before .pre .2) (c .before .before .before .before .before .before .before .before .before .before .before .before .before .before .before .before .pre .3) (c .before .before .before .before .before .before .before .before .before .before .flatten .ensures) (c .before .before .before .list .ensures)
 
 pub print-flat-spec : {M : Type 1} → statement M
 print-flat-spec =

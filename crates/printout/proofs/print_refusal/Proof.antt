@@ -14,6 +14,9 @@ refused-outside-requires c κs = search needs
 slice-aggregate-list : tie.Need-slice-aggregate-list
 slice-aggregate-list c = search needs
 
+slice-aggregate-list-2 : tie.Need-slice-aggregate-list-2
+slice-aggregate-list-2 c = search needs
+
 list-requires : tie.Need-list-requires
 list-requires c κs = search needs
 
@@ -21,7 +24,7 @@ same-length : tie.Need-same-length
 same-length c = search needs
 
 returns : tie.Need-returns
-returns c = refusal-laid _ (c .before .before .before .before .before .before .before .before .before .pre) (c .before .before .before .before .before .refused-outside .ensures) (c .before .before .list .ensures)
+returns c = refusal-laid _ (c .before .before .before .before .before .before .before .before .before .before .before .pre) (c .before .before .before .before .before .before .before .refused-outside .ensures) (c .before .before .before .list .ensures)
 
 pub print-refusal-spec : {M : Type 1} → statement M
 print-refusal-spec =
@@ -30,6 +33,7 @@ print-refusal-spec =
     no-counts-requires
     refused-outside-requires
     slice-aggregate-list
+    slice-aggregate-list-2
     list-requires
     same-length
     returns)
