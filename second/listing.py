@@ -1,5 +1,6 @@
-"""What document 01's list program prints of a text, by the second opinion: its flat file is listed by the section on the list program, with the window of
-request 6. Sentences in quotation marks are document 01's, those after "request" document 02's."""
+"""What document 01's list program prints of a text, by the second opinion: its flat file is listed by the section on the list program, with the warnings of
+request 1 before the total and the window of request 6. Sentences in quotation marks are document 01's, those after "request" document 02's, those after
+"7.1.2.4" Chapter 7's."""
 import reader
 
 MOST = 32_768  # "takes at most 32,768 bytes; a longer one is refusal 1. Its room is 32,768 bytes."
@@ -56,6 +57,29 @@ def shapes_of(flat):
             yield layer, letter, [int(n) for n in rest.split(" ")]
 
 
+def warnings(text):
+    """The warnings of a text that is not refused, in the order of their commands. Request 1: "They come in the order of their commands and change no answer." """
+    live, symbol, calls = {}, None, []  # the live symbols, each with the calls of its body in written order
+    for command in reader.commands(text):
+        if command.kind == "DS":
+            symbol, calls = command.numbers[0].value, []
+        elif command.kind == "C":
+            calls.append(command)
+        elif command.kind == "DF":
+            # 7.1.2.4: "If a symbol definition is encountered that defines a symbol number already recorded in the symbol table, the old definition is replaced
+            # by the new one, and a warning message is issued. The message should read: "Warning: symbol n redefined." "
+            if symbol in live:
+                yield "Warning: symbol %d redefined.\n" % symbol
+            live[symbol], calls = calls, []
+        elif command.kind == "DD":
+            live = {n: body for n, body in live.items() if n < command.numbers[0].value}
+            # request 1: "The second is due after a DD when some live definition calls a number that is not live. After it and a tab stands the place of a
+            # call: the first live definition, and in it the first call that finds nothing, definitions taken by number."
+            dangling = [call for n in sorted(live) for call in live[n] if call.numbers[0].value not in live]
+            if dangling:
+                yield "Warning: dangling references after DD.\t%d\n" % dangling[0].place
+
+
 def lines_of(text, drawn):
     """The same where it is known what the reader says of the text in a room that always suffices."""
     answer = reader.put(drawn, MOST)
@@ -65,6 +89,7 @@ def lines_of(text, drawn):
         return line("refused", answer.number, answer.place, answer.line, answer.column, *answer.chain).encode()
     shapes = list(shapes_of(answer.flat))
     out = [line("shape", count, layer, letter, " ".join(map(str, numbers))) for count, (layer, letter, numbers) in enumerate(shapes, 1)]
+    out += warnings(text)  # request 1: "directly before the `total` line"
     out.append(line("total", answer.shapes, answer.calls, answer.redefinitions))
     found = window((letter, numbers) for _, letter, numbers in shapes)
     out.append(line("window", *found) if found else line("window", "none"))

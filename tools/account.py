@@ -1,9 +1,9 @@
-"""An account of refusals 2 to 9, of rounded distances, of words and of chains that knows neither the project's tables nor how they are made: `agree` holds a
-written answer to it.
+"""An account of refusals 2 to 9, of rounded distances, of words, of chains and of warnings that knows neither the project's tables nor how they are made: `agree` holds a
+written answer to it, `agree_list` a written list.
 
 It follows the printed rules of section 7.1.1 over sets of places, and finds refusals 3 to 9 by document 01's table and document 02's request 2. What the live
 bodies need by request 10 it adds up without drawing anything. A chain of request 4 it does not find, but follows: call by call to the place, and what is
-refused there must be so in those calls.
+refused there must be so in those calls. The warnings of request 1 it finds from the places of all calls, those of a live body by the DS that they stand in.
 """
 import sys
 
@@ -346,3 +346,31 @@ def agree(text, stuck, answer, words=None):
     in_calls = 11 <= answer.number <= 17 or answer.number == 20
     if (answer.line, answer.column) != where or not (leads(text, answer) if in_calls else answer.chain == ()):
         sys.exit(f"no agreement on {text!r}: {answer} is written, the account says {where}, and that the chain does not lead there")
+
+
+# ---- request 1: the warnings of a text that is not refused
+
+
+def warnings(text):
+    calls, before = [], {}
+    for at, (kind, what, inside, live) in bodies(text):
+        if kind == "C" and inside is not None:
+            calls.append((at, inside, what[0][1]))
+        elif kind == "DF":
+            # the entry of a number changed, or there is one more
+            yield from ("Warning: symbol %d redefined." % n for n in before if live[n] != before[n])
+        elif kind == "DD":
+            numbers = {start: n for n, start in live.items()}
+            found = min(((numbers[start], place) for place, start, callee in calls if start in numbers and callee not in live), default=None)
+            if found:
+                yield "Warning: dangling references after DD.\t%d" % found[1]
+        before = live
+
+
+def agree_list(text, lines):
+    """Holds a written list to the warnings that are found here: they stand between the last shape and the total. A refusal is one line."""
+    rows = lines.decode().split("\n")
+    shapes = [row for row in rows if row.startswith("shape")]
+    found = [] if rows[0].startswith("refused") else list(warnings(text))
+    if rows[:len(shapes)] != shapes or rows[len(shapes):-3] != found:  # then come total, window, and nothing after the last line end
+        sys.exit(f"no agreement on the list of {text!r}: {rows} is written, the account warns {found}")

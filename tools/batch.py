@@ -3,7 +3,7 @@
 
 No answer is taken from the program. Those of the rows of tests/*.tsv and of the records of tests/requests/*.tsv stand there; the places of refusal 2 in document 01's texts and in texts that
 are cut short or hold a byte from 128 up stand in tools/each_rule.py; for all others, and for what is listed, the second opinion (second/) is asked.
-Whatever the source of an answer, the account of tools/account.py has to agree with it. Each flat file is flattened again, in a room that just holds it.
+Whatever the source of an answer, the account of tools/account.py has to agree with it, and with the warnings of a list. Each flat file is flattened again, in a room that just holds it.
 """
 import os
 import sys
@@ -65,7 +65,9 @@ def drawn(text, answer):
 def listed(asked):
     """Task 2: what the list program prints."""
     for text, answer in asked.items():
-        yield records.record(records.LIST, text), records.listed(listing.lines_of(text, drawn(text, answer)))
+        lines = listing.lines_of(text, drawn(text, answer))
+        account.agree_list(text, lines)
+        yield records.record(records.LIST, text), records.listed(lines)
 
 
 def requests():
@@ -76,6 +78,8 @@ def requests():
         if one.task == records.FLATTEN:
             answer = reader.flatten(one.text, one.room, None if one.words == records.LARGEST else one.words)
             account.agree(one.text, account.place(one.text), answer, None if one.words == records.LARGEST else one.words)
+        if one.task == records.LIST:
+            account.agree_list(one.text, one.told.split(b"\n", 1)[1])
         yield one.record, one.told
 
 

@@ -19,10 +19,10 @@ slice-relend-prefix-list : tie.Need-slice-relend-prefix-list
 slice-relend-prefix-list c = search needs
 
 slice-aggregate-list : tie.Need-slice-aggregate-list
-slice-aggregate-list c = sym (length-take-le 132096 (c .before .before .before .before .args .room .now) (search needs))
+slice-aggregate-list c = sym (length-take-le 623616 (c .before .before .before .before .args .room .now) (search needs))
 
 list-requires : tie.Need-list-requires
-list-requires c κs = length-take-le 132096 (c .before .before .before .before .args .room .now) (search needs)
+list-requires c κs = length-take-le 623616 (c .before .before .before .before .args .room .now) (search needs)
 
 slice-aggregate-write : tie.Need-slice-aggregate-write
 slice-aggregate-write c = search needs
