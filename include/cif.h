@@ -93,14 +93,19 @@ enum cif_word {
 void cif_flatten(const unsigned char *text, size_t text_length, int32_t *words, size_t words_length, unsigned char *room, size_t room_length,
                  uint64_t answer[CIF_WORDS]);
 
-/* Lists what was drawn, from an answer of cif_flatten and the flat file that goes with it (of a refusal: no bytes): a line for each shape, with its count,
-   layer, kind and numbers, then the totals and the window, which holds all figures and is in half units (all four numbers doubled); or of a refusal one line
-   with its number, place, line and column and the places of the open calls. Fields are separated by tabs.
+/* Lists what was drawn, from a text, an answer of cif_flatten to it and the flat file that goes with it (of a refusal: no bytes): a line for each shape, with its
+   count, layer, kind and numbers, then the warnings, the totals and the window, which holds all figures and is in half units (all four numbers doubled); or of a
+   refusal one line with its number, place, line and column and the places of the open calls. Fields are separated by tabs.
+
+   The warnings come from the text: a line for each definition that replaced one of the same number, and one for each DD after which some definition calls a
+   number that is not defined, with the place of the first such call of the lowest such definition, in the order of the commands. The words are lent for the
+   bodies of definitions, as many as to cif_flatten; whatever stood in them, they are all 0 afterwards.
 
    The lines come to stand at the start of `out`, as far as it reaches; the rest of it is unchanged. Given back is how many bytes they are, whatever the
-   length of `out`: a call with an `out` of no bytes measures. For a flat file of cif_flatten that is at most four times its length and 1,024 more. Of a
-   flat file that is longer than CIF_MOST_BYTES nothing is listed. */
-size_t cif_list(const unsigned char *flat, size_t flat_length, const uint64_t answer[CIF_WORDS], unsigned char *out, size_t out_length);
+   length of `out`: a call with an `out` of no bytes measures. For a flat file of cif_flatten that is at most four times its length, fifteen times that of the
+   text, and 1,024 more. Of a flat file that is longer than CIF_MOST_BYTES nothing is listed. */
+size_t cif_list(const unsigned char *text, size_t text_length, int32_t *words, size_t words_length, const unsigned char *flat, size_t flat_length,
+                const uint64_t answer[CIF_WORDS], unsigned char *out, size_t out_length);
 
 /* The first of refusals 2 to 9 of a text of any length, with nothing drawn: answer[CIF_NUMBER], answer[CIF_PLACE], answer[CIF_LINE] and answer[CIF_COLUMN] as
    above, or all 0 where there is none. All other words are 0. */

@@ -20,14 +20,6 @@ struct callers {
   int deepest;
 };
 
-/* The first number of a command, from the place on. */
-static uint32_t number_from(struct bytes text, size_t at, size_t end) {
-  uint32_t number = 0;
-  while (at < end && !is_digit(text.at[at])) at++;
-  for (; at < end && is_digit(text.at[at]) && number < 100000000; at++) number = number * 10 + (uint32_t)(text.at[at] - '0');
-  return number;
-}
-
 static struct symbol *find_symbol(struct callers *callers, uint32_t number) {
   for (size_t i = 0; i < callers->live_count; i++) {
     if (callers->live[i].number == number) return &callers->live[i];
@@ -72,7 +64,7 @@ static void walk_over_calls(struct callers *callers, struct bytes text) {
   bool defining = false;
   while (next_command(&walk, &command)) {
     unsigned char second = command.letter == 'D' ? second_letter(text, &command) : 0;
-    uint32_t number = number_from(text, command.start, command.end);
+    uint32_t number = first_number(text, &command);
     if (second == 'S') open = (struct symbol){number, callers->used, 0}, defining = true;
     if (second == 'D') delete_from(callers, number);
     if (second == 'F') {

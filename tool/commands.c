@@ -46,6 +46,14 @@ unsigned char second_letter(struct bytes text, const struct command *command) {
   return at < command->end ? text.at[at] : 0;
 }
 
+uint32_t first_number(struct bytes text, const struct command *command) {
+  uint32_t number = 0;
+  size_t at = command->start;
+  while (at < command->end && !is_digit(text.at[at])) at++;
+  for (; at < command->end && is_digit(text.at[at]) && number < 100000000; at++) number = number * 10 + (uint32_t)(text.at[at] - '0');
+  return number;
+}
+
 static void finish_command(struct bytes text, const struct command *command, struct context *context) {
   unsigned char second = command->letter == 'D' ? second_letter(text, command) : 0;
   if (second == 'S') context->definition = command->start;

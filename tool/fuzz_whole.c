@@ -115,14 +115,34 @@ void cif_flatten(const unsigned char *text, size_t text_length, int32_t *words, 
   fuzz_state = kept;
 }
 
-size_t cif_list(const unsigned char *flat, size_t flat_length, const uint64_t answer[CIF_WORDS], unsigned char *out, size_t out_length) {
-  char lines[400];
+/* Warnings whose places are anywhere in the text; now and then more than are told, and some that no definition and no call of the text is for. */
+static int warn(char *lines, size_t text_length) {
+  int length = 0;
+  for (unsigned count = below(4) == 0 ? below(60) : 0; count > 0; count--) {
+    if (below(2) == 0) length += snprintf(lines + length, 60, "Warning: symbol %u redefined.\n", below(4) == 0 ? below(16777216) : 1);
+    else length += snprintf(lines + length, 60, "Warning: dangling references after DD.\t%u\n", below((unsigned)text_length + 1));
+  }
+  return length;
+}
+
+size_t cif_list(const unsigned char *text, size_t text_length, int32_t *words, size_t words_length, const unsigned char *flat, size_t flat_length,
+                const uint64_t answer[CIF_WORDS], unsigned char *out, size_t out_length) {
+  char lines[400 + 60 * 60];
   uint64_t kept = fuzz_state;
+  int length = 0;
+  demand(words != NULL && words_length >= text_length, "the words", &standard_error);
   fuzz_state = seed_of(flat, flat_length);
-  int length = 0, far = (int)below(67108861), near = (int)below(300);
-  if (answer[CIF_NUMBER] != 0) length = snprintf(lines, sizeof lines, "refused\t%u\t%u\n", (unsigned)answer[CIF_NUMBER], (unsigned)answer[CIF_PLACE]);
-  else if (below(4) == 0) length = snprintf(lines, sizeof lines, "total\t0\t0\t0\nwindow\tnone\n");
-  else length = snprintf(lines, sizeof lines, "shape\t1\tA\tR\t1 0 0\ntotal\t1\t0\t0\nwindow\t%d\t%d\t%d\t%d\n", -far, -near, near, far);
+  int far = (int)below(67108861), near = (int)below(300);
+  bool some = below(4) != 0;
+  if (answer[CIF_NUMBER] != 0) {
+    length = snprintf(lines, 200, "refused\t%u\t%u\n", (unsigned)answer[CIF_NUMBER], (unsigned)answer[CIF_PLACE]);
+  } else {
+    if (some) length = snprintf(lines, 200, "shape\t1\tA\tR\t1 0 0\n");
+    fuzz_state = seed_of(text, text_length);
+    length += warn(lines + length, text_length);
+    if (some) length += snprintf(lines + length, 200, "total\t1\t0\t0\nwindow\t%d\t%d\t%d\t%d\n", -far, -near, near, far);
+    else length += snprintf(lines + length, 200, "total\t0\t0\t0\nwindow\tnone\n");
+  }
   fuzz_state = kept;
   memcpy(out, lines, out_length < (size_t)length ? out_length : (size_t)length);
   return (size_t)length;

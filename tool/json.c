@@ -54,6 +54,25 @@ static void put_hints(struct output *out, struct bytes text, const struct hints 
   put_text(out, "]");
 }
 
+static void put_warnings(struct output *out, struct bytes text, const struct warnings *warnings) {
+  put_field(out, "warned");
+  if (warnings->left_out) put_text(out, "null");
+  else put_number(out, (int64_t)warnings->total);
+  put_field(out, "warnings");
+  put_text(out, "[");
+  for (size_t i = 0; i < warnings->count; i++) {
+    const struct warning *warning = &warnings->all[i];
+    put_text(out, i == 0 ? "{\"name\":" : ",{\"name\":");
+    put_string(out, warning->name);
+    put_place(out, warning->place, position_of(text, warning->place));
+    put_number_field(out, "times", warning->times);
+    put_field(out, "message");
+    put_string(out, warning->words);
+    put_text(out, "}");
+  }
+  put_text(out, "]");
+}
+
 /* In CIF's unit, as all else is here: half units may end in .5. */
 static void put_window(struct output *out, const struct window *window) {
   put_field(out, "window");
@@ -118,7 +137,7 @@ void put_unread(struct output *out, const char *name) {
   put_text(out, ",\"status\":\"unread\"}\n");
 }
 
-bool put_json(struct output *out, const struct reading *reading, const struct hints *hints) {
+bool put_json(struct output *out, const struct reading *reading, const struct remarks *remarks) {
   bool accepted = reading->answer[CIF_NUMBER] == 0;
   struct layers layers = {0};
   struct window window = {0};
@@ -132,7 +151,8 @@ bool put_json(struct output *out, const struct reading *reading, const struct hi
       put_counts(out, reading);
       put_window(out, &window);
       put_layers(out, &layers);
-      put_hints(out, reading->text, hints);
+      put_warnings(out, reading->text, &remarks->warnings);
+      put_hints(out, reading->text, &remarks->hints);
     }
     put_text(out, "}\n");
   }

@@ -12,18 +12,28 @@ bool flatten(struct bytes text, unsigned char *room, uint64_t answer[CIF_WORDS])
   return true;
 }
 
-/* Asked for with no room first, to learn how long the list is. NULL where there is no memory; else to be freed. */
-static unsigned char *listing_of(struct bytes flat, const uint64_t answer[CIF_WORDS], size_t *length) {
-  unsigned char none;
-  *length = cif_list(flat.at, flat.count, answer, &none, 0);
-  unsigned char *lines = malloc(*length);
-  if (lines != NULL) (void)cif_list(flat.at, flat.count, answer, lines, *length);
+/* Asked for with no room first, to learn how long the list is. As many words are lent as the text has bytes. NULL where there is no memory; else to be freed. */
+static unsigned char *listing_of(struct bytes text, struct bytes flat, const uint64_t answer[CIF_WORDS], size_t *length) {
+  unsigned char none, *lines = NULL;
+  int32_t *words = calloc(text.count + 1, sizeof *words);
+  if (words == NULL) return NULL;
+  *length = cif_list(text.at, text.count, words, text.count, flat.at, flat.count, answer, &none, 0);
+  lines = malloc(*length);
+  if (lines != NULL) (void)cif_list(text.at, text.count, words, text.count, flat.at, flat.count, answer, lines, *length);
+  free(words);
   return lines;
+}
+
+/* Of no shapes, and an answer without counts. */
+static const uint64_t nothing[CIF_WORDS];
+
+unsigned char *warning_lines(const struct reading *reading, size_t *length) {
+  return listing_of(reading->text, (struct bytes){reading->flat.at, 0}, nothing, length);
 }
 
 bool put_list(struct output *out, const struct reading *reading) {
   size_t length;
-  unsigned char *lines = listing_of(reading->flat, reading->answer, &length);
+  unsigned char *lines = listing_of(reading->text, reading->flat, reading->answer, &length);
   if (lines == NULL) return false;
   put(out, lines, length);
   free(lines);
@@ -51,10 +61,11 @@ static struct window last_window(const unsigned char *lines, size_t length) {
   return window;
 }
 
+/* The flat file is no text's, so the shortest text goes with it, which warns of nothing. */
 static bool ask_window(struct bytes flat, struct window *window) {
-  static const uint64_t nothing[CIF_WORDS];
+  static const unsigned char end[] = "E";
   size_t length;
-  unsigned char *lines = listing_of(flat, nothing, &length);
+  unsigned char *lines = listing_of((struct bytes){end, 1}, flat, nothing, &length);
   if (lines == NULL) return false;
   *window = last_window(lines, length);
   free(lines);

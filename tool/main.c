@@ -5,7 +5,7 @@
 
 #include "tool.h"
 
-#define VERSION "3.3"
+#define VERSION "4.0"
 
 static const char help[] =
     "cif reads layouts in CIF 2.0 (Caltech Intermediate Form) and answers exactly as the\n"
@@ -13,17 +13,17 @@ static const char help[] =
     "\n"
     "  cif check FILE ..            tell whether each FILE is accepted, and what it draws\n"
     "  cif flat FILE [-o OUT]       write the flat file: layers and shapes, every call drawn\n"
-    "  cif list FILE [-o OUT]       a line for each shape, the totals and the window\n"
+    "  cif list FILE [-o OUT]       a line for each shape, warnings, the totals and the window\n"
     "  cif plot FILE [-o OUT.svg]   a picture of the shapes, layer by layer\n"
     "  cif summary FILE [-o OUT]    shapes by layer and kind, windows, symbols, depth of calls\n"
     "  cif compare A B              tell whether two texts draw the same shapes\n"
     "  cif join A B .. [-o OUT]     one text that draws what A draws, then what B draws, ..\n"
     "  cif -h, --help; cif -V, --version\n"
     "\n"
-    "  -q           with check: say nothing about texts accepted without a hint\n"
+    "  -q           with check: say nothing about texts accepted without a hint or warning\n"
     "  --json       with check: a JSON object for each FILE, on a line of its own\n"
     "  --any-order  with compare: whatever the order of the shapes\n"
-    "  --strict     an accepted text that gets a hint ends with status 1 too\n"
+    "  --strict     an accepted text that gets a hint or a warning ends with status 1 too\n"
     "  --window x y x y   with plot: what lies between two corners, in microns\n"
     "  --layers NM,NP     with plot: these layers only\n"
     "  --size 1600        with plot: pixels of the frame's longer side, usually 800\n"
@@ -228,13 +228,25 @@ static bool read_text(const char *file, struct reading *reading) {
 
 static bool accepted(const struct reading *reading) { return reading->answer[CIF_NUMBER] == 0; }
 
-static void look_for_hints(const struct reading *reading, struct hints *hints) {
-  hints->count = 0;
-  if (accepted(reading)) find_hints(reading->text, reading->answer, hints);
+/* What there is to tell of an accepted text beside its answer. A complaint and false where memory is short. */
+static bool look_for_remarks(const struct reading *reading, struct remarks *remarks) {
+  remarks->hints.count = 0;
+  if (accepted(reading)) find_hints(reading->text, reading->answer, &remarks->hints);
+  start_progress(reading->name);
+  bool found = find_warnings(reading, &remarks->warnings);
+  end_progress();
+  if (!found) complain("not enough memory to look for warnings in", reading->name, 0);
+  return found;
 }
 
-static enum status status_of(const struct request *request, const struct reading *reading, const struct hints *hints) {
-  return accepted(reading) && ((request->given & STRICT) == 0 || hints->count == 0) ? ACCEPTED : REFUSED;
+static void tell_remarks(const struct reading *reading, const struct remarks *remarks, bool whole) {
+  tell_warnings(&standard_error, reading, &remarks->warnings, whole);
+  tell_hints(&standard_error, reading->name, reading->text, &remarks->hints);
+}
+
+static enum status status_of(const struct request *request, const struct reading *reading, const struct remarks *remarks) {
+  bool remarkable = remarks->hints.count > 0 || remarks->warnings.count > 0 || remarks->warnings.left_out;
+  return accepted(reading) && ((request->given & STRICT) == 0 || !remarkable) ? ACCEPTED : REFUSED;
 }
 
 /* ---- check */
@@ -254,10 +266,10 @@ static void put_counts(struct output *out, const struct reading *reading) {
 }
 
 static enum status check_reading(const struct request *request, struct output *out, const struct reading *reading) {
-  static struct hints hints;
-  look_for_hints(reading, &hints);
+  static struct remarks remarks;
+  if (!look_for_remarks(reading, &remarks)) return COULD_NOT_RUN;
   if ((request->given & JSON) != 0) {
-    if (!put_json(out, reading, &hints)) return complain("not enough memory to show", reading->name, 0);
+    if (!put_json(out, reading, &remarks)) return complain("not enough memory to show", reading->name, 0);
   } else {
     if (accepted(reading) && (request->given & QUIET) == 0) {
       put_counts(out, reading);
@@ -265,11 +277,11 @@ static enum status check_reading(const struct request *request, struct output *o
     }
     flush(out);
     if (!accepted(reading)) tell_refusal(&standard_error, reading, request->count == 1);
-    tell_hints(&standard_error, reading->name, reading->text, &hints);
+    tell_remarks(reading, &remarks, request->count == 1);
   }
   flush(out);
   flush(&standard_error);
-  return status_of(request, reading, &hints);
+  return status_of(request, reading, &remarks);
 }
 
 static enum status check_file(const struct request *request, struct output *out, const char *file) {
@@ -285,7 +297,7 @@ static enum status check_file(const struct request *request, struct output *out,
 
 /* "3 files: 2 accepted, 1 refused" */
 static void put_tally(struct output *out, const struct request *request, const int tally[3]) {
-  const char *const words[] = {" accepted", (request->given & STRICT) != 0 ? " refused or with a hint" : " refused", " could not be read"};
+  const char *const words[] = {" accepted", (request->given & STRICT) != 0 ? " refused or with a hint or warning" : " refused", " could not be read"};
   put_count(out, (uint64_t)request->count, " file");
   for (int status = 0; status < 3; status++) {
     if (status == COULD_NOT_RUN && tally[status] == 0) continue;
@@ -327,15 +339,14 @@ static bool show(const struct request *request, const struct reading *reading) {
 }
 
 static enum status show_file(const struct request *request) {
-  static struct hints hints;
+  static struct remarks remarks;
   struct reading reading;
   if (!read_text(request->files[0], &reading)) return COULD_NOT_RUN;
-  bool shown = show(request, &reading);
-  look_for_hints(&reading, &hints);
+  bool shown = show(request, &reading) && look_for_remarks(&reading, &remarks);
   if (!accepted(&reading)) tell_refusal(&standard_error, &reading, true);
-  else if (shown) tell_hints(&standard_error, reading.name, reading.text, &hints);
+  else if (shown) tell_remarks(&reading, &remarks, true);
   flush(&standard_error);
-  enum status status = shown ? status_of(request, &reading, &hints) : COULD_NOT_RUN;
+  enum status status = shown ? status_of(request, &reading, &remarks) : COULD_NOT_RUN;
   release_reading(&reading);
   return status;
 }
@@ -384,14 +395,13 @@ static void put_not_joined(const struct request *request, const char *why, const
 /* Every text must be accepted by itself: of such texts it is proved that the joined one draws their shapes one after another. One that sets no layer, say, would be
    drawn too, but on the last layer of the text before it. All are looked at, and those up to the first that cannot be joined are joined. */
 static enum status join_file(const struct request *request, struct joined *joined, int which) {
-  static struct hints hints;
+  static struct remarks remarks;
   struct reading reading;
   if (!read_text(request->files[which], &reading)) return COULD_NOT_RUN;
-  look_for_hints(&reading, &hints);
-  enum status status = status_of(request, &reading, &hints);
+  enum status status = look_for_remarks(&reading, &remarks) ? status_of(request, &reading, &remarks) : COULD_NOT_RUN;
   if (!accepted(&reading)) tell_refusal(&standard_error, &reading, true);
-  else tell_hints(&standard_error, reading.name, reading.text, &hints);
-  if (accepted(&reading) && joined->count == which && !add_text(joined, reading.name, reading.text)) {
+  else if (status != COULD_NOT_RUN) tell_remarks(&reading, &remarks, true);
+  if (accepted(&reading) && status != COULD_NOT_RUN && joined->count == which && !add_text(joined, reading.name, reading.text)) {
     put_not_joined(request, "the joined text would be longer than 16,777,216 bytes with ", reading.name);
     put_text(&standard_error, "\n");
     status = REFUSED;

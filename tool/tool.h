@@ -113,6 +113,8 @@ struct command_walk {
 bool next_command(struct command_walk *walk, struct command *command);
 /* The S, F or D of a D command, or 0 where it ends before that. */
 unsigned char second_letter(struct bytes text, const struct command *command);
+/* The first number of a command. */
+uint32_t first_number(struct bytes text, const struct command *command);
 
 struct context {
   unsigned char letter; /* the first byte of the command that is being read, or 0 between commands */
@@ -134,7 +136,7 @@ struct position {
   size_t line, column; /* both from 1; a line ends with byte 10 */
 };
 
-/* For places whose line no answer tells: of hints, of shapes that are compared, of open calls, and of where a command began. */
+/* For places whose line no answer tells: of hints, of warnings, of shapes that are compared, of open calls, and of where a command began. */
 struct position position_of(struct bytes text, size_t place);
 /* The line around the place, cut where it is long, and a caret under the place. */
 void put_excerpt(struct output *out, struct bytes text, size_t place);
@@ -183,6 +185,40 @@ struct hints {
 void find_hints(struct bytes text, const uint64_t answer[CIF_WORDS], struct hints *hints);
 /* A line for each. */
 void tell_hints(struct output *out, const char *name, struct bytes text, const struct hints *hints);
+
+/* ---- warnings.c: what the list warns of, for the eye. */
+
+enum { MOST_WARNINGS = 20, WARNING_WORDS = 160 };
+
+enum warning_kind { REDEFINED, DANGLING };
+
+struct warning {
+  enum warning_kind kind;
+  const char *name; /* of its kind, for programs */
+  uint32_t symbol;  /* that is redefined */
+  size_t place;     /* of the DS that redefines it, or of the call that dangles */
+  size_t before;    /* of the DS that is redefined, or the same place where that cannot be told */
+  uint64_t times;   /* after so many DD: of a redefinition 1 */
+  char words[WARNING_WORDS];
+};
+
+struct warnings {
+  bool left_out;  /* they were not looked for, since that would take long */
+  uint64_t total; /* lines of the list */
+  size_t count;   /* of them those that are told, each place once */
+  struct warning all[MOST_WARNINGS];
+};
+
+/* None for a refused text. False where there is no memory. */
+bool find_warnings(const struct reading *reading, struct warnings *warnings);
+/* A line for each, and where a call dangles the line around it too, unless only first lines are wanted. */
+void tell_warnings(struct output *out, const struct reading *reading, const struct warnings *warnings, bool whole);
+
+/* What is told of an accepted text beside its answer. */
+struct remarks {
+  struct warnings warnings;
+  struct hints hints;
+};
 
 /* ---- shapes.c: the shapes of a flat file, one after another. */
 
@@ -266,6 +302,9 @@ bool next_on_layer(struct layer_walk *layer, struct shape *shape);
 /* The answer to a text, in a room of CIF_MOST_BYTES bytes. As many words are lent as the text has bytes, and one more element is there, so that there are some for
    an empty text too: 25 never comes. False where there is no memory. */
 bool flatten(struct bytes text, unsigned char *room, uint64_t answer[CIF_WORDS]);
+/* The lines of an accepted text's list without its shapes: the warnings, and then the totals and the window of nothing. NULL where there is no memory; else to be
+   freed. */
+unsigned char *warning_lines(const struct reading *reading, size_t *length);
 /* The list of a text, accepted or refused. False where there is no memory. */
 bool put_list(struct output *out, const struct reading *reading);
 /* The window of each layer and of all of them. False where there is no memory. */
@@ -327,7 +366,7 @@ struct reading refused_text(const struct joined *joined, const uint64_t answer[C
 /* ---- json.c */
 
 /* False where there is no memory; then nothing is put. */
-bool put_json(struct output *out, const struct reading *reading, const struct hints *hints);
+bool put_json(struct output *out, const struct reading *reading, const struct remarks *remarks);
 /* For a file that cannot be read. */
 void put_unread(struct output *out, const char *name);
 

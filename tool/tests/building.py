@@ -58,7 +58,7 @@ def expect_library(path):
     expect(offered == set(re.findall(r"^(?:void|size_t) (cif_\w+)\(", header, re.M)) and len(offered) == 5, "what the shared library offers", offered)
     expect([value for tag, value in tags if tag == 1] == ["libc.so.6"] and wanted <= {"memset", "memcpy", "memmove", "memcmp", "__cxa_finalize", "__gmon_start__",
            "_ITM_deregisterTMCloneTable", "_ITM_registerTMCloneTable"}, "what it asks for", tags, wanted)
-    expect([value for tag, value in tags if tag == 14] == ["libcif.so.3"] and os.readlink(path) == "libcif.so.3", "its name", tags)
+    expect([value for tag, value in tags if tag == 14] == ["libcif.so.4"] and os.readlink(path) == "libcif.so.4", "its name", tags)
     expect(all(tag != 22 for tag, _ in tags), "no code has to be changed where it is loaded", tags)
 
 
@@ -189,8 +189,8 @@ def test_install():
     done = ran(install, env={**os.environ, "PREFIX": prefix})
     expect(done.returncode == 2 and b"nothing is built yet" in done.stdout and not os.path.exists(prefix), "an install before the build", done)
     shutil.copytree(Run.built, os.path.join(place, "target", "tool"), symlinks=True)
-    files = {"bin/cif": 0o755, "share/man/man1/cif.1": 0o644, "share/bash-completion/completions/cif": 0o644, "include/cif.h": 0o644, "lib/libcif.a": 0o644, "lib/libcif.so.3": 0o755,
-             "lib/libcif.so": "libcif.so.3", "lib/pkgconfig/cif.pc": 0o644}
+    files = {"bin/cif": 0o755, "share/man/man1/cif.1": 0o644, "share/bash-completion/completions/cif": 0o644, "include/cif.h": 0o644, "lib/libcif.a": 0o644, "lib/libcif.so.4": 0o755,
+             "lib/libcif.so": "libcif.so.4", "lib/pkgconfig/cif.pc": 0o644}
     if os.path.exists(os.path.join(Run.built, "cif.x86-64")):
         files["bin/cif.x86-64"] = 0o755
     env = {**os.environ, "PREFIX": prefix}

@@ -1,8 +1,10 @@
 """What all tests of the tool use: the tool itself, files to try it on, and what is done when something is not as it should be."""
 import os
 import subprocess
+import sys
 
 TOP = os.path.dirname(os.path.dirname(os.path.dirname(os.path.abspath(__file__))))
+sys.path.append(os.path.join(TOP, "tools"))
 MOST = 16777216  # bytes of a text and of a flat file
 BUILT = b"target/tool/cif and target/tool/libcif.so are built: try target/tool/cif --help\n"  # the build's last line
 EXAMPLE = b"DS 7 50 2; L CM; B 4 2 1 0; DF; C 7 MX T 100 0; E"

@@ -97,10 +97,11 @@ def test_limits():
     expect(b"limit.cif:1:1: refused 18 at byte 0: " in rest and names[0].encode() not in rest, "a flat file that is too long", rest)
 
 
-def test_join_hints():
-    """Hints are those of each text, and change no answer."""
-    for words, status in (([], 0), (["--strict"], 1)):
-        names = files(b"LA;R1 0 0;94 x;E", EXAMPLE)
-        done = cif("join", *words, *names)
-        expect((done.returncode, done.stdout) == (status, joined(b"LA;R1 0 0;94 x;E", EXAMPLE)), "a hint", words, done)
-        expect(done.stderr.startswith(names[0].encode() + b":1:11: hint: "), "a hint is told with its text", done.stderr)
+def test_join_remarks():
+    """Hints and warnings are those of each text, and change no answer."""
+    for text, told in ((b"LA;R1 0 0;94 x;E", b":1:11: hint: "), (b"DS1;LA;R1 0 0;DF;DS1;LA;R2 0 0;DF;C1;E", b":1:18: warning: symbol 1 redefined: "), (b"DS1;C9;DF;DD5;LA;R1 0 0;E", b":1:5: warning: dangling ")):
+        for words, status in (([], 0), (["--strict"], 1)):
+            names = files(text, EXAMPLE)
+            done = cif("join", *words, *names)
+            expect((done.returncode, done.stdout) == (status, joined(text, EXAMPLE)), "a hint or a warning", text, words, done)
+            expect(done.stderr.startswith(names[0].encode() + told), "it is told with its text", text, done.stderr)

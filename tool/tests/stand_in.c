@@ -22,8 +22,9 @@ void cif_flatten(const unsigned char *text, size_t text_length, int32_t *words, 
   answer[CIF_SHAPES] = answer[CIF_CALLS] = 1;
 }
 
-size_t cif_list(const unsigned char *flat_file, size_t flat_length, const uint64_t answer[CIF_WORDS], unsigned char *out, size_t out_length) {
-  (void)flat_file, (void)flat_length, (void)answer;
+size_t cif_list(const unsigned char *text, size_t text_length, int32_t *words, size_t words_length, const unsigned char *flat_file, size_t flat_length,
+                const uint64_t answer[CIF_WORDS], unsigned char *out, size_t out_length) {
+  (void)text, (void)text_length, (void)words, (void)words_length, (void)flat_file, (void)flat_length, (void)answer;
   if (out_length > 0) out[0] = '\n';
   return 1;
 }

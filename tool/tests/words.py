@@ -4,6 +4,7 @@ import json
 import os
 import re
 
+import account
 from common import EXAMPLE, EXAMPLE_FLAT, EXAMPLE_LIST, MOST, TOP, cif, content, expect, scratch
 from refusals import expect_told, position
 
@@ -64,8 +65,8 @@ def reach(kind, n):
     return (n[0], n[1]) if n[5] == 0 else (n[1], n[0]) if n[4] == 0 else (n[0] + n[1], n[0] + n[1])
 
 
-def listed(flat, totals):
-    """Document 01's list of a flat file."""
+def listed(flat, totals, warnings):
+    """Document 01's list of a flat file, with the warnings that are due."""
     lines, layer, x, y = [], "", [], []
     for line in flat.decode().split("\n")[:-2]:
         kind, numbers = line[0], line[1:-1]
@@ -78,7 +79,7 @@ def listed(flat, totals):
         x += [2 * a + side for a in points[::2] for side in (-reach(kind, n)[0], reach(kind, n)[0])]
         y += [2 * b + side for b in points[1::2] for side in (-reach(kind, n)[1], reach(kind, n)[1])]
     window = [min(x), min(y), max(x), max(y)] if x else ["none"]
-    return "\n".join([*lines, "\t".join(["total", *totals]), "\t".join(["window", *map(str, window)]), ""]).encode()
+    return "\n".join([*lines, *warnings, "\t".join(["total", *totals]), "\t".join(["window", *map(str, window)]), ""]).encode()
 
 
 def try_vector(row):
@@ -88,7 +89,7 @@ def try_vector(row):
         return
     done = cif("list", "-", text=text)
     if number == 0:
-        expect((done.returncode, done.stdout) == (0, listed(flat, row[6:9])), "the list of a vector", text, done)
+        expect((done.returncode, done.stdout) == (0, listed(flat, row[6:9], account.warnings(text))), "the list of a vector", text, done)
         expect(cif("flat", "-", text=text).stdout == flat, "the flat file of a vector", text)
         expect(json.loads(cif("check", "--json", "-", text=text).stdout)["rounded"] == rounded, "the rounded distances of a vector", text)
     else:
@@ -131,7 +132,7 @@ def test_many_files():
         expect((done.returncode, done.stdout, done.stderr.decode().split("\n")[:-1]) == (status, b"", told), "check -q", files, done)
     expect(len(cif("check", "-q", bad).stderr.split(b"\n")) == 5, "one file is told of at length")
     done = cif("check", "--strict", good, odd)
-    expect(done.returncode == 1 and done.stdout.endswith(b"2 files: 1 accepted, 1 refused or with a hint\n"), "check --strict of several files", done)
+    expect(done.returncode == 1 and done.stdout.endswith(b"2 files: 1 accepted, 1 refused or with a hint or warning\n"), "check --strict of several files", done)
     expect(cif("check", "-", good, text=b"E").stdout.startswith(b"standard input: accepted: 0 shapes"), "standard input among several files")
 
 
@@ -165,7 +166,7 @@ def test_json():
     good, bad, odd, empty, _, none = found
     expect(none == {"file": files[-1], "status": "unread"}, "a file that cannot be read", none)
     expect(good == {"file": files[0], "status": "accepted", "number": 0, "bytes": 26, "shapes": 1, "calls": 1, "redefinitions": 0, "rounded": 0, "window": [25, -25, 125, 25],
-                    "layers": [{"name": "CM", "shapes": 1, "window": [25, -25, 125, 25]}], "hints": []}, "an accepted text", good)
+                    "layers": [{"name": "CM", "shapes": 1, "window": [25, -25, 125, 25]}], "warned": 0, "warnings": [], "hints": []}, "an accepted text", good)
     message = bad.pop("message", "")
     expect(bad == {"file": files[1], "status": "refused", "number": 2, "place": 11, "line": 2, "column": 8, "chain": []} and "this box" in message, "a refused text", bad)
     layers = [{"name": "A", "shapes": 2, "window": [-1.5, -1.5, 8, 8]}, {"name": "B", "shapes": 1, "window": [4, -6, 10, 10]}]
@@ -177,7 +178,8 @@ def test_json():
     expect(found[-1].pop("message") and found[-1] == {"file": "standard input", "status": "refused", "number": 13, "place": 5, "line": 2, "column": 1,
                                                       "chain": [{"place": 13, "line": 4, "column": 1}]}, "a text refused in a call", found[-1])
     page = content(os.path.join(TOP, "docs", "JSON.md")).decode()
-    names = {name for o in found + odd["layers"] + odd["hints"] for name in o} | {"message"}
+    warned = json.loads(cif("check", "--json", "-", text=b"DS1;DF;DS1;DF;C1;E").stdout)
+    names = {name for o in found + odd["layers"] + odd["hints"] + warned["warnings"] for name in o} | {"message"}
     expect(names == set(re.findall(r"^\| `([a-z]+)` \|", page, re.M)), "docs/JSON.md has every field", names)
 
 
