@@ -6,8 +6,8 @@ pub mod Seeking
 pub mod Looking
 pub mod Forgetting
 pub mod Entering
-pub mod Lowering
 pub mod Packing
+pub mod Walking
 pub mod Adding
 pub mod Storing
 pub mod Together

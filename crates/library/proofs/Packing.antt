@@ -13,10 +13,16 @@ use lib.Seq.{getD-set-same, getD-set-other}
 use Rattle.definition.specs.Words.{if_then_else_, Placed}
 use Rattle.definition.specs.Table.{Definition, Step}
 use Rattle.library.specs.Memory.{wordsAt, stepsIn, stepsOf, definitionAt, symbolAt, placeAt, startAt, lengthAt, sumOf, wordsHeld, most}
-use Rattle.library.specs.Moving.{Laid, Moved, Lowest, SameRow, lengthBelow, heldBelow, Covered, Compacted}
+use Rattle.library.specs.Moving.{Laid, Moved, SameRow, lengthBelow, heldBelow, Covered, Compacted}
 use Rattle.library.proofs.Runs.{same-words, same-table}
 use Rattle.library.proofs.Sums.{sum-same, sum-one}
 use Rattle.library.proofs.Cases.{by-row, by-place, none-or-some}
+
+-- of the first rows, the one whose body starts lowest from a place on; `none` where there is no such body
+pub record Lowest (rows : List ℕ) (none to seen best : ℕ) : Type 0 where
+  pub within : best ≡ none → (i : ℕ) → i < seen → 0 < lengthAt rows i → to ≤ startAt rows i → ⊥
+  pub real : (best ≡ none → ⊥) → (best < seen) × (0 < lengthAt rows best) × (to ≤ startAt rows best)
+  pub least : (best ≡ none → ⊥) → (i : ℕ) → i < seen → 0 < lengthAt rows i → to ≤ startAt rows i → startAt rows best ≤ startAt rows i
 
 pub record Packing (rows : List ℕ) (b : List ℤ) (live : ℕ) (rows′ : List ℕ) (b′ : List ℤ) (to : ℕ) : Type 0 where
   pub size : length b′ ≡ length b

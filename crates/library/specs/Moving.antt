@@ -5,7 +5,7 @@ use mathlib.Core.List.{List}
 use Prim.Native.Nat.{ℕ, _+_, _*_, _≤_, _<_}
 use lib.Dec.{ltb}
 use lib.IntN.{ℤ, pos}
-use lib.ListN.{length, getD}
+use lib.ListN.{length, getD, set}
 use Rattle.definition.specs.Words.{if_then_else_}
 use Rattle.library.specs.Memory.{wordsAt, tableOf, symbolAt, placeAt, startAt, lengthAt, neededAt, sumOf, wordsHeld, most, rowNumbers}
 
@@ -24,11 +24,29 @@ pub record Moved (b : List ℤ) (from to n : ℕ) (b′ : List ℤ) : Type 0 whe
   pub below : (k : ℕ) → k < to → getD b′ k (pos 0) ≡ getD b k (pos 0)
   pub above : (k : ℕ) → to + n ≤ k → getD b′ k (pos 0) ≡ getD b k (pos 0)
 
--- of the first rows, the one whose body starts lowest from a place on; `none` where there is no such body
-pub record Lowest (rows : List ℕ) (none to seen best : ℕ) : Type 0 where
-  pub within : best ≡ none → (i : ℕ) → i < seen → 0 < lengthAt rows i → to ≤ startAt rows i → ⊥
-  pub real : (best ≡ none → ⊥) → (best < seen) × (0 < lengthAt rows best) × (to ≤ startAt rows best)
-  pub least : (best ≡ none → ⊥) → (i : ℕ) → i < seen → 0 < lengthAt rows i → to ≤ startAt rows i → startAt rows best ≤ startAt rows i
+-- the first word of a row's body, if it has one, made way for the row's number, and is noted under that number
+pub record Numbered (rows : List ℕ) (i : ℕ) (b firsts b′ firsts′ : List ℤ) : Type 0 where
+  pub none : lengthAt rows i ≡ 0 → (b′ ≡ b) × (firsts′ ≡ firsts)
+  pub some : 0 < lengthAt rows i → (b′ ≡ set b (startAt rows i) (pos i)) × (firsts′ ≡ set firsts i (getD b (startAt rows i) (pos 0)))
+
+-- the bodies of the first rows, as far as they start from a place on, have their rows' numbers as first words, and those words are noted
+pub record Tagged (rows : List ℕ) (b : List ℤ) (seen at : ℕ) (b′ firsts : List ℤ) : Type 0 where
+  pub size : length b′ ≡ length b
+  pub many : length firsts ≡ most
+  pub tags : (i : ℕ) → i < seen → 0 < lengthAt rows i → at ≤ startAt rows i → getD b′ (startAt rows i) (pos 0) ≡ pos i
+  pub noted : (i : ℕ) → i < seen → 0 < lengthAt rows i → at ≤ startAt rows i → getD firsts i (pos 0) ≡ getD b (startAt rows i) (pos 0)
+  pub others : (k : ℕ) → at ≤ k → ((i : ℕ) → i < seen → 0 < lengthAt rows i → startAt rows i ≡ k → ⊥) → getD b′ k (pos 0) ≡ getD b k (pos 0)
+
+-- the row whose body starts at a place; `live` where the word there is the number of no such row
+pub record Owns (rows : List ℕ) (b : List ℤ) (live at r : ℕ) : Type 0 where
+  pub none : r ≡ live → (i : ℕ) → i < live → getD b at (pos 0) ≡ pos i → 0 < lengthAt rows i → startAt rows i ≡ at → ⊥
+  pub some : (r ≡ live → ⊥) → (r < live) × (0 < lengthAt rows r) × (startAt rows r ≡ at)
+
+-- a body with its first word back stands at a lower place, and its row says so
+pub record Settled (rows : List ℕ) (b : List ℤ) (i at to : ℕ) (first : ℤ) (n : ℕ) (rows′ : List ℕ) (b′ : List ℤ) : Type 0 where
+  pub words : n ≡ lengthAt rows i
+  pub row : rows′ ≡ set rows (5 * i + 2) to
+  pub body : Moved (set b at first) at to n b′
 
 -- a row stands for the same definition, which needs the same words
 pub record SameRow (rows : List ℕ) (b : List ℤ) (rows′ : List ℕ) (b′ : List ℤ) (i : ℕ) : Type 0 where

@@ -1,16 +1,17 @@
 // Bodies kept as decoded words in one lent run, and the rows that tell where each stands, five numbers to a row in another. Room of replaced and
 // deleted bodies is used again: when the run is full, the live bodies are moved together.
 ghost use mathlib.Core.Path.{_≡_};
-ghost use Prim.Native.Nat.{_+_, _*_, _<_, _≤_, _^_};
-ghost use lib.IntN.{pos};
+ghost use Prim.Native.Nat.{ℕ, _+_, _*_, _<_, _≤_, _^_};
+ghost use mathlib.Core.List.{List};
+ghost use lib.IntN.{ℤ, pos};
 ghost use lib.Dec.{ltb, leb, eqb};
-ghost use lib.ListN.{length, getD, replicate};
+ghost use lib.ListN.{length, getD, set, replicate};
 ghost use mathlib.Core.Bool.{_&&_};
 ghost use Rattle.library.specs.Memory.{rowNumbers, most, symbolAt, startAt, lengthAt, neededAt, neededIn};
 ghost use Rattle.library.specs.Rows.{Sorted, Nearest, Parted, Finds, Forgets, Shifted, withRow, Begins};
 ghost use Rattle.library.specs.Storing.{startFor, extended, layerWords, Relayered, Storable, Stores};
 ghost use Rattle.library.specs.Clearing.{Cleared};
-ghost use Rattle.library.specs.Moving.{Laid, Moved, Lowest, Compacted};
+ghost use Rattle.library.specs.Moving.{Laid, Moved, Numbered, Tagged, Owns, Settled, Compacted};
 
 // The most live definitions that there can be, and the numbers of their rows.
 pub const MOST: usize = definition::MOST_DEFINITIONS;
@@ -68,45 +69,18 @@ pub fn needed_at(rows: &[usize; ROW_NUMBERS], i: usize) -> usize
     rows[PER_ROW * i + NEEDED]
 }
 
-// Of two rows, the one whose body starts lower, among bodies that are not empty and start from `to` on. `live` stands for no row.
-fn lower(rows: &[usize; ROW_NUMBERS], live: usize, to: usize, i: usize, best: usize) -> usize
-    requires { ⌜ (live ≤ most) × (i < live) × Lowest (now rows) live to i best ⌝ }
-    ensures { λ r. ⌜ Lowest (now (rows .entry)) live to (i + 1) r ⌝ }
-{
-    let start = start_at(rows, i);
-    if length_at(rows, i) == 0 {
-        return best;
-    }
-    if start < to {
-        return best;
-    }
-    if best == live {
-        return i;
-    }
-    if start < start_at(rows, best) {
-        return i;
-    }
-    best
-}
-
-fn lowest(rows: &[usize; ROW_NUMBERS], live: usize, to: usize) -> usize
-    requires { ⌜ live ≤ most ⌝ }
-    ensures { λ r. ⌜ Lowest (now (rows .entry)) live to live r ⌝ }
-{
-    let mut best = live;
-    let mut i: usize = 0;
-    while i < live {
-        best = lower(rows, live, to, i, best);
-        i += 1;
-    }
-    best
-}
-
 fn word_at(bodies: &[i32], i: usize) -> i32
     requires { ⌜ i < length (now bodies) ⌝ }
     ensures { λ r. ⌜ r ≡ getD (now (bodies .entry)) i (pos 0) ⌝ }
 {
     bodies[i]
+}
+
+fn put_at(bodies: &mut [i32], i: usize, word: i32)
+    requires { ⌜ i < length (now bodies) ⌝ }
+    ensures { λ _. ⌜ now (bodies .exit) ≡ set (now (bodies .entry)) i word ⌝ }
+{
+    bodies[i] = word;
 }
 
 // Moves words down, from the first on, so that none is lost where the parts overlap. What stands there already is left alone: the bodies before the first
@@ -126,23 +100,112 @@ fn move_down(bodies: &mut [i32], from: usize, to: usize, n: usize)
     }
 }
 
-// Moves the live bodies together, the lowest first; how many words they have.
+// ---- Bodies by their places. To sort the rows by place each time would cost more than to move short bodies. So the first word of each body makes way for
+// its row's number, and is noted: a walk over the run then meets the bodies in order, and puts their first words back.
+
+// Puts the number of a row, if it has a body, in the place of that body's first word, which is noted.
+fn number_row(rows: &[usize; ROW_NUMBERS], bodies: &mut [i32], firsts: &mut [i32], i: usize)
+    requires { ⌜ (i < most) × (length (now firsts) ≡ most) × (0 < lengthAt (now rows) i → startAt (now rows) i < length (now bodies)) ⌝ }
+    ensures { λ _. ⌜ Numbered (now (rows .entry)) i (now (bodies .entry)) (now (firsts .entry)) (now (bodies .exit)) (now (firsts .exit)) ⌝ }
+{
+    if length_at(rows, i) == 0 {
+        return;
+    }
+    let at = start_at(rows, i);
+    let first = word_at(bodies, at);
+    put_at(firsts, i, first);
+    put_at(bodies, at, i as i32);
+}
+
+fn number_rows(rows: &[usize; ROW_NUMBERS], bodies: &mut [i32], firsts: &mut [i32], live: usize)
+    requires { ⌜ Laid (now rows) live (length (now bodies)) × (length (now firsts) ≡ most) ⌝ }
+    ensures { λ _. ⌜ Tagged (now (rows .entry)) (now (bodies .entry)) live 0 (now (bodies .exit)) (now (firsts .exit)) ⌝ }
+{
+    let mut i: usize = 0;
+    while i < live {
+        number_row(rows, bodies, firsts, i);
+        i += 1;
+    }
+}
+
+// The number that a word is, if it is none below 0.
+fn number_in(word: i32) -> usize
+    ensures { λ r. ⌜ ((i : ℕ) → word ≡ pos i → r ≡ i) ⌝ }
+{
+    let z = word as i64;
+    if z < 0 {
+        return MOST;
+    }
+    z as usize
+}
+
+// The row whose body starts here, or `live`: the row that the word here names, if its body does start here. In a hole stand words of any value.
+fn owner(rows: &[usize; ROW_NUMBERS], bodies: &[i32], live: usize, at: usize) -> usize
+    requires { ⌜ (live ≤ most) × (at < length (now bodies)) ⌝ }
+    ensures { λ r. ⌜ Owns (now (rows .entry)) (now (bodies .entry)) live at r ⌝ }
+{
+    let i = number_in(word_at(bodies, at));
+    if live <= i {
+        return live;
+    }
+    if length_at(rows, i) == 0 {
+        return live;
+    }
+    if start_at(rows, i) == at {
+        return i;
+    }
+    live
+}
+
+// A body gets its first word back and is moved down, and its row says so; how many words it has.
+fn settle(
+    rows: &mut [usize; ROW_NUMBERS],
+    bodies: &mut [i32],
+    i: usize,
+    at: usize,
+    to: usize,
+    first: i32,
+) -> usize
+    requires { ⌜ (i < most) × (length (now rows) ≡ rowNumbers) × (to ≤ at) × (0 < lengthAt (now rows) i) × (at + lengthAt (now rows) i ≤ length (now bodies)) ⌝ }
+    ensures { λ r. ⌜ Settled (now (rows .entry)) (now (bodies .entry)) i at to first r (now (rows .exit)) (now (bodies .exit)) ⌝ }
+{
+    let n = length_at(rows, i);
+    put_at(bodies, at, first);
+    move_down(bodies, at, to, n);
+    rows[PER_ROW * i + START] = to;
+    n
+}
+
+// Meets the bodies of numbered rows in the order of their places, and moves each down to those before it; how many words they have.
+fn walk(rows: &mut [usize; ROW_NUMBERS], bodies: &mut [i32], live: usize, firsts: &[i32]) -> usize
+    requires { ⌜ ((b : List ℤ) × Laid (now rows) live (length b) × Tagged (now rows) b live 0 (now bodies) (now firsts)) ⌝ }
+    ensures { λ r. ⌜ ((b : List ℤ) → Laid (now (rows .entry)) live (length b) → Tagged (now (rows .entry)) b live 0 (now (bodies .entry)) (now (firsts .entry)) → Compacted (now (rows .entry)) b live r (now (rows .exit)) (now (bodies .exit))) ⌝ }
+{
+    let mut to: usize = 0;
+    let mut at: usize = 0;
+    while at < bodies.len() {
+        let i = owner(rows, bodies, live, at);
+        if i == live {
+            at += 1;
+        } else {
+            let first = word_at(firsts, i);
+            let n = settle(rows, bodies, i, at, to, first);
+            to += n;
+            at += n;
+        }
+    }
+    to
+}
+
+// Moves the live bodies together, the lowest first; how many words they have. It costs so much for each live row, for each word of a hole and for each word
+// that is moved.
 pub fn compact(rows: &mut [usize; ROW_NUMBERS], bodies: &mut [i32], live: usize) -> usize
     requires { ⌜ Laid (now rows) live (length (now bodies)) ⌝ }
     ensures { λ r. ⌜ Compacted (now (rows .entry)) (now (bodies .entry)) live r (now (rows .exit)) (now (bodies .exit)) ⌝ }
 {
-    let mut to: usize = 0;
-    loop {
-        let i = lowest(rows, live, to);
-        if i == live {
-            return to;
-        }
-        let n = length_at(rows, i);
-        let from = start_at(rows, i);
-        move_down(bodies, from, to, n);
-        rows[PER_ROW * i + START] = to;
-        to += n;
-    }
+    let mut firsts = [0i32; MOST];
+    number_rows(rows, bodies, &mut firsts, live);
+    walk(rows, bodies, live, &firsts)
 }
 
 // Whether a number that is at most the symbol stands at row i, one below it, or the symbol itself.
