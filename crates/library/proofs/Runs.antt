@@ -18,6 +18,7 @@ use lib.Seq.{getD-set-same, getD-set-other, drop-cons}
 use Rattle.definition.specs.Table.{Definition, Table}
 use Rattle.library.specs.Memory.{wordsAt, tableFrom, definitionAt}
 use Rattle.library.specs.Moving.{Moved}
+use Rattle.library.proofs.Cases.{by-place}
 
 pub same-words : (b b′ : List ℤ) (n i j : ℕ) → ((k : ℕ) → k < n → getD b′ (i + k) (pos 0) ≡ getD b (j + k) (pos 0)) → wordsAt b′ i n ≡ wordsAt b j n
 unfolding wordsAt
@@ -49,26 +50,53 @@ pub record Sinking (b : List ℤ) (from to : ℕ) (k : ℕ) (b′ : List ℤ) : 
 pub sink-start : (b : List ℤ) (from to : ℕ) → Sinking b from to 0 b
 sink-start b from to = record { size = refl; here = λ j l. absurd (omega arith); below = λ j l. refl; above = λ j l. refl }
 
-pub sink-on : (b : List ℤ) (from to k : ℕ) (b′ : List ℤ) → Sinking b from to k b′ → to ≤ from → from + k < length b
-    → Sinking b from to (k + 1) (set b′ (to + k) (getD b′ (from + k) (pos 0)))
-sink-on b from to k b′ s h l = record {
-  size = length-set b′ (to + k) (getD b′ (from + k) (pos 0)) ∙ s .size;
+-- one word more is put where it is to go
+pub sink-put : (b : List ℤ) (from to k : ℕ) (b′ : List ℤ) → Sinking b from to k b′ → to + k < length b → (v : ℤ) → v ≡ getD b (from + k) (pos 0) → Sinking b from to (k + 1) (set b′ (to + k) v)
+sink-put b from to k b′ s l v f = record {
+  size = length-set b′ (to + k) v ∙ s .size;
   here = λ j m. go j m (eqb j k) refl;
-  below = λ j m. getD-set-other b′ (to + k) j (getD b′ (from + k) (pos 0)) (pos 0) (λ e. omega arith) ∙ s .below j m;
-  above = λ j m. getD-set-other b′ (to + k) j (getD b′ (from + k) (pos 0)) (pos 0) (λ e. omega arith) ∙ s .above j (omega arith);
+  below = λ j m. getD-set-other b′ (to + k) j v (pos 0) (λ e. omega arith) ∙ s .below j m;
+  above = λ j m. getD-set-other b′ (to + k) j v (pos 0) (λ e. omega arith) ∙ s .above j (omega arith);
 }
   where
-    go : (j : ℕ) → j < k + 1 → (t : Bool) → eqb j k ≡ t → getD (set b′ (to + k) (getD b′ (from + k) (pos 0))) (to + j) (pos 0) ≡ getD b (from + j) (pos 0)
+    go : (j : ℕ) → j < k + 1 → (t : Bool) → eqb j k ≡ t → getD (set b′ (to + k) v) (to + j) (pos 0) ≡ getD b (from + j) (pos 0)
     go j m true e =
-        let f : j ≡ k = eqb-true j k e in
-        subst (λ (x : ℕ). getD (set b′ (to + k) (getD b′ (from + k) (pos 0))) (to + x) (pos 0) ≡ getD b (from + x) (pos 0)) (sym f)
-        (getD-set-same b′ (to + k) (getD b′ (from + k) (pos 0)) (pos 0) (omega (arith, s .size)) ∙ s .above (from + k) (omega arith))
+        let g : j ≡ k = eqb-true j k e in
+        subst (λ (x : ℕ). getD (set b′ (to + k) v) (to + x) (pos 0) ≡ getD b (from + x) (pos 0)) (sym g) (getD-set-same b′ (to + k) v (pos 0) (omega (arith, s .size)) ∙ f)
     go j m false e =
-        let f : ¬ (j ≡ k) = eqb-false j k e in
-        getD-set-other b′ (to + k) (to + j) (getD b′ (from + k) (pos 0)) (pos 0) (λ z. omega arith) ∙ s .here j (omega arith)
+        let g : ¬ (j ≡ k) = eqb-false j k e in
+        getD-set-other b′ (to + k) (to + j) v (pos 0) (λ z. omega arith) ∙ s .here j (omega arith)
+
+pub sink-on : (b : List ℤ) (from to k : ℕ) (b′ : List ℤ) → Sinking b from to k b′ → to ≤ from → from + k < length b
+    → Sinking b from to (k + 1) (set b′ (to + k) (getD b′ (from + k) (pos 0)))
+sink-on b from to k b′ s h l = sink-put b from to k b′ s (omega arith) (getD b′ (from + k) (pos 0)) (s .above (from + k) (omega arith))
+
+-- the same, of what callees answered
+pub sink-next : {b : List ℤ} {from to k i j : ℕ} {b′ b″ : List ℤ} {v : ℤ} → Sinking b from to k b′ → i ≡ to + k → j ≡ from + k → to + k < length b → v ≡ getD b j (pos 0) → b″ ≡ set b′ i v
+    → Sinking b from to (k + 1) b″
+sink-next {b} {from} {to} {k} {i} {j} {b′} {b″} {v} s p q l f e =
+    subst (Sinking b from to (k + 1)) (sym (e ∙ ap (λ (x : ℕ). set b′ x v) p)) (sink-put b from to k b′ s l v (f ∙ ap (λ (x : ℕ). getD b x (pos 0)) q))
+
+-- a part of them after those that were moved before
+pub sink-part : (b : List ℤ) (from to k n : ℕ) (b′ b″ : List ℤ) → Sinking b from to k b′ → to ≤ from → Moved b′ (from + k) (to + k) n b″ → Sinking b from to (k + n) b″
+sink-part b from to k n b′ b″ s h m = record {
+  size = m .size ∙ s .size;
+  here = λ j l. by-place _ j k (λ c. m .below (to + j) (omega arith) ∙ s .here j c)
+      (λ c.
+      let p : to + j ≡ to + k + (j - k) = omega arith in
+      let q : from + k + (j - k) ≡ from + j = omega arith in
+      ap (λ (x : ℕ). getD b″ x (pos 0)) p ∙ (m .here (j - k) (omega arith) ∙ (ap (λ (x : ℕ). getD b′ x (pos 0)) q ∙ s .above (from + j) (omega arith))));
+  below = λ j l. m .below j (omega arith) ∙ s .below j l;
+  above = λ j l. m .above j (omega arith) ∙ s .above j (omega arith);
+}
 
 pub sunk : (b : List ℤ) (from to k n : ℕ) (b′ : List ℤ) → Sinking b from to k b′ → k ≡ n → Moved b from to n b′
 sunk b from to k n b′ s e = subst (λ (x : ℕ). Moved b from to x b′) e (record { size = s .size; here = s .here; below = s .below; above = s .above })
+
+-- some words, and then the rest
+pub moved-on : {b : List ℤ} {from to k n : ℕ} {b′ b″ : List ℤ} → to ≤ from → k ≤ n → Moved b from to k b′ → Moved b′ (from + k) (to + k) (n - k) b″ → Moved b from to n b″
+moved-on {b} {from} {to} {k} {n} {b′} {b″} h l m r =
+    sunk b from to (k + (n - k)) n b″ (sink-part b from to k (n - k) b′ b″ (record { size = m .size; here = m .here; below = m .below; above = m .above }) h r) (omega arith)
 
 -- words that stand where they are to go
 pub stays : (b : List ℤ) (from to n : ℕ) → from ≡ to → Moved b from to n b

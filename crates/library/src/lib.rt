@@ -30,6 +30,8 @@ const NEEDED: usize = 4;
 // How many words are cleared at a time. A compiler makes one `memset` of a loop over all, and from 2 KiB on a C library has that done by `rep stosb` where
 // the processor says that it is quick: an emulator says so too, and then takes ten times as long, byte by byte (docs/SPEED.md).
 const PART: usize = 256;
+// How many words are moved at a time.
+const AT_ONCE: usize = 4;
 // The words of an L command.
 pub const LAYER_WORDS: usize = 3;
 
@@ -83,8 +85,49 @@ fn put_at(bodies: &mut [i32], i: usize, word: i32)
     bodies[i] = word;
 }
 
-// Moves words down, from the first on, so that none is lost where the parts overlap. What stands there already is left alone: the bodies before the first
-// hole cost nothing, and a hole at the end is used again without a move.
+// Moves four words down. All are read before one is written, so a compiler may move them as one, however near the two places are.
+fn move_four(bodies: &mut [i32], from: usize, to: usize)
+    requires { ⌜ (to ≤ from) × (from + 4 ≤ length (now bodies)) ⌝ }
+    ensures { λ _. ⌜ Moved (now (bodies .entry)) from to 4 (now (bodies .exit)) ⌝ }
+{
+    let a = word_at(bodies, from);
+    let b = word_at(bodies, from + 1);
+    let c = word_at(bodies, from + 2);
+    let d = word_at(bodies, from + 3);
+    put_at(bodies, to, a);
+    put_at(bodies, to + 1, b);
+    put_at(bodies, to + 2, c);
+    put_at(bodies, to + 3, d);
+}
+
+// Moves words down, four at a time, while so many are left; how many.
+fn move_fours(bodies: &mut [i32], from: usize, to: usize, n: usize) -> usize
+    requires { ⌜ (to ≤ from) × (from + n ≤ length (now bodies)) ⌝ }
+    ensures { λ r. ⌜ (r ≤ n) × Moved (now (bodies .entry)) from to r (now (bodies .exit)) ⌝ }
+{
+    let mut k: usize = 0;
+    while AT_ONCE <= n - k {
+        move_four(bodies, from + k, to + k);
+        k += AT_ONCE;
+    }
+    k
+}
+
+// Moves words down one at a time, from the first on, so that none is lost where the parts overlap.
+fn move_singly(bodies: &mut [i32], from: usize, to: usize, n: usize)
+    requires { ⌜ (to ≤ from) × (from + n ≤ length (now bodies)) ⌝ }
+    ensures { λ _. ⌜ Moved (now (bodies .entry)) from to n (now (bodies .exit)) ⌝ }
+{
+    let mut k = 0;
+    while k < n {
+        let w = word_at(bodies, from + k);
+        bodies[to + k] = w;
+        k += 1;
+    }
+}
+
+// Moves words down. What stands there already is left alone: the bodies before the first hole cost nothing, and a hole at the end is used again without a
+// move.
 fn move_down(bodies: &mut [i32], from: usize, to: usize, n: usize)
     requires { ⌜ (to ≤ from) × (from + n ≤ length (now bodies)) ⌝ }
     ensures { λ _. ⌜ Moved (now (bodies .entry)) from to n (now (bodies .exit)) ⌝ }
@@ -92,12 +135,8 @@ fn move_down(bodies: &mut [i32], from: usize, to: usize, n: usize)
     if from == to {
         return;
     }
-    let mut k = 0;
-    while k < n {
-        let w = word_at(bodies, from + k);
-        bodies[to + k] = w;
-        k += 1;
-    }
+    let k = move_fours(bodies, from, to, n);
+    move_singly(bodies, from + k, to + k, n - k);
 }
 
 // ---- Bodies by their places. To sort the rows by place each time would cost more than to move short bodies. So the first word of each body makes way for
