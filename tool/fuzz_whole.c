@@ -20,7 +20,7 @@ void *fuzzed_calloc(size_t count, size_t size);
 int fuzzed_fsync(int file);
 int fuzzed_rename(const char *from, const char *to);
 
-static char folder[] = "/tmp/cif-fuzz-XXXXXX";
+static char folder[4096]; /* under $TMPDIR, or else /tmp; the runs take place in it */
 static int standard[3]; /* the files that the run itself was started with */
 static int next_file;   /* the number that the next open file gets: another one later on means that some file was not closed */
 static bool harsh;      /* in this run reads, writes and memory may fail */
@@ -306,10 +306,22 @@ void try_whole(void) {
 
 /* ---- all runs */
 
+/* Its whole name is kept, so that it is found again from inside. */
+static void make_folder(void) {
+  const char *above = getenv("TMPDIR");
+  if (above == NULL || above[0] == '\0') above = "/tmp";
+  char *whole = realpath(above, NULL);
+  int length = whole == NULL ? -1 : snprintf(folder, sizeof folder, "%s/cif-fuzz-XXXXXX", whole);
+  free(whole);
+  if (length >= 0 && (size_t)length < sizeof folder && mkdtemp(folder) != NULL && chdir(folder) == 0) return;
+  fprintf(stderr, "fuzz: no folder can be made in %s\n", above);
+  exit(2);
+}
+
 void start_whole(void) {
   static unsigned char text[16384];
   for (int file = 0; file < 3; file++) standard[file] = dup(file);
-  if (mkdtemp(folder) == NULL || chdir(folder) != 0) exit(2);
+  make_folder();
   write_whole("a.cif", text, random_text(text, sizeof text));
   write_whole("b.cif", text, random_text(text, sizeof text));
   next_file = lowest_free();

@@ -221,10 +221,11 @@ static double thickness(const struct shape *shape) {
 
 /* ---- shapes, as parts of paths
 
-   A layer is drawn by few paths, since a browser is slow with many elements and shows pale gaps between shapes that touch where each is an element of its own.
+   A layer is drawn by few paths, since a browser is slow with many elements and shows pale gaps between shapes that touch where each is an element of its own. It is slow with
+   very long paths too: those end after some shapes where no gap can show (end_line).
    All that is filled goes round the same way, so that nothing is cancelled where shapes overlap. */
 
-enum part { SOLID, THIN, DOTS, CROSSED, WIRES, THIN_WIRES, PARTS };
+enum part { SPECKS, SOLID, THIN, DOTS, CROSSED, WIRES, THIN_WIRES, PARTS };
 
 /* What is thinner than a pixel gets a line of that width around it, or along it, so that it can be seen. What has one point and is smaller than a dot is drawn as
    it is, with a dot over it: so none looks larger than one that is larger. */
@@ -264,7 +265,7 @@ static bool is_simple(const struct shape *polygon) {
 
 static bool is_in_part(const struct frame *frame, const struct shape *shape, enum part part) {
   bool dot = shape->kind != 'B' && has_one_point(shape), thin = thickness(shape) < (double)frame->pixel;
-  if (dot && thickness(shape) < DOT * (double)frame->pixel) return part == DOTS || part == SOLID;
+  if (dot && thickness(shape) < DOT * (double)frame->pixel) return part == DOTS || part == SPECKS;
   if (shape->kind == 'W' && !dot) return part == WIRES || (part == THIN_WIRES && thin);
   if (shape->kind == 'P' && !is_simple(shape)) return part == CROSSED;
   return part == (thin ? THIN : SOLID);
@@ -387,8 +388,17 @@ struct pencil {
   int32_t wider;  /* the next width that was met, or 0 */
   int32_t drawn;  /* where there are many widths: all up to this one are drawn, and now a path ends where the width changes */
   size_t on_line; /* shapes since the last line end */
+  size_t in_path; /* shapes since the path was opened */
   struct start start;
 };
+
+/* Whether a path may end anywhere and the next go on: where every shape has a line of some pixels around, along or over it no gap shows between the two. What is
+   filled faintly would be darker where shapes of both overlap. */
+static bool can_end(const struct pencil *pencil) {
+  if (pencil->layer->outlined) return false;
+  if (pencil->part == WIRES) return (fine)pencil->width * FINE < pencil->frame->pixel;
+  return pencil->part != SOLID && pencil->part != CROSSED;
+}
 
 static void put_line(struct output *out, const struct frame *frame, const char *name, int pixels) {
   open_attribute(out, "class");
@@ -407,7 +417,7 @@ static void lower(struct pencil *pencil) {
   if (pencil->layer->outlined) put_text(out, pencil->part == WIRES ? " stroke-opacity=\"0.2\"" : " fill-opacity=\"0.1\"");
   put_text(out, " d=\"");
   pencil->down = true;
-  pencil->on_line = 0;
+  pencil->on_line = pencil->in_path = 0;
   pencil->start.near = false;
 }
 
@@ -427,6 +437,15 @@ static bool takes_width(struct pencil *pencil, int32_t width) {
   return width == pencil->width;
 }
 
+/* A browser draws square by square, and for each goes through every path that reaches into it, whole: so where there are many shapes a path ends after some. */
+static void end_line(struct pencil *pencil) {
+  enum { SHAPES_IN_A_PATH = 1024 };
+  put_text(pencil->out, "\n");
+  pencil->on_line = 0;
+  pencil->start.near = false;
+  if (pencil->in_path >= SHAPES_IN_A_PATH && can_end(pencil)) lift(pencil);
+}
+
 static void draw(struct pencil *pencil, const struct shape *shape) {
   enum { SHAPES_ON_A_LINE = 32 };
   if (!is_shown(pencil->frame, shape)) return;
@@ -436,10 +455,8 @@ static void draw(struct pencil *pencil, const struct shape *shape) {
   if (!pencil->down) lower(pencil);
   if (pencil->part == DOTS) put_dot(pencil->out, pencil->frame, shape, &pencil->start);
   else put_subpath(pencil->out, pencil->frame, shape, &pencil->start);
-  if (++pencil->on_line < SHAPES_ON_A_LINE) return;
-  put_text(pencil->out, "\n");
-  pencil->on_line = 0;
-  pencil->start.near = false;
+  pencil->in_path++;
+  if (++pencil->on_line == SHAPES_ON_A_LINE) end_line(pencil);
 }
 
 static void draw_part(struct pencil *pencil, struct bytes flat, const struct layers *layers) {

@@ -292,4 +292,20 @@ def test_many():
     expect(done.returncode == 0 and done.stdout.count(b"z") >= 1048576 and done.stdout.endswith(b"</svg>\n"), "1,048,576 shapes drawn", done.stderr)
     boxes = b"DS1;LA;" + b"".join(b"B9 9 %d %d;" % (x * 15, y * 15) for x in range(32) for y in range(32)) + b"DF;"
     done = cif("plot", "-", text=boxes + b"".join(b"C1T%d %d;" % (x * 480, y * 480) for x in range(32) for y in range(20)) + b"E")
-    expect(done.returncode == 0 and done.stdout.count(b"<path") < 10 and len(done.stdout) <= 12000000, "655,360 boxes in few paths and 12 MB", len(done.stdout))
+    parts = [path.count(b"z") for path in re.findall(rb'<path class="line"[^>]* d="([^"]*z\s*)"', done.stdout)]
+    expect(done.returncode == 0 and len(done.stdout) <= 12000000, "655,360 boxes in 12 MB", len(done.stdout))
+    expect(sum(parts) == 655360 and max(parts) <= 1024 and len(parts) == 640, "paths of 1,024, which a browser draws in three seconds (docs/SPEED.md)", len(parts))
+
+
+def test_long_paths():
+    """A path ends after 1,024 shapes where each has a line of its own; what is filled, or faint, stays in one, since gaps and overlaps would show."""
+    def paths(shape, layer=b"A", size="800"):
+        name = scratch("long.cif", b"L%s;" % layer + b"".join(shape % (x * 20, y * 20) for x in range(60) for y in range(50)) + b"E")
+        group = tree.fromstring(cif("plot", name, "--size", size).stdout).find(f".//{SVG}g[@id='layer-{layer.decode()}']")
+        return [re.sub("[^mMz]", "", path.get("d")) for path in group.findall(SVG + "path")]
+    for shape in (b"B1 1 %d %d;", b"R2 %d %d;", b"W1 %d %d 7 7;"):
+        counts = [max(path.count("z"), len(re.findall("[mM]", path))) for path in paths(shape)]
+        expect(max(counts) == 1024 and sum(counts) % 3000 == 0, "a path ends", shape, counts)
+    expect([path.count("z") for path in paths(b"B9 9 %d %d;")] == [3000], "and not where boxes may touch", paths(b"B9 9 %d %d;"))
+    expect([len(re.findall("[mM]", path)) for path in paths(b"W9 %d %d 7 7;")] == [3000], "nor where wires may")
+    expect([path.count("z") for path in paths(b"B1 1 %d %d;", b"CWN")] == [3000], "nor where overlaps would be darker")
