@@ -30,7 +30,8 @@ def main(path):
     try:
         library = load(path)
     except OSError as trouble:
-        sys.exit(f"host.py: the shared library cannot be loaded: {trouble}")
+        other = os.path.exists(path) and os.uname().machine != "x86_64"  # the loader then says, misleadingly, that there is no such file
+        sys.exit(f"host.py: the shared library cannot be loaded: {trouble}" + (f" (it is x86-64, and this Python is {os.uname().machine})" if other else ""))
     # One byte more than the reader takes, so that a text which is too long gets refusal 1 and is not cut.
     answer, flat = flatten(library, sys.stdin.buffer.read(MOST_BYTES + 1))
     if answer[NUMBER] != 0:

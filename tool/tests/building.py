@@ -3,6 +3,7 @@ hosts over it. What is installed, and where."""
 import os
 import platform
 import re
+import shlex
 import shutil
 import stat
 import struct
@@ -68,11 +69,15 @@ def test_shared_library():
 
 
 def test_python_host():
-    script = os.path.join(TOP, "examples", "host.py")
-    if platform.machine() == "x86_64":
-        expect_host([sys.executable, script, os.path.join(Run.built, "libcif.so")], b"host.py")
+    """Over the proved code, by this Python or by one for x86-64 that $PYTHON_X86_64 runs, which may be several words: an emulator's and its own."""
+    script, library = os.path.join(TOP, "examples", "host.py"), os.path.join(Run.built, "libcif.so")
+    python = shlex.split(os.environ.get("PYTHON_X86_64", "")) or ([sys.executable] if platform.machine() == "x86_64" else [])
+    if python:
+        expect_host([*python, script, library], b"host.py")
     else:
-        print(f"not tried on {platform.machine()}: examples/host.py over the proved code, for which an x86-64 Python is needed (host_shared runs that library)")
+        print(f"not tried on {platform.machine()}: examples/host.py over the proved code, for which $PYTHON_X86_64 has to run an x86-64 Python (host_shared runs that library)")
+        done = ran(sys.executable, script, library, input=EXAMPLE)
+        expect(done.returncode == 1 and b"x86-64, and this Python is" in done.stdout, "a library for another machine", done)
     done = ran(sys.executable, script, scratch("none.so"), input=EXAMPLE)
     expect(done.returncode == 1 and done.stdout.startswith(b"host.py: the shared library cannot be loaded: "), "a library that is not there", done)
     expect(content(script).count(b"\n") <= 45, "the example host has at most forty-five lines")
