@@ -468,7 +468,7 @@ int main(int count, char **words) {
     return COULD_NOT_RUN;
   }
   for (int i = 1; i < count && !same(words[i], "--"); i++) {
-    if (same(words[i], "--help") || same(words[i], "-h")) return (int)say(help);
+    if (same(words[i], "--help") || same(words[i], "-h") || (i == 1 && same(words[i], "help"))) return (int)say(help);
     if (same(words[i], "--version") || same(words[i], "-V")) return (int)say(version);
   }
   struct request request = {.view = {.size = USUAL_SIZE}};

@@ -81,7 +81,7 @@ static void put_dangling(struct output *out, uint64_t times) {
   put_text(out, "dangling references after ");
   if (times == 1) put_text(out, "DD");
   else put_count(out, times, " DD command");
-  put_text(out, ": the symbol that is called here is not defined then, and the definition that calls it is.");
+  put_text(out, ": the definition that this call stands in is live then, and the symbol that it calls is not.");
 }
 
 static void find_words(struct warning *warning, struct bytes text) {

@@ -10,7 +10,7 @@ from refusals import expect_told, position
 
 
 def test_help():
-    for words in (["--help"], ["flat", "--help"], ["-h"], ["check", "-h"]):
+    for words in (["--help"], ["flat", "--help"], ["-h"], ["check", "-h"], ["help"]):
         done = cif(*words)
         expect(done.returncode == 0 and b"cif flat FILE" in done.stdout and not done.stderr, "help on standard output", words, done)
     done = cif()
