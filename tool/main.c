@@ -102,7 +102,7 @@ static const struct option options[] = {
     {"--strict", STRICT, 0, NULL, NULL},
     {"--any-order", ANY_ORDER, 0, NULL, NULL},
     {"--window", WINDOW, 4, take_window, "four numbers of microns, the x and y of two opposite corners, must follow"},
-    {"--layers", LAYERS, 1, take_layers, "names of layers, as in NM,NP, must follow"},
+    {"--layers", LAYERS, 1, take_layers, "names of layers in upper case, as in NM,NP, must follow"},
     {"--size", SIZE, 1, take_size, "a number of pixels from 100 to 20000 must follow"},
 };
 

@@ -11,6 +11,7 @@ enum {
   BLANKS_FIRST = 'b',
   CUT_COMMENT = 'c',
   NOT_OPEN = 'f',
+  NOT_ENDED = 'g',
   MARKUP = 'h',
   CUT_DEFINITION = 'd',
   END_MISSING = 'e',
@@ -50,6 +51,7 @@ static const struct sentence sentences[] = {
     {2, END_INSIDE, "this End command stands inside a symbol definition.", "Write DF; before it, to finish the definition."},
     {2, BLANKS_FIRST, "blanks stand before this End command and no semicolon came before them.", "Remove the blanks, or write a semicolon before the E."},
     {2, NESTED, "a symbol definition holds no DS and no DD: definitions do not nest.", "Finish the definition before it with DF;, or find the DF that is missing."},
+    {2, NOT_ENDED, "no semicolon follows this DF.", "Write DF; before whatever comes after the definition."},
     {2, NO_COMMAND, "no command can start here.",
      "A command starts with P, B, R, W, L, C, D or E, with a digit (user extension) or with ( for a comment. Put other words into a comment."},
     {2, '(', "no semicolon follows this comment.", "A comment is a command: write ; after its last ), and check that it has no extra )."},
@@ -168,6 +170,14 @@ static char case_between_commands(const struct context *context, unsigned char b
   return context->begun ? ANY : BLANKS_FIRST;
 }
 
+/* A command inside a definition that starts with D. */
+static char case_inside(struct bytes text, size_t start, size_t place) {
+  size_t second = start + 1;
+  while (second < place && is_blank(text.at[second])) second++;
+  if (second < place && text.at[second] == 'F') return NOT_ENDED;
+  return text.at[place] == 'S' || text.at[place] == 'D' ? NESTED : 'D';
+}
+
 static char case_of_grammar(struct bytes text, size_t place) {
   char kind = kind_of_file(text);
   if (kind != ANY) return kind;
@@ -176,8 +186,7 @@ static char case_of_grammar(struct bytes text, size_t place) {
   if (text.at[place] >= 128) return NOT_ASCII;
   if (context.letter == 0) return case_between_commands(&context, text.at[place]);
   if (context.letter != 'D') return (char)context.letter;
-  if (context.defining) return NESTED;
-  return text.at[place] == 'F' ? NOT_OPEN : 'D';
+  return context.defining ? case_inside(text, context.start, place) : text.at[place] == 'F' ? NOT_OPEN : 'D';
 }
 
 const struct sentence *sentence_for(uint64_t number, struct bytes text, size_t place) {

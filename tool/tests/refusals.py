@@ -179,6 +179,9 @@ def test_cases():
         (2, 1, b" E", "blanks stand before"),
         (2, 5, b"DS1;DS2;DF;DF;E", "do not nest"),
         (2, 5, b"DS1;DD2;DF;E", "do not nest"),
+        (2, 6, b"DS1;DFC1;E", "no semicolon follows this DF"),
+        (2, 8, b"DS1;D F\nE", "no semicolon follows this DF"),
+        (2, 5, b"DS1;D1;DF;E", "none of the forms"),
         (2, 0, b"X;E", "no command can start"),
         (2, 0, b"-1;E", "no command can start"),
         (2, 2, b"()LA;E", "no semicolon follows this comment"),
@@ -224,6 +227,7 @@ def test_origins():
         (b";DS 1;\nLA;\nE\n", "The definition began on line 1, column 2:"),
         (b"DS 1;\nDF;\nDS 2;\nDS 3;\nDF;E", "The definition began on line 3, column 1:"),
         (b"DS 1;\nLA;\n", "The definition began on line 1, column 1:"),
+        (b"DS 1;\nLA;\n DF\nC 1;\nE", "This command began on line 3, column 2. Is a semicolon missing before this line?"),
         (b"L NM B 4 4 0 0;E", None),
         (b"B 4 4 - 0;E", None),
     ):
