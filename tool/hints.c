@@ -81,6 +81,19 @@ static size_t swallowed_line(struct bytes text, const struct command *command) {
   return 0;
 }
 
+bool find_swallower(struct bytes text, unsigned char letter, size_t *start) {
+  struct command_walk walk = {.text = text};
+  struct command command;
+  bool found = false;
+  while (next_command(&walk, &command)) {
+    size_t line = is_digit(command.letter) ? swallowed_line(text, &command) : 0;
+    if (line == 0 || text.at[line] != letter) continue;
+    *start = command.start;
+    found = true;
+  }
+  return found;
+}
+
 static void count_extension(struct search *search, size_t start, size_t length) {
   note(search, EXTENSIONS, start, 0);
   for (size_t i = 0; i < search->extension_count; i++) {

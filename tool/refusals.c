@@ -269,11 +269,12 @@ static const char *fitting_remedy(uint64_t number, char key, struct bytes text, 
   return NULL;
 }
 
-/* Where to look as well: what is being read at the place began earlier. */
+/* Where to look as well: what is being read at the place began earlier, or what is missing there was skipped. */
 struct origin {
   const char *what; /* NULL: nothing to show */
   size_t start;
-  bool asks; /* whether a semicolon is missing */
+  bool asks; /* whether a semicolon is missing after what began */
+  const char *question;
 };
 
 static bool on_one_line(struct bytes text, size_t start, size_t place) {
@@ -284,10 +285,28 @@ static bool on_one_line(struct bytes text, size_t start, size_t place) {
 static struct origin origin_of(char key, struct bytes text, size_t place) {
   struct context context = context_at_end((struct bytes){text.at, place});
   if (is_one_of((unsigned char)key, (const char[]){EMPTY, ONLY_BLANKS, MARKUP, CRYSTALS, BINARY, NOT_ASCII, 0})) return (struct origin){0};
-  if (key == CUT_COMMENT) return (struct origin){"The comment began", context.start, false};
-  if (key == CUT_DEFINITION || key == END_INSIDE || key == NESTED) return (struct origin){"The definition began", context.definition, false};
+  if (key == CUT_COMMENT) return (struct origin){"The comment began", context.start, false, ":"};
+  if (key == CUT_DEFINITION || key == END_INSIDE || key == NESTED) return (struct origin){"The definition began", context.definition, false, ":"};
   if (context.letter == 0 || context.letter == 'E' || on_one_line(text, context.start, place)) return (struct origin){0};
-  return (struct origin){context.letter == '(' ? "The comment began" : "This command began", context.start, true};
+  const char *question = place == text.count ? ". Is a semicolon missing after it?" : ". Is a semicolon missing before this line?";
+  return (struct origin){context.letter == '(' ? "The comment began" : "This command began", context.start, true, question};
+}
+
+/* The letter of the command that is missing at the place, where it may have been skipped as part of a user extension, or 0. */
+static unsigned char missing_letter(uint64_t number, char key) {
+  if (number == 8) return 'L';
+  return number == 2 && is_one_of((unsigned char)key, (const char[]){CUT_DEFINITION, END_INSIDE, NESTED, NOT_OPEN, 0}) ? 'D' : 0;
+}
+
+/* Of a definition that is open, only what stands in it counts. */
+static bool find_skipped(uint64_t number, char key, struct bytes text, size_t place, struct origin *origin) {
+  unsigned char letter = missing_letter(number, key);
+  struct bytes before = {text.at, place};
+  struct context context = context_at_end(before);
+  size_t start;
+  if (letter == 0 || !find_swallower(before, letter, &start) || (context.defining && start < context.definition)) return false;
+  *origin = (struct origin){"A user extension, which goes on up to a semicolon, began", start, false, ". Is its semicolon missing?"};
+  return true;
 }
 
 /* ---- telling */
@@ -314,10 +333,10 @@ static void put_where(struct output *out, const char *what, struct position posi
   put_number(out, (int64_t)position.column);
 }
 
-static void put_origin(struct output *out, const struct origin *origin, struct bytes text, size_t place) {
+static void put_origin(struct output *out, const struct origin *origin, struct bytes text) {
   if (origin->what == NULL) return;
   put_where(out, origin->what, position_of(text, origin->start));
-  put_text(out, !origin->asks ? ":" : place == text.count ? ". Is a semicolon missing after it?" : ". Is a semicolon missing before this line?");
+  put_text(out, origin->question);
   put_text(out, "\n");
   put_excerpt(out, text, origin->start);
 }
@@ -360,9 +379,10 @@ void tell_refusal(struct output *out, const struct reading *reading, bool whole)
   put_head(out, reading->name, refused_position(reading));
   put_refusal(out, sentence, number, place);
   if (!whole) return;
+  if (sentence != NULL) (void)find_skipped(number, sentence->key, text, at, &origin);
   put_chain(out, reading);
   /* 1 and 18 are about the text as a whole: no line of it is to blame. */
   if (number != 1 && number != 18) put_excerpt(out, text, at);
-  put_origin(out, &origin, text, at);
+  put_origin(out, &origin, text);
   if (sentence != NULL) put_remedy(out, sentence, text, at, &origin);
 }

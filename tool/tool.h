@@ -183,6 +183,9 @@ struct hints {
 };
 
 void find_hints(struct bytes text, const uint64_t answer[CIF_WORDS], struct hints *hints);
+
+/* Where the last user extension starts that runs on over a line which begins like a command with this letter; false if there is none. */
+bool find_swallower(struct bytes text, unsigned char letter, size_t *start);
 /* A line for each. */
 void tell_hints(struct output *out, const char *name, struct bytes text, const struct hints *hints);
 

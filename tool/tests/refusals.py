@@ -7,7 +7,7 @@ import struct
 import subprocess
 import termios
 
-from common import MOST, Run, cif, content, expect, leftovers, scratch
+from common import MOST, TOP, Run, cif, content, expect, leftovers, scratch
 
 
 def refusals():
@@ -233,6 +233,35 @@ def test_origins():
     ):
         told = cif("check", "-", text=text).stderr.decode().split("\n")
         expect(("  " + began == told[3]) if began else len(told) == 5, "where it began", text, told)
+
+
+def test_skipped():
+    """Where a command is missing since a user extension without its semicolon runs on over it, the message leads there."""
+    began = "  A user extension, which goes on up to a semicolon, began on line %d, column %d. Is its semicolon missing?"
+    for text, line, column in (
+        (b"DS 1;\n9 cell\nL NM;\nB 4 4 0 0;\nDF;\nE", 2, 1),
+        (b" 94 out 0 0\nL NM;\nR 4 0 0;\nE", 1, 2),
+        (b"DS 1;\nL NM;94 out\nDF;\nDS 2;\nDF;\nE", 2, 6),
+        (b"DS 1;\n9 cell\nDF;\nE", 2, 1),
+        (b"DS 1;\n9 cell\nDF;\n", 2, 1),
+        (b"9 cell\nDS 1;\nDF;\nE", 1, 1),
+    ):
+        told = cif("check", "-", text=text).stderr.decode().split("\n")
+        expect(began % (line, column) == told[3], "where a command was skipped", text, told)
+    for text in (b"DS 1;\n9 cell\nL NM;\nDF;\nDS 2;\nB 4 4 0 0;\nDF;\nE", b"94 out\nB 4 4 0 0;\nR 4 0 0;\nE", b"DS 1;\n9 a cell\nLow and wide;\nB 4 4 0 0;\nDF;\nE", b"9 cell\nL NM;\nB 4 4 - 0;\nE"):
+        told = cif("check", "-", text=text).stderr
+        expect(b"user extension" not in told, "what was not skipped, or is not missing", text, told)
+
+
+def test_every_semicolon():
+    """Each semicolon of two samples left out in turn, the comments' own aside: the text is refused, and the message shows the line that it is missing on, or there is a hint."""
+    for sample in ("cells.cif", "magic.cif"):
+        whole = content(os.path.join(TOP, "samples", sample))
+        outside = re.sub(rb"\([^)]*\);", lambda found: b" " * len(found[0]), whole)
+        for at in (i for i, byte in enumerate(outside) if byte == ord(";")):
+            line, done = whole.count(b"\n", 0, at) + 1, cif("check", "-", text=whole[:at] + whole[at + 1:])
+            leads = re.search(rb"(^standard input:| on line )%d\b" % line, done.stderr)
+            expect(leads if done.returncode == 1 else b": hint: " in done.stderr, "where a semicolon is missing", sample, line, done)
 
 
 def test_remedies():
