@@ -213,7 +213,7 @@ static bool turns_by_degrees(struct bytes text, size_t start, size_t place) {
   return turns && numbers == 1 && place < text.count && text.at[place] == ';';
 }
 
-/* Whether the call has its number and no transformation is being read. */
+/* Whether no letter follows the command's first: of a call, no transformation is being read. */
 static bool wants_letter(struct bytes text, size_t start, size_t place) {
   size_t at = start + 1, letters = 0;
   for (; at < place; at++) letters += is_upper(text.at[at]);
@@ -254,6 +254,15 @@ static const char *remedy_between(struct bytes text, const struct context *conte
   return NULL;
 }
 
+/* For a command whose semicolon comes where a number must still follow. */
+static const char *remedy_of_count(unsigned char letter) {
+  if (letter == 'B') return "A number is missing before the semicolon: a box has 4 numbers, or 6 with a direction.";
+  if (letter == 'R') return "A number is missing before the semicolon: a flash has 3 numbers.";
+  if (letter == 'W') return "A number is missing before the semicolon: a wire has its width and then two numbers for each point.";
+  if (letter == 'P') return "A number is missing before the semicolon: a polygon has two numbers for each point.";
+  return letter == 'D' ? "A number is missing before the semicolon: DS has the symbol's number, or that and a and b; DD has one number." : NULL;
+}
+
 /* NULL: the sentence's own will do. */
 static const char *fitting_remedy(uint64_t number, char key, struct bytes text, size_t place) {
   if (number != 2 || is_one_of((unsigned char)key, (const char[]){EMPTY, ONLY_BLANKS, MARKUP, CRYSTALS, BINARY, NOT_ASCII, CUT_COMMENT, 0})) return NULL;
@@ -266,7 +275,8 @@ static const char *fitting_remedy(uint64_t number, char key, struct bytes text, 
   if (remedy != NULL || !is_one_of(context.letter, "BRWPCD")) return remedy;
   if (has_point(text, context.start, place < text.count ? place + 1 : place))
     return "A decimal point is a blank here, so 1.5 is two numbers. Numbers are whole; outside a scaled definition the unit is a hundredth of a micron.";
-  return NULL;
+  bool bare = context.letter == 'D' && wants_letter(text, context.start, place);
+  return place < text.count && text.at[place] == ';' && !bare ? remedy_of_count(context.letter) : NULL;
 }
 
 /* Where to look as well: what is being read at the place began earlier, or what is missing there was skipped. */

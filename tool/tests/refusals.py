@@ -272,6 +272,11 @@ def test_remedies():
         ("A comment is a command of its own", (b"LA;W 10 0 0 (x) 9 9;E", b"L (x) A;E", b"C1 (x) T 0 0;E"), (b"(a)(b);E",)),
         ("A decimal point is a blank", (b"LA;B 1.5 2 0 0;E", b"LA;R1.5 0 0;E"), (b"LA;B 1 2 3 - 4;E", b"LA;R 1. 0 - 2;E")),
         ("Lower-case letters are blanks", (b"l nm; b 4 4 0 0; e", b"b -4 4;E", b"Ds 1;Df;E", b"ds 1;e\n"), (b"LA;", b"-4;E", b"D 1;E")),
+        ("a box has 4 numbers", (b"LA;B4 4 0;E", b"LA;B4 4 0 0 1;E", b"LA;B4 40 0;E"), (b"LA;B4 4 0 - 0;E", b"LA;B4 4 0 0 1 0 0;E", b"LA;B4.5 4;E", b"LA;R4 0;E")),
+        ("a flash has 3", (b"LA;R4 0;E",), (b"LA;R4 0 0 0;E",)),
+        ("a wire has its width", (b"LA;W4 0 0 5;E", b"LA;W4;E", b"LA;W4 0 0X;E"), (b"LA;W4 0 0-5;E",)),
+        ("a polygon has two", (b"LA;P0 0 5 0 5;E", b"LA;P0 0 5 0 -;E"), (b"LA;P0 0 5 0 - 5;E",)),
+        ("DS has the symbol's number", (b"DS 1 2;DF;E", b"DS;DF;E", b"DD;E"), (b"D;E", b"DS -1;DF;E")),
         ("the one before it needs its semicolon", (b"L NM B 4 4 0 0;E", b"LA;\nB 4 4 0 0\nB 4 4 9 9;E", b"C1 T 0 0 C 2;E"), (b"LABCDE;E", b"LA;\nB 4 4\n0 - 4;E")),
     ):
         for text in texts + others:
