@@ -216,12 +216,17 @@ def test_install():
 
 
 def test_fuzz():
-    """A short run of the fuzz, so that it fits the tool as it is."""
-    done = ran(os.path.join(TOP, "tool", "fuzz"), "40")
+    """A short run of the fuzz, so that it fits the tool as it is. It works in a folder of its own under $TMPDIR."""
+    folder = scratch("fuzz's folder")
+    os.mkdir(folder)
+    done = ran(os.path.join(TOP, "tool", "fuzz"), "40", env={**os.environ, "TMPDIR": folder})
     if done.returncode == 2:
         print("not tried, since the fuzz cannot be built by this machine's own compiler:", done.stdout.decode(errors="replace").split("\n")[0])
         return
     expect(done.returncode == 0 and done.stdout == b"fuzz: 40 rounds, with 160 runs of the whole tool, nothing found\n", "the fuzz", done.stdout[-400:])
+    expect(os.listdir(folder) == [], "the fuzz removes its folder", os.listdir(folder))
+    done = ran(os.path.join(TOP, "target", "tool", "fuzzed", "fuzz"), "1", env={**os.environ, "TMPDIR": os.path.join(folder, "none")})
+    expect(done.returncode == 2 and b"no folder can be made in" in done.stdout, "$TMPDIR is where it works", done)
 
 
 def test_completion():

@@ -8,7 +8,7 @@ import stat
 import subprocess
 import tempfile
 
-from common import EXAMPLE, EXAMPLE_FLAT, Run, cif, content, expect, leftovers, scratch
+from common import EXAMPLE, EXAMPLE_FLAT, TOP, Run, cif, content, expect, leftovers, scratch
 
 
 def expect_trouble(done, *words):
@@ -119,6 +119,10 @@ def test_output_file():
     expect(sorted(os.listdir(folder)) == ["link", "o" * 250, "plain.out"], "nothing else beside it", os.listdir(folder))
     both = scratch("both.cif", EXAMPLE)
     expect(cif("flat", both, "-o", both).returncode == 0 and content(both) == EXAMPLE_FLAT, "FILE as OUT")
+    old, other = scratch("old.flat", b"old"), scratch("other name")
+    os.link(old, other)
+    expect(cif("flat", good, "-o", old).returncode == 0 and content(old) == EXAMPLE_FLAT and content(other) == b"old", "another hard link keeps what it had, as the man page says")
+    expect(b"hard links to the old file keep the old content" in content(os.path.join(TOP, "tool", "cif.1")).replace(b"\n", b" "), "and the man page says so")
 
 
 def test_open_files():
