@@ -13,6 +13,7 @@
 #include "fuzz.h"
 
 int cif_main(int count, char **words);
+void __sanitizer_set_report_fd(void *file);
 ssize_t fuzzed_read(int file, void *bytes, size_t count);
 ssize_t fuzzed_write(int file, const void *bytes, size_t count);
 void *fuzzed_malloc(size_t count);
@@ -82,9 +83,9 @@ static uint64_t count_shapes(struct bytes flat) {
   return count;
 }
 
-/* Any byte of the text may stand for a call. */
+/* Any byte of the text may stand for a call. A text that is too long always gets 1: /dev/full has zeros without end. */
 static void refuse(uint64_t answer[CIF_WORDS], size_t text_length) {
-  uint64_t number = 1 + below(20);
+  uint64_t number = text_length > CIF_MOST_BYTES ? 1 : 1 + below(20);
   answer[CIF_NUMBER] = number == 19 ? 25 : number; /* the reader has 25, though not for this tool */
   answer[CIF_LINE] = answer[CIF_COLUMN] = 1 + below(1000);
   if (number != 1 && number != 18) answer[CIF_PLACE] = below((unsigned)text_length + 1);
@@ -100,7 +101,7 @@ void cif_flatten(const unsigned char *text, size_t text_length, int32_t *words, 
   flat = (struct output){.file = DROPPED};
   demand(words != NULL && words_length >= text_length, "the words", &flat);
   memset(words, 0, words_length * sizeof *words);
-  if (below(3) == 0) {
+  if (text_length > CIF_MOST_BYTES || below(3) == 0) {
     refuse(answer, text_length);
   } else {
     put_random_flat(&flat);
@@ -321,6 +322,7 @@ static void make_folder(void) {
 void start_whole(void) {
   static unsigned char text[16384];
   for (int file = 0; file < 3; file++) standard[file] = dup(file);
+  __sanitizer_set_report_fd((void *)(intptr_t)standard[2]); /* else a report would go where the tool's own standard error goes */
   make_folder();
   write_whole("a.cif", text, random_text(text, sizeof text));
   write_whole("b.cif", text, random_text(text, sizeof text));

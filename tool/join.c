@@ -31,6 +31,7 @@ static bool join_one(struct joined *joined, struct bytes text) {
 }
 
 bool add_text(struct joined *joined, const char *name, struct bytes text) {
+  if (text.count > CIF_MOST_BYTES) return false;
   if (joined->count > 0) {
     if (!join_one(joined, text)) return false;
   } else {
