@@ -36,9 +36,11 @@ use Rattle.definition.specs.Lean.{lastThen, add, addAll, lean}
 use Rattle.definition.specs.Warnings.{dangles, danglingCalls, danglingAt, warningsAt, warningLine, warningLines}
 use Rattle.definition.specs.Position.{lineOf, sinceLineEnd, columnOf}
 use Rattle.definition.specs.Answer.{flatFile, success, failure, given-back, fitted, drawn, outcomeOf}
+use Rattle.definition.specs.Window.{extreme, boxReach, slants, reachOf, reach, around, windows, hull, joined}
 use Rattle.definition.specs.Listing.{fields, shapeLines, windowLine, listing}
-use Rattle.definition.specs.Window.{extreme, boxReach, reachOf, reach, around, windows, hull, joined}
-use Rattle.definition.specs.Computed.{verdict, answerOf}
+use Rattle.definition.specs.Summary.{among, namesAfter, namesFrom, tooManyFrom, sooner, firstFaultOrName, shape?, call?, layersOf, ownShapes, ownCalls, ownLayers, bothReply, stepReply, bodyReply, higher, replyBy, replyTo, kept?, tableLeft, tableDeeds, appearing, packedName, bodyFound, inSymbol, noSummary, summaryIn, summaryFrom, summaryOf}
+use Rattle.definition.specs.Marks.{layerSet}
+use Rattle.definition.specs.Computed.{verdict, answerOf, summaryVerdict, summaryFor}
 
 -- the end of what tools/rows.py writes here
 
@@ -172,11 +174,11 @@ Printed r = Lists (bytesOf (r .text)) (bytesOf (r .printed))
 abbrev pub Each : {A : Type 0} → (A → Type 0) → List A → Type 0
 Each {A} P rs = (i : ℕ) → i < length rs → (d : A) → P (getD rs i d)
 
-small : List ℕ → Bool
+pub small : List ℕ → Bool
 small [] = true
 small (a ∷ w) = ltb a 256 && small w
 
-small-bytes : (w : List ℕ) → T (small w) → Bytes w
+pub small-bytes : (w : List ℕ) → T (small w) → Bytes w
 unfolding small
 small-bytes [] t i = omega arith
 small-bytes (a ∷ w) t zero = ltb→lt a 256 (and-left (ltb a 256) _ t)
@@ -200,13 +202,13 @@ print-holds : Printout → Bool
 print-holds r =
     small (bytesOf (r .text)) && (leb (length (bytesOf (r .text))) 32768 && same (listing (bytesOf (r .text)) (answerOf (bytesOf (r .text)) 32768 32768)) (bytesOf (r .printed)))
 
-every : {A : Type 0} → (A → Bool) → List A → Bool
+pub every : {A : Type 0} → (A → Bool) → List A → Bool
 every test [] = true
 every test (r ∷ rs) = test r && every test rs
 
 -- the test of rows, and that of printouts; what both compute through is named here once
 unfoldable pub all-hold : List Row → Bool
-unfolding row-holds print-holds every small flatMap has dec kinds table kindOf entryOf nextOf modeAfter markOf roleOf marked verdictOf any those first same bytesOf worth numbers paired next named turnAt turns commandAt commands after nearest scaled whole scaledShape scaledTurn beyond partsOf shifts bearings distances numbersOf zeroScale least emptyShape degenerate layerless tooMany atNumbers faults allFaults firstFault ragged roundedFrom rounded negative heading rotated act aim inOrder moved offAxes find enter forget stepOf retained deedOf deeds drawShape drawStep drawBody passageTo passageOf through drawCall happens tableAfter story counted goOn ending shapesOf digits decimal spaced letterOf said lines flat wordsOfTurn wordsOfStep wordsOfBody wordsIn heldTo wordsAfter wordsNeeded lastThen add addAll lean dangles danglingCalls danglingAt warningsAt warningLine warningLines lineOf sinceLineEnd columnOf flatFile success failure given-back fitted drawn outcomeOf fields shapeLines extreme boxReach reachOf reach around windows hull joined windowLine listing verdict answerOf
+unfolding row-holds print-holds every small flatMap has dec kinds table kindOf entryOf nextOf modeAfter markOf roleOf marked verdictOf any those first same bytesOf worth numbers paired next named turnAt turns commandAt commands after nearest scaled whole scaledShape scaledTurn beyond partsOf shifts bearings distances numbersOf zeroScale least emptyShape degenerate layerless tooMany atNumbers faults allFaults firstFault ragged roundedFrom rounded negative heading rotated act aim inOrder moved offAxes find enter forget stepOf retained deedOf deeds drawShape drawStep drawBody passageTo passageOf through drawCall happens tableAfter story counted goOn ending shapesOf digits decimal spaced letterOf said lines flat wordsOfTurn wordsOfStep wordsOfBody wordsIn heldTo wordsAfter wordsNeeded lastThen add addAll lean dangles danglingCalls danglingAt warningsAt warningLine warningLines lineOf sinceLineEnd columnOf flatFile success failure given-back fitted drawn outcomeOf extreme boxReach slants reachOf reach around windows hull joined fields shapeLines windowLine listing among namesAfter namesFrom tooManyFrom sooner firstFaultOrName shape? call? layersOf ownShapes ownCalls ownLayers bothReply stepReply bodyReply higher replyBy replyTo kept? tableLeft tableDeeds appearing packedName bodyFound inSymbol noSummary summaryIn summaryFrom summaryOf layerSet verdict answerOf summaryVerdict summaryFor
 all-hold rs = every row-holds rs
 
 unfoldable pub all-print : List Printout → Bool
@@ -231,7 +233,7 @@ print-right r h =
     (same-eq _ _ (and-right (leb (length t) 32768) _ rest))
     (within (leb→le (length t) 32768 (and-left (leb (length t) 32768) _ rest)) (right t 32768 32768 (small-bytes t (and-left (small t) _ h))))
 
-by-test : {A : Type 0} (test : A → Bool) (P : A → Type 0) → ((r : A) → T (test r) → P r) → (rs : List A) → T (every test rs) → Each P rs
+pub by-test : {A : Type 0} (test : A → Bool) (P : A → Type 0) → ((r : A) → T (test r) → P r) → (rs : List A) → T (every test rs) → Each P rs
 unfolding every
 by-test test P right [] t i h d = absurd (not-suc-le-zero h)
 by-test test P right (r ∷ rs) t zero h d = right r (and-left (test r) _ t)

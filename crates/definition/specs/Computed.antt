@@ -10,7 +10,9 @@ use Rattle.grammar.specs.declared.Verdict.the-variants.{InGrammar, StuckAt}
 use Rattle.definition.specs.Limits.{mostBytes}
 use Rattle.definition.specs.Words.{if_then_else_}
 use Rattle.definition.specs.Rules.{textTooLong, notInGrammar, refuse}
+use Rattle.definition.specs.declared.Summary.{Summary}
 use Rattle.definition.specs.Answer.{Outcome, rejected, outcomeOf}
+use Rattle.definition.specs.Summary.{noSummary, summaryOf}
 
 unfoldable pub verdict : Verdict → List ℕ → (words room : ℕ) → Outcome
 verdict InGrammar t words room = outcomeOf (marked 0 0 t) words room
@@ -18,3 +20,10 @@ verdict (StuckAt n) t words room = rejected (refuse notInGrammar n) []
 
 unfoldable pub answerOf : List ℕ → (words room : ℕ) → Outcome
 answerOf t words room = if ltb mostBytes (length t) then rejected (refuse textTooLong 0) [] else verdict (verdictOf 0 0 0 t) t words room
+
+unfoldable pub summaryVerdict : Verdict → List ℕ → (words symbol : ℕ) → Summary
+summaryVerdict InGrammar t words n = summaryOf t (marked 0 0 t) words n
+summaryVerdict (StuckAt k) t words n = noSummary t (refuse notInGrammar k)
+
+unfoldable pub summaryFor : List ℕ → (words symbol : ℕ) → Summary
+summaryFor t words n = if ltb mostBytes (length t) then noSummary t (refuse textTooLong 0) else summaryVerdict (verdictOf 0 0 0 t) t words n

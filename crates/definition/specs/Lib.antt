@@ -17,4 +17,6 @@ pub mod Position
 pub mod Answer
 pub mod Window
 pub mod Listing
+pub mod Summary
+pub mod Marks
 pub mod Computed

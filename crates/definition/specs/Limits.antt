@@ -25,3 +25,6 @@ mostCalls = 1048576
 
 abbrev pub mostShapes : ℕ  -- 17
 mostShapes = 1048576
+
+abbrev pub mostLayers : ℕ  -- 19
+mostLayers = 64

@@ -17,6 +17,8 @@ pub const DEEPEST: usize = 32;
 pub const MOST_CALLS: usize = 1_048_576;
 
 pub const MOST_SHAPES: usize = 1_048_576;
+// The most layer names of a text whose symbols are summed up (19).
+pub const MOST_LAYERS: usize = 64;
 
 // A refusal: its number in document 01's table, and its place.
 pub struct Refusal {
@@ -38,4 +40,20 @@ pub struct Answer {
     pub column: usize,
     pub opened: usize,
     pub chain: [usize; DEEPEST],
+}
+
+// What is told of a symbol (02, request 3): refusal number, place, line and column; what drawing it would give, 12, 13, 14 or 0; how many layers a call
+// would draw, the packed name of the first of them in the text, and the height; and its own shapes, calls and layers.
+pub struct Summary {
+    pub number: usize,
+    pub place: usize,
+    pub line: usize,
+    pub column: usize,
+    pub gives: usize,
+    pub drawn: usize,
+    pub first: usize,
+    pub height: usize,
+    pub shapes: usize,
+    pub calls: usize,
+    pub layers: usize,
 }

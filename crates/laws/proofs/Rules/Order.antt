@@ -10,7 +10,7 @@ use lib.Dec.{eqb}
 use lib.ListN.{getD}
 use Rattle.definition.specs.declared.Refusal.{Refusal}
 use Rattle.definition.specs.Rules.{Rule, textTooLong, notInGrammar, numberTooLarge, zeroFactor, scaledTooLarge, degenerateCommand, noLayer}
-use Rattle.definition.specs.Rules.{tooManyParts, tooManyDefinitions, tooFewWords, offTheAxes, undefinedSymbol, beingDrawn, tooDeep, tooManyCalls, xOutOfRange, yOutOfRange}
+use Rattle.definition.specs.Rules.{tooManyParts, tooManyLayers, tooManyDefinitions, tooFewWords, offTheAxes, undefinedSymbol, beingDrawn, tooDeep, tooManyCalls, xOutOfRange, yOutOfRange}
 use Rattle.definition.specs.Rules.{tooManyShapes, flatFileTooLong, numberOf, refuse, order}
 use Rattle.definition.specs.Words.{if_then_else_}
 
@@ -48,6 +48,7 @@ standing-there scaledTooLarge = refl
 standing-there degenerateCommand = refl
 standing-there noLayer = refl
 standing-there tooManyParts = refl
+standing-there tooManyLayers = refl
 standing-there tooManyDefinitions = refl
 standing-there tooFewWords = refl
 standing-there offTheAxes = refl
@@ -79,6 +80,7 @@ number-from-1 scaledTooLarge = omega arith
 number-from-1 degenerateCommand = omega arith
 number-from-1 noLayer = omega arith
 number-from-1 tooManyParts = omega arith
+number-from-1 tooManyLayers = omega arith
 number-from-1 tooManyDefinitions = omega arith
 number-from-1 tooFewWords = omega arith
 number-from-1 offTheAxes = omega arith
@@ -101,6 +103,7 @@ number-not-5 scaledTooLarge e = omega arith
 number-not-5 degenerateCommand e = omega arith
 number-not-5 noLayer e = omega arith
 number-not-5 tooManyParts e = omega arith
+number-not-5 tooManyLayers e = omega arith
 number-not-5 tooManyDefinitions e = omega arith
 number-not-5 tooFewWords e = omega arith
 number-not-5 offTheAxes e = omega arith
