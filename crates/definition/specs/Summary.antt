@@ -126,9 +126,9 @@ kept? (output s) = false
 kept? (define d) = true
 kept? (remove n) = true
 
-unfoldable pub tableLeft : Table → List Deed → Table  -- the table left at the end
-tableLeft t [] = t
-tableLeft t (d ∷ ds) = tableLeft (tableAfter t d) ds
+unfoldable pub tableThen : Table → List Deed → Table  -- the table after deeds
+tableThen t [] = t
+tableThen t (d ∷ ds) = tableThen (tableAfter t d) ds
 
 unfoldable pub tableDeeds : List (Placed Command) → List Deed  -- what keeps the table, without what is drawn
 tableDeeds cs = those kept? (deeds (outside []) cs)
@@ -194,7 +194,7 @@ summaryIn t (finished c) names tb n = inSymbol names (replyTo deepest tb [] 0 n)
 
 unfoldable pub summaryFrom : List ℕ → Option Refusal → List (Placed Command) → (words symbol : ℕ) → Summary  -- 10 and 25 come after 3 to 9 and 19
 summaryFrom t (some r) cs words n = noSummary t r
-summaryFrom t none cs words n = summaryIn t (ending (counts 0 0 0) (map (heldTo words) (story [] (tableDeeds cs)))) (layerNames cs) (tableLeft [] (tableDeeds cs)) n
+summaryFrom t none cs words n = summaryIn t (ending (counts 0 0 0) (map (heldTo words) (story [] (tableDeeds cs)))) (layerNames cs) (tableThen [] (tableDeeds cs)) n
 
 unfoldable pub summaryOf : List ℕ → List Letter → (words symbol : ℕ) → Summary
 summaryOf t m words n = summaryFrom t (firstFaultOrName (commands 0 m)) (commands 0 m) words n

@@ -16,3 +16,4 @@ pub mod HeldStory
 pub mod Lean
 pub mod WordSums
 pub mod WordsHeld
+pub mod Marks

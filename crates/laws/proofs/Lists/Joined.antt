@@ -20,6 +20,8 @@ use Rattle.definition.specs.Drawing.{called, drew, entered, removed, refused}
 use Rattle.definition.specs.Counts.{Counts, End, finished, stopped, counted, goOn, ending, shapesOf}
 use Rattle.definition.specs.Flat.{said, lines}
 use Rattle.definition.specs.Commands.{draw, layer, call, finish, delete, nothing}
+-- the table after a list of deeds
+unfoldable pub use Rattle.definition.specs.Summary.{tableThen}
 
 pub flat-++ : {A B : Type 0} (f : A → List B) (a b : List A) → flatMap f (a ++ b) ≡ flatMap f a ++ flatMap f b
 unfolding flatMap
@@ -39,11 +41,6 @@ drawBody-++ f chain net [] b = refl
 drawBody-++ f chain net (s ∷ a) b =
     ap (λ (x : List Event). drawStep f chain net (s .place) (s .what) ++ x) (drawBody-++ f chain net a b)
     ∙ sym (append-assoc (drawStep f chain net (s .place) (s .what)) (drawBody f chain net a) (drawBody f chain net b))
-
--- the table after a list of deeds
-unfoldable pub tableThen : Table → List Deed → Table
-tableThen t [] = t
-tableThen t (d ∷ ds) = tableThen (tableAfter t d) ds
 
 pub story-++ : (t : Table) (a b : List Deed) → story t (a ++ b) ≡ story t a ++ story (tableThen t a) b
 unfolding story tableThen
