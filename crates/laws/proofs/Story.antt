@@ -17,3 +17,4 @@ pub mod Lean
 pub mod WordSums
 pub mod WordsHeld
 pub mod Marks
+pub mod LeanReplies

@@ -8,21 +8,10 @@ use Rattle.definition.specs.Words.{if_then_else_, Placed, those, none?}
 use Rattle.definition.specs.Table.{Step, shape, instance, setting, Definition, Table, find}
 use Rattle.definition.specs.Lean.{lean, leanDefinition, leanTable}
 use Rattle.definition.specs.Warnings.{dangles, danglingCalls}
+use Rattle.laws.proofs.Lists.Joined.{kept-if, those-flat}
 use Rattle.laws.proofs.Story.Lean.{Setting, lean-same, lean-find}
 
 -- ---- calls
-
-abbrev kept-if : {A : Type 0} → Bool → A → List A
-kept-if b a = if b then a ∷ [] else []
-
-those-flat : {A : Type 0} (test : A → Bool) (l : List A) → those test l ≡ flatMap (λ a. kept-if (test a) a) l
-unfolding those flatMap
-those-flat test [] = refl
-those-flat {A} test (a ∷ l) = go (test a) (those-flat test l)
-  where
-    go : (b : Bool) → those test l ≡ flatMap (λ a. kept-if (test a) a) l → (if b then a ∷ those test l else those test l) ≡ kept-if b a ++ flatMap (λ a. kept-if (test a) a) l
-    go true e = ap (λ (z : List A). a ∷ z) e
-    go false e = e
 
 none-map : {A B : Type 0} (f : A → B) (o : Option A) → none? (Option·map f o) ≡ none? o
 none-map f none = refl

@@ -8,7 +8,7 @@ use native.Mathlib.Omega.{arith}
 use lib.IntN.{ℤ}
 use lib.ListN.{length}
 use Rattle.grammar.specs.Notation.{Role, Letter, dec, Role-discrete, head, second, axis, sign, stop, later}
-use Rattle.definition.specs.Words.{if_then_else_, Placed, at, Point}
+use Rattle.definition.specs.Words.{if_then_else_, Placed, at, Point, those}
 use Rattle.definition.specs.Commands.{Turn, Command, start, worth, numbers, named, next, turnAt, turns, commandAt, commands, _plays_}
 use Rattle.definition.specs.Standing.{Standing, outside, after}
 use Rattle.definition.specs.declared.Refusal.{Refusal}
@@ -22,6 +22,19 @@ use Rattle.definition.specs.Flat.{said, lines}
 use Rattle.definition.specs.Commands.{draw, layer, call, finish, delete, nothing}
 -- the table after a list of deeds
 unfoldable pub use Rattle.definition.specs.Summary.{tableThen}
+
+-- those that pass a test, one by one
+abbrev pub kept-if : {A : Type 0} → Bool → A → List A
+kept-if b a = if b then a ∷ [] else []
+
+pub those-flat : {A : Type 0} (test : A → Bool) (l : List A) → those test l ≡ flatMap (λ a. kept-if (test a) a) l
+unfolding those flatMap
+those-flat test [] = refl
+those-flat {A} test (a ∷ l) = go (test a) (those-flat test l)
+  where
+    go : (b : Bool) → those test l ≡ flatMap (λ a. kept-if (test a) a) l → (if b then a ∷ those test l else those test l) ≡ kept-if b a ++ flatMap (λ a. kept-if (test a) a) l
+    go true e = ap (λ (z : List A). a ∷ z) e
+    go false e = e
 
 pub flat-++ : {A B : Type 0} (f : A → List B) (a b : List A) → flatMap f (a ++ b) ≡ flatMap f a ++ flatMap f b
 unfolding flatMap
