@@ -3,13 +3,14 @@
 use counts::Counts;
 use definition::Answer;
 use definition::Refusal;
+use definition::Summary;
 ghost use mathlib.Core.Path.{_≡_};
 ghost use mathlib.Core.List.{[], _++_};
 ghost use lib.ListN.{length};
 ghost use Rattle.definition.specs.Answer.{success, failure};
 ghost use Rattle.counts.specs.Counting.{tally};
 ghost use Rattle.chain.specs.Chain.{runLength, chainIn};
-ghost use Rattle.answer.specs.Words.{zeros, firstWords, answerWords, wordsAbout, chainBy, answerBy};
+ghost use Rattle.answer.specs.Words.{zeros, firstWords, answerWords, wordsAbout, summaryWords, chainBy, answerBy};
 
 // How many words a host lends, and where those stand that an answer sets today. All others are 0.
 pub const WORDS: usize = 64;
@@ -37,6 +38,20 @@ const OPENED: usize = 9;
 const TEXT: usize = 10;
 
 const CHAIN: usize = 16;
+
+const GIVES: usize = 48;
+
+const DRAWN: usize = 49;
+
+const FIRST: usize = 50;
+
+const HEIGHT: usize = 51;
+
+const OWN_SHAPES: usize = 52;
+
+const OWN_CALLS: usize = 53;
+
+const OWN_LAYERS: usize = 54;
 
 // A refusal gives zero for the length and for every count, whatever has been counted by then, and tells where it is: line and column of its place, and the
 // calls that were open there.
@@ -128,6 +143,25 @@ pub fn words_about(answer: Answer, text: usize) -> [u64; WORDS]
 {
     let mut told = words(answer);
     told[TEXT] = text as u64;
+    told
+}
+
+// The words of what is told of a symbol (02, request 3): a refusal of the text stands where every answer has it.
+pub fn summary_words(summary: Summary) -> [u64; WORDS]
+    ensures { λ r. ⌜ r ≡ summaryWords summary ⌝ }
+{
+    let mut told = [0; WORDS];
+    told[NUMBER] = summary.number as u64;
+    told[PLACE] = summary.place as u64;
+    told[LINE] = summary.line as u64;
+    told[COLUMN] = summary.column as u64;
+    told[GIVES] = summary.gives as u64;
+    told[DRAWN] = summary.drawn as u64;
+    told[FIRST] = summary.first as u64;
+    told[HEIGHT] = summary.height as u64;
+    told[OWN_SHAPES] = summary.shapes as u64;
+    told[OWN_CALLS] = summary.calls as u64;
+    told[OWN_LAYERS] = summary.layers as u64;
     told
 }
 

@@ -8,15 +8,17 @@ use lib.ListN.{length}
 use Rattle.grammar.specs.declared.Verdict.{Verdict}
 use Rattle.grammar.proofs.Unique.{one-verdict}
 use Rattle.definition.specs.declared.Answer.{Answer}
+use Rattle.definition.specs.declared.Summary.{Summary}
 use Rattle.definition.proofs.Right.{one-answer}
+use Rattle.definition.proofs.Summed.{one-summary}
 use Rattle.checking.specs.declared.Fault.{Fault}
 use Rattle.reading.proofs.Unique.{one-refusal}
-use Rattle.answer.specs.Words.{answerWords}
+use Rattle.answer.specs.Words.{answerWords, summaryWords}
 use Rattle.listing.specs.Listed.{Listed}
 use Rattle.listing.proofs.Agrees.{one-listing}
 use Rattle.join.specs.declared.JoinAnswer.{JoinAnswer}
 use Rattle.join.proofs.Once.{made-once}
-use Rattle.cif.specs.Told.{FlattenTold, ListTold, RefusalTold, VerdictTold, JoinTold, faultAnswer, verdictAnswer, joinWords}
+use Rattle.cif.specs.Told.{FlattenTold, ListTold, RefusalTold, VerdictTold, JoinTold, SummaryTold, faultAnswer, verdictAnswer, joinWords}
 
 -- words that say one answer are one list
 same-words : {words words′ : List ℕ} {a a′ : Answer} → words ≡ answerWords a → words′ ≡ answerWords a′ → a ≡ a′ → words ≡ words′
@@ -47,3 +49,9 @@ pub join-told-once : {first second room words words′ left left′ : List ℕ} 
 join-told-once {first} {second} a b =
     let one = made-once (a .made) (b .made) in
     (a .said ∙ (ap (λ (x : JoinAnswer). joinWords first second x) (one .0) ∙ sym (b .said)), one .1)
+
+pub summary-told-once : {t words words′ : List ℕ} {lent lent′ lent″ : List ℤ} {symbol : ℕ} → SummaryTold t lent symbol words lent′ → SummaryTold t lent symbol words′ lent″
+    → (words ≡ words′) × (lent′ ≡ lent″)
+summary-told-once a b =
+    let one = one-summary (a .summarised) (b .summarised) in
+    (a .said ∙ (ap (λ (x : Summary). summaryWords x) (one .0) ∙ sym (b .said)), one .1)

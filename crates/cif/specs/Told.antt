@@ -10,14 +10,16 @@ use Rattle.grammar.specs.declared.Verdict.{Verdict}
 use Rattle.grammar.specs.declared.Verdict.the-variants.{InGrammar, StuckAt}
 use Rattle.definition.specs.declared.Answer.{Answer}
 use Rattle.definition.specs.declared.Refusal.{Refusal}
+use Rattle.definition.specs.declared.Summary.{Summary}
 use Rattle.definition.specs.Words.{if_then_else_}
 use Rattle.definition.specs.Rules.{notInGrammar, refuse}
 use Rattle.definition.specs.Counts.{counts}
 use Rattle.definition.specs.Answer.{success, failure, zeros, Promised}
+use Rattle.definition.specs.Summary.{Summarised}
 use Rattle.checking.specs.declared.Fault.{Fault}
 use Rattle.checking.specs.declared.Fault.the-variants.{Clear, Refused}
 use Rattle.reading.specs.Refusal.{Refuses}
-use Rattle.answer.specs.Words.{answerWords, wordsAbout, answerBy}
+use Rattle.answer.specs.Words.{answerWords, wordsAbout, summaryWords, answerBy}
 use Rattle.listing.specs.Listed.{Listed}
 use Rattle.join.specs.declared.JoinAnswer.{JoinAnswer}
 use Rattle.join.specs.declared.JoinAnswer.the-variants.{Written, NotJoined}
@@ -74,3 +76,9 @@ pub record JoinTold (first second room words left : List ℕ) : Type 0 where  --
   pub answer : JoinAnswer
   pub made : Made first second room answer left
   pub said : words ≡ joinWords first second answer
+
+-- `cif_summary`: what is in a symbol of a text, with so many words lent, which are all zero afterwards
+pub record SummaryTold (t : List ℕ) (lent : List ℤ) (symbol : ℕ) (words : List ℕ) (lent′ : List ℤ) : Type 0 where
+  pub given : Summary
+  pub summarised : Summarised t lent symbol given lent′
+  pub said : words ≡ summaryWords given

@@ -6,7 +6,7 @@ use definition::Refusal;
 use grammar::Verdict;
 use join::JoinAnswer;
 ghost use mathlib.Core.Path.{_≡_};
-ghost use Rattle.cif.specs.Told.{FlattenTold, ListTold, RefusalTold, VerdictTold, JoinTold, faultAnswer, verdictAnswer, refusedIn, joinWords};
+ghost use Rattle.cif.specs.Told.{FlattenTold, ListTold, RefusalTold, VerdictTold, JoinTold, SummaryTold, faultAnswer, verdictAnswer, refusedIn, joinWords};
 
 // A check makes no flat file and counts nothing, and no call is open.
 fn fault_answer(text: &[u8], fault: Fault) -> Answer
@@ -114,4 +114,18 @@ pub extern "C" fn cif_join(
 {
     let made = join::join(first, second, room);
     *answer = join_words(first, second, made);
+}
+
+// What is in a symbol, in the table left at the end of a text: the words lent for the definitions are all zero afterwards. All is settled: `summary-told-once`.
+#[no_mangle]
+pub extern "C" fn cif_summary(
+    text: &[u8],
+    words: &mut [i32],
+    symbol: usize,
+    answer: &mut [u64; answer::WORDS],
+)
+    ensures { λ _. ⌜ SummaryTold (now (text .entry)) (now (words .entry)) symbol (now (answer .exit)) (now (words .exit)) ⌝ }
+{
+    let given = summary::summarise(text, words, symbol);
+    *answer = answer::summary_words(given);
 }

@@ -1,0 +1,4 @@
+pub mod Starting
+pub mod Along
+pub mod Telling
+pub mod Cut
