@@ -1,2 +1,4 @@
 pub mod Adding
 pub mod Moved
+pub mod Putting
+pub mod Entering

@@ -143,7 +143,7 @@ one-row {rows} {live} {i} {j} s h g e = go (three i j)
 
 -- ---- a definition is entered
 
-module _ {rows rows′ : List ℕ} {b b′ : List ℤ} {live live′ : ℕ} {t : Table} {d : Definition} (h : Holds rows b live t) (h′ : Holds rows′ b′ live′ (enter d t)) where
+module _ {rows rows′ : List ℕ} {b b′ : List ℤ} {live live′ : ℕ} {t : Table} (d : Definition) (h : Holds rows b live t) (h′ : Holds rows′ b′ live′ (enter d t)) where
   abbrev x : Definition
   x = bare 0 0
 

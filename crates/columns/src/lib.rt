@@ -73,6 +73,8 @@ fn put(column: &mut [u64; library::MOST], before: usize, live: usize, row: usize
 {
     if before < live {
         shift(column, before, row);
+        column[row] = number;
+        return;
     }
     column[row] = number;
 }

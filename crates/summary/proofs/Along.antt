@@ -281,7 +281,7 @@ module _ {t : List ℕ} {w : ℕ} {words₀ : List ℤ} {names : List ℕ} {coun
           pub may-enter : (More (stock .live) (stock′ .live) × Sorted rows′ (stock′ .live) × StandsIn rows′ (stock′ .live) (start .symbol)) × (Stocked rows′ b′ (stock′ .live) × (length b′ ≤ mostWords))
           may-enter =
               let k = takes s m e start q defines f .kept in
-              ((entered-more (s .kept .holds) (k .holds), k .sorted, entered-stands (s .kept .holds) (k .holds) same-symbol), (k .stocked, k .short))
+              ((entered-more new (s .kept .holds) (k .holds), k .sorted, entered-stands new (s .kept .holds) (k .holds) same-symbol), (k .stocked, k .short))
 
           pub along-defined : {figures′ calls′ layers′ : List ℕ} → Enters b′ rows′ (stock .live) (stock′ .live) (start .symbol) names count figures calls layers figures′ calls′ layers′
               → Next rows′ b′ figures′ calls′ layers′ to′ stock′ c′
@@ -296,7 +296,7 @@ module _ {t : List ℕ} {w : ℕ} {words₀ : List ℤ} {names : List ℕ} {coun
                 bodies-kept = size-then;
                 words-kept = run-kept r ∙ u .words-kept;
                 few = omega (arith, u .few, k .redefined, k .ahead, r .ahead);
-                afresh = afresh-entered (s .kept .holds) (k .kept .holds) same-symbol (k .kept .sorted) (u .afresh) x;
+                afresh = afresh-entered new (s .kept .holds) (k .kept .holds) same-symbol (k .kept .sorted) (u .afresh) x;
                 table-left =
                     ap (tableThen (enter new (s .table))) same
                     ∙ (sym (ap (tableThen (s .table)) kept-left ∙ then-define (s .table) new (keptOf later)) ∙ u .table-left);
