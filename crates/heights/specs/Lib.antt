@@ -1,0 +1,4 @@
+pub mod Calls
+pub mod Walk
+pub mod Kept
+pub mod Replies
