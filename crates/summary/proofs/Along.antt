@@ -93,18 +93,18 @@ module _ (w : ℕ) (c : Tally) (t : Table) where
 
     end-overfull : mostDefinitions < length (enter d t) → endFrom w c t (define d ∷ ds) ≡ stopped (refuse tooManyDefinitions (d .place)) []
     unfolding ending counted goOn
-    end-overfull h = ap (ending c) (starts-with (held-define w t d ∙ rw (lt-ltb mostDefinitions (length (enter d t)) h) refl))
+    end-overfull h = ap (ending c) (starts-with {e = refused (refuse tooManyDefinitions (d .place)) []} (held-define w t d ∙ rw (lt-ltb mostDefinitions (length (enter d t)) h) refl))
 
     module _ (few : length (enter d t) ≤ mostDefinitions) where
       end-short : w < wordsIn (enter d t) → endFrom w c t (define d ∷ ds) ≡ stopped (refuse tooFewWords (d .place)) []
       unfolding ending counted goOn
       end-short h =
-          ap (ending c) (starts-with (held-define w t d ∙ rw (le-ltb mostDefinitions (length (enter d t)) few, lt-ltb w (wordsIn (enter d t)) h) refl))
+          ap (ending c) (starts-with {e = refused (refuse tooFewWords (d .place)) []} (held-define w t d ∙ rw (le-ltb mostDefinitions (length (enter d t)) few, lt-ltb w (wordsIn (enter d t)) h) refl))
 
       end-define : {c′ : Tally} → wordsIn (enter d t) ≤ w → counted c (entered d t) ≡ finished c′ → endFrom w c t (define d ∷ ds) ≡ endFrom w c′ (enter d t) ds
       unfolding ending goOn
       end-define {c′} h e =
-          ap (ending c) (starts-with (held-define w t d ∙ rw (le-ltb mostDefinitions (length (enter d t)) few, le-ltb w (wordsIn (enter d t)) h) refl))
+          ap (ending c) (starts-with {e = entered d t} (held-define w t d ∙ rw (le-ltb mostDefinitions (length (enter d t)) few, le-ltb w (wordsIn (enter d t)) h) refl))
           ∙ ap (λ (x : End). goOn x (λ c″. endFrom w c″ (enter d t) ds)) e
 
 then-none : (t : Table) → tableThen t [] ≡ t
@@ -258,7 +258,7 @@ module _ {t : List ℕ} {w : ℕ} {words₀ : List ℤ} {names : List ℕ} {coun
       along-begins = may-define s m e start q
 
       module _ {rows′ : List ℕ} {b′ : List ℤ} {d : Defined} (defines : DefinesAt t rows b stock to start counts d rows′ b′) where
-        size-then : length b′ ≡ w
+        pub size-then : length b′ ≡ w
         size-then = defines .size ∙ u .bodies-kept
 
         abbrev new : Definition

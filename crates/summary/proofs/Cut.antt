@@ -65,7 +65,7 @@ module _ {t : List ℕ} (p : Passed t) where
           ap (ending (counts 0 0 0)) (enough mostWords s ∙ sym (enough n (omega (arith, s, h))))
 
 -- so many words of n, the first k, are lent
-pub tells-lent : (n : ℕ) {r k : ℕ} → r ≡ lentOf n → k ≡ r - 0 → {t : List ℕ} (names : List ℕ) {count symbol : ℕ} {x : Summary} → TellsText t k names count symbol x → TellsText t n names count symbol x
-tells-lent n {r} {k} e q {t} names {count} {symbol} h p noted =
+pub tells-lent : (n : ℕ) {r k : ℕ} → r ≡ lentOf n → k ≡ r - 0 → {t : List ℕ} (names : List ℕ) {count : ℕ} (symbol : ℕ) {x : Summary} → TellsText t k names count symbol x → TellsText t n names count symbol x
+tells-lent n {r} {k} e q {t} names symbol h p noted =
     let same : k ≡ lentOf n = omega (arith, e, q) in
     h p noted ∙ ap (λ (x : End). summaryIn t x (layerNames (commands 0 (p .letters))) (tableLeft (p .letters)) symbol) (ap (λ (w : ℕ). endOf w (p .letters)) same ∙ end-cut p n)

@@ -69,7 +69,7 @@ high σ d =
 high-all : (σ : Standing) (cs : List (Placed Command)) → All High (allFaults σ cs)
 unfolding allFaults All
 high-all σ [] = tt
-high-all σ (c ∷ cs) = all-++ High _ _ (high σ c) (high-all (after (c .what) σ) cs)
+high-all σ (c ∷ cs) = all-++ High (faults σ c) (allFaults (after (c .what) σ) cs) (high σ c) (high-all (after (c .what) σ) cs)
 
 high-first : (rs : List Refusal) {r : Refusal} → All High rs → first rs ≡ some r → High r
 unfolding first All
@@ -82,11 +82,11 @@ from-three cs e = high-first (allFaults (outside []) cs) (high-all (outside []) 
 
 -- ---- the first in the text
 
-pub foremost-none : {t : List ℕ} {names : List ℕ} {n : ℕ} (before : Refusal) {g : Gathered} → ((m : List Letter) → Marked t m → Gathers (commands 0 m) g names) → g ≡ Named n → Foremost t before before
+pub foremost-none : {t : List ℕ} (names : List ℕ) {n : ℕ} (before : Refusal) {g : Gathered} → ((m : List Letter) → Marked t m → Gathers (commands 0 m) g names) → g ≡ Named n → Foremost t before before
 unfolding Gathers sooner
-foremost-none {names = names} before f e m k = ap (sooner (some before)) (subst (λ (g : Gathered). Gathers (commands 0 m) g names) e (f m k) .1)
+foremost-none names before f e m k = ap (sooner (some before)) (subst (λ (g : Gathered). Gathers (commands 0 m) g names) e (f m k) .1)
 
-module _ {t : List ℕ} {names : List ℕ} {p : ℕ} (before : Refusal) {g : Gathered} (f : (m : List Letter) → Marked t m → Gathers (commands 0 m) g names) (e : g ≡ Over p) where
+module _ {t : List ℕ} (names : List ℕ) {p : ℕ} (before : Refusal) {g : Gathered} (f : (m : List Letter) → Marked t m → Gathers (commands 0 m) g names) (e : g ≡ Over p) where
   over-at : (m : List Letter) → Marked t m → tooManyFrom [] (commands 0 m) ≡ some (refuse tooManyLayers p)
   unfolding Gathers
   over-at m k = subst (λ (g : Gathered). Gathers (commands 0 m) g names) e (f m k)
@@ -138,9 +138,9 @@ module _ {t : List ℕ} {d : Fault} {why : Refusal} (x : Screened t d) (e : d �
       go (over h) q k = absurd (let z = ap (λ (r : Refusal). r .number) (same-refusal q) in omega (arith, z, k))
       go (within h f) q k = judged h (f .verdict) (f .judged) (subst (byVerdict t (f .verdict)) q (f .is)) k
 
-  pub before-commands : why .number < 3 → {names : List ℕ} → Starts t (begun.Stopped why) names
+  pub before-commands : why .number < 3 → (names : List ℕ) → Starts t (begun.Stopped why) names
   unfolding Starts
-  before-commands h {names} = go x e
+  before-commands h names = go x e
     where
       judged : length t ≤ mostBytes → (v : Verdict) → Judged t v → byVerdict t v (Refused why) → (words symbol : ℕ) → Summarises t words symbol (noSummary t why)
       judged s InGrammar g f words symbol = absurd (let z = from-three (commands 0 (g .0)) (fault-of g f) in omega (arith, z, h))
@@ -150,13 +150,13 @@ module _ {t : List ℕ} {d : Fault} {why : Refusal} (x : Screened t d) (e : d �
       go (over s) q words symbol = subst (λ (r : Refusal). Summarises t words symbol (noSummary t r)) (same-refusal q) (too-long s)
       go (within s f) q words symbol = judged s (f .verdict) (f .judged) (subst (byVerdict t (f .verdict)) q (f .is)) words symbol
 
-pub by-commands : {t : List ℕ} {before r : Refusal} {names : List ℕ} → OfCommands t before → Foremost t before r → Starts t (begun.Stopped r) names
+pub by-commands : {t : List ℕ} {before r : Refusal} (names : List ℕ) → OfCommands t before → Foremost t before r → Starts t (begun.Stopped r) names
 unfolding Starts firstFaultOrName
-by-commands {t} {before} o f = stopped-by (o .short) (o .grammatical .1) (ap (λ (x : Option Refusal). sooner x (tooManyFrom [] (commands 0 (o .grammatical .0)))) (o .is) ∙ f (o .grammatical .0) (o .grammatical .1))
+by-commands names o f = stopped-by (o .short) (o .grammatical .1) (ap (λ (x : Option Refusal). sooner x (tooManyFrom [] (commands 0 (o .grammatical .0)))) (o .is) ∙ f (o .grammatical .0) (o .grammatical .1))
 
 -- ---- a text that 3 to 9 let pass
 
-module _ {t : List ℕ} (p : Passed t) {names : List ℕ} {g : Gathered} (f : (m : List Letter) → Marked t m → Gathers (commands 0 m) g names) where
+module _ {t : List ℕ} (p : Passed t) (names : List ℕ) {g : Gathered} (f : (m : List Letter) → Marked t m → Gathers (commands 0 m) g names) where
   pub passed-named : {n : ℕ} → g ≡ Named n → Starts t (begun.Named n) names
   unfolding Starts Gathers
   passed-named {n} e =

@@ -10,6 +10,7 @@ use keeping::Stock;
 use marks::Gathered;
 ghost use mathlib.Core.Path.{_≡_};
 ghost use Prim.Native.Nat.{_+_, _<_, _≤_};
+ghost use lib.Count.{ones, trailingZeros};
 ghost use lib.ListN.{length};
 ghost use Rattle.grammar.specs.Viable.{Grammatical};
 ghost use Rattle.grammar.specs.Steps.{KindsLent, NextLent};
@@ -187,6 +188,19 @@ fn begin(text: &[u8], names: &mut [usize; definition::MOST_LAYERS]) -> Begun
     }
 }
 
+// How many layers a set has, and the mark of the first of them in the text.
+fn ones_of(set: u64) -> u32
+    ensures { λ r. ⌜ r ≡ ones set ⌝ }
+{
+    u64::count_ones(set)
+}
+
+fn lowest_of(set: u64) -> u32
+    ensures { λ r. ⌜ r ≡ trailingZeros 64 set ⌝ }
+{
+    u64::trailing_zeros(set)
+}
+
 // The name of a set's first layer, packed; 0 for none.
 fn first_name(names: &[usize; definition::MOST_LAYERS], set: u64) -> usize
     requires { ⌜ SetIn (now names) set ⌝ }
@@ -195,7 +209,7 @@ fn first_name(names: &[usize; definition::MOST_LAYERS], set: u64) -> usize
     if set == 0 {
         return 0;
     }
-    let mark = u64::trailing_zeros(set) as usize;
+    let mark = lowest_of(set) as usize;
     names[mark]
 }
 
@@ -206,7 +220,7 @@ fn tell_reply(names: &[usize; definition::MOST_LAYERS], reply: Reply, own: Own) 
 {
     let shapes = own.shapes as usize;
     let calls = own.calls as usize;
-    let layers = u64::count_ones(own.layers) as usize;
+    let layers = ones_of(own.layers) as usize;
     match reply {
         Reply::Bars(number) => Summary {
             number: 0,
@@ -223,13 +237,14 @@ fn tell_reply(names: &[usize; definition::MOST_LAYERS], reply: Reply, own: Own) 
         },
         Reply::Stands(height, set) => {
             let first = first_name(names, set);
+            let drawn = ones_of(set) as usize;
             Summary {
                 number: 0,
                 place: 0,
                 line: 0,
                 column: 0,
                 gives: 0,
-                drawn: u64::count_ones(set) as usize,
+                drawn,
                 first,
                 height,
                 shapes,
@@ -269,7 +284,7 @@ fn tell(
                 calls: calls[row],
                 layers: layers[row],
             };
-            let reply = heights::reply(bodies, rows, live, layers, symbol);
+            let reply = heights::ask(bodies, rows, live, layers, symbol);
             tell_reply(names, reply, own)
         }
     }
