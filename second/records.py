@@ -5,6 +5,7 @@ from typing import NamedTuple
 
 import listing
 import reader
+import summary
 
 REQUESTS = os.path.join(os.path.dirname(os.path.dirname(os.path.abspath(__file__))), "tests", "requests")
 
@@ -14,9 +15,9 @@ MOST_WORDS = 1_048_576  # lent for bodies
 MOST_CHAIN = 32  # calls open at once
 LARGEST = 4_294_967_295  # that four bytes hold; as the number of words: as many as the texts have bytes, which always suffice
 
-FLATTEN, LIST = 0, 2
-FLATTENED, LISTED = range(9, 9 + MOST_CHAIN + 1), range(3, 4)  # how many fields the line of each may have
-TO_COME = (1, 3, 4, 5, 6, 7, 8, 9)  # tasks whose requests have not landed
+FLATTEN, LIST, SUMMARISE = 0, 2, 3
+FLATTENED, LISTED, SUMMARISED = range(9, 9 + MOST_CHAIN + 1), range(3, 4), range(11, 12)  # how many fields the line of each may have
+TO_COME = (1, 4, 5, 6, 7, 8, 9)  # tasks whose requests have not landed
 
 
 def head(task, text, second=0, room=0, words=LARGEST, records=MOST_OPEN, argument=0):
@@ -41,13 +42,20 @@ def listed(lines):
     return line(0, 0, len(lines)) + lines
 
 
+def summarised(found):
+    """What is told of a symbol: the length is that of its first layer's name."""
+    return line(found.number, found.place, len(found.first), *found[2:10]) + found.first
+
+
 NOTHING = line(0, 0, 0)
 
 
-def told(task, text, room, words=LARGEST):
-    """What the second opinion tells. The list program lends enough words, whatever the number says."""
+def told(task, text, room, words=LARGEST, argument=0):
+    """What the second opinion tells. To the list and the summary enough words are lent, whatever the number says."""
     if task == FLATTEN:
         return flattened(reader.flatten(text, room, None if words == LARGEST else words))
+    if task == SUMMARISE:
+        return summarised(summary.summarise(text, argument))
     return listed(listing.listing(text)) if task == LIST else NOTHING
 
 
@@ -57,6 +65,7 @@ class Written(NamedTuple):
     task: int
     room: int
     words: int
+    argument: int
     text: bytes
     record: bytes
     told: bytes
@@ -72,7 +81,7 @@ def written():
                 text, second = bytes.fromhex(text), bytes.fromhex(second)
                 asked = record(task, text, room, second, words=words, records=lent, argument=argument)
                 label = "%s:%d (%s)" % (os.path.basename(path), at, name)
-                yield Written(label, task, room, words, text, asked, line(*map(int, fields.split(" "))) + bytes.fromhex(found))
+                yield Written(label, task, room, words, argument, text, asked, line(*map(int, fields.split(" "))) + bytes.fromhex(found))
 
 
 def parted(said, fields):

@@ -1,9 +1,10 @@
-"""An account of refusals 2 to 9, of rounded distances, of words, of chains and of warnings that knows neither the project's tables nor how they are made: `agree` holds a
-written answer to it, `agree_list` a written list.
+"""An account of refusals 2 to 9, of rounded distances, of words, of chains, of warnings and of what is in a symbol that knows neither the project's tables nor
+how they are made: `agree` holds a written answer to it, `agree_list` a written list, `agree_symbol` a written summary.
 
 It follows the printed rules of section 7.1.1 over sets of places, and finds refusals 3 to 9 by document 01's table and document 02's request 2. What the live
 bodies need by request 10 it adds up without drawing anything. A chain of request 4 it does not find, but follows: call by call to the place, and what is
-refused there must be so in those calls. The warnings of request 1 it finds from the places of all calls, those of a live body by the DS that they stand in.
+refused there must be so in those calls. The warnings of request 1 it finds from the places of all calls, those of a live body by the DS that they stand in. For request 3
+it finds the heights of all symbols from below, and then goes straight to the first call that has none.
 """
 import sys
 
@@ -374,3 +375,88 @@ def agree_list(text, lines):
     found = [] if rows[0].startswith("refused") else list(warnings(text))
     if rows[:len(shapes)] != shapes or rows[len(shapes):-3] != found:  # then come total, window, and nothing after the last line end
         sys.exit(f"no agreement on the list of {text!r}: {rows} is written, the account warns {found}")
+
+
+# ---- request 3: what is in a symbol, in the table left at the end of a text
+
+MOST_NAMES, MOST_LIVE, MOST_DEPTH = 64, 512, 32
+
+
+def refused_summary(text, stuck):
+    """The refusal of a text that is asked about a symbol with enough words lent, and its place; or nothing."""
+    if stuck is not IN_GRAMMAR:
+        return 2, stuck
+    firsts = {}
+    for at, kind, what in commands(text):
+        if kind == "L":
+            firsts.setdefault(bytes(what), at)
+    # no command holds an L command, so their places tell which comes first
+    found = [(at, 19) for at in sorted(firsts.values())[MOST_NAMES:MOST_NAMES + 1]]
+    found += [(place, number) for number, place in [fault(text)[0] or (0, 0)] if number]
+    if found:
+        return min(found)[::-1]
+    start = 0
+    for at, (kind, _, _, live) in bodies(text):
+        start = at if kind == "DS" else start
+        if len(live) > MOST_LIVE:
+            return 10, start
+    return None
+
+
+def contents(text):
+    """Of each live symbol the callees, in written order, and the layer of each shape; and all layer names by first appearance."""
+    calls, layers, names, layer, live = {}, {}, [], None, {}
+    for at, (kind, what, inside, live) in bodies(text):
+        if kind == "DS":
+            layer = None
+        elif kind == "L":
+            layer = bytes(what)
+            names += [layer] if layer not in names else []
+        elif kind == "C":
+            calls.setdefault(inside, []).append(what[0][1])
+        elif kind in "PBRW":
+            layers.setdefault(inside, []).append(layer)
+    return {n: (calls.get(start, []), layers.get(start, [])) for n, start in live.items()}, names
+
+
+def heights(live):
+    """The symbols from which every way comes to an end, each with its height: those that call nothing, those that call only these, and so on."""
+    found, last = {}, None
+    while found != last:
+        last = found
+        found = {n: 1 + max((last[callee] for callee in calls), default=0) for n, (calls, _) in live.items() if all(callee in last for callee in calls)}
+    return found
+
+
+def first_bad(live, tall, symbol):
+    """12, 13 or 14, by going into the first call that comes to no good end; 0 if there is none."""
+    if symbol not in live:
+        return 12
+    opened = [symbol]
+    while tall.get(opened[-1], MOST_DEPTH + 1) + len(opened) - 1 > MOST_DEPTH:
+        bad = next(callee for callee in live[opened[-1]][0] if callee not in tall or tall[callee] + len(opened) > MOST_DEPTH)
+        number = 12 if bad not in live else 13 if bad in opened else 14 if len(opened) == MOST_DEPTH or bad in tall else 0
+        if number:
+            return number
+        opened.append(bad)
+    return 0
+
+
+def agree_symbol(text, stuck, symbol, told):
+    """Holds what is written of a symbol, the line and the name, to what is found here."""
+    refusal = refused_summary(text, stuck)
+    if refusal:
+        found, name = [*refusal, *[0] * 7, *position(text, refusal[1])], b""
+    else:
+        live, names = contents(text)
+        tall = heights(live)
+        number = first_bad(live, tall, symbol)
+        reached = set() if number else {symbol}
+        for n in sorted(tall, key=tall.get, reverse=True):  # callers before callees
+            reached |= set(live[n][0]) if n in reached else set()
+        drawn = {layer for n in reached for layer in live[n][1]}
+        own, shapes = live.get(symbol, ([], []))
+        name = min(drawn, key=names.index) if drawn else b""
+        found = [0, 0, len(name), number, len(drawn), 0 if number else tall[symbol], len(shapes), len(own), len(set(shapes)), 0, 0]
+    if told != "\t".join(map(str, found)).encode() + b"\n" + name:
+        sys.exit(f"no agreement on symbol {symbol} of {text!r}: {told!r} is written, the account says {found} and {name!r}")

@@ -3,7 +3,7 @@
 
 No answer is taken from the program. Those of the rows of tests/*.tsv and of the records of tests/requests/*.tsv stand there; the places of refusal 2 in document 01's texts and in texts that
 are cut short or hold a byte from 128 up stand in tools/each_rule.py; for all others, and for what is listed, the second opinion (second/) is asked.
-Whatever the source of an answer, the account of tools/account.py has to agree with it, and with the warnings of a list. Each flat file is flattened again, in a room that just holds it.
+Whatever the source of an answer, the account of tools/account.py has to agree with it, with the warnings of a list, and with what is told of a symbol. Each flat file is flattened again, in a room that just holds it.
 """
 import os
 import sys
@@ -73,13 +73,15 @@ def listed(asked):
 def requests():
     """The records of tests/requests, on which the second opinion has to agree."""
     for one in records.written():
-        if one.told != records.told(one.task, one.text, one.room, one.words):
+        if one.told != records.told(one.task, one.text, one.room, one.words, one.argument):
             sys.exit(f"no agreement on {one.label}: {one.told!r} is written")
         if one.task == records.FLATTEN:
             answer = reader.flatten(one.text, one.room, None if one.words == records.LARGEST else one.words)
             account.agree(one.text, account.place(one.text), answer, None if one.words == records.LARGEST else one.words)
         if one.task == records.LIST:
             account.agree_list(one.text, one.told.split(b"\n", 1)[1])
+        if one.task == records.SUMMARISE:
+            account.agree_symbol(one.text, account.place(one.text), one.argument, one.told)
         yield one.record, one.told
 
 
