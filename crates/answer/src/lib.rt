@@ -146,23 +146,23 @@ pub fn words_about(answer: Answer, text: usize) -> [u64; WORDS]
     told
 }
 
-// The words of what is told of a symbol (02, request 3): a refusal of the text stands where every answer has it.
+// The words of what is told of a symbol (RULES 19, request 3): a refusal of the text stands where every answer has it.
 pub fn summary_words(summary: Summary) -> [u64; WORDS]
     ensures { λ r. ⌜ r ≡ summaryWords summary ⌝ }
 {
-    let mut told = [0; WORDS];
-    told[NUMBER] = summary.number as u64;
-    told[PLACE] = summary.place as u64;
-    told[LINE] = summary.line as u64;
-    told[COLUMN] = summary.column as u64;
-    told[GIVES] = summary.gives as u64;
-    told[DRAWN] = summary.drawn as u64;
-    told[FIRST] = summary.first as u64;
-    told[HEIGHT] = summary.height as u64;
-    told[OWN_SHAPES] = summary.shapes as u64;
-    told[OWN_CALLS] = summary.calls as u64;
-    told[OWN_LAYERS] = summary.layers as u64;
-    told
+    let mut said = [0; WORDS];
+    said[NUMBER] = summary.number as u64;
+    said[PLACE] = summary.place as u64;
+    said[LINE] = summary.line as u64;
+    said[COLUMN] = summary.column as u64;
+    said[GIVES] = summary.gives as u64;
+    said[DRAWN] = summary.drawn as u64;
+    said[FIRST] = summary.first as u64;
+    said[HEIGHT] = summary.height as u64;
+    said[OWN_SHAPES] = summary.shapes as u64;
+    said[OWN_CALLS] = summary.calls as u64;
+    said[OWN_LAYERS] = summary.layers as u64;
+    said
 }
 
 // The places of the open calls that a host's words say.

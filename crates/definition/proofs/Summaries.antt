@@ -1,4 +1,4 @@
--- The table of texts, symbol numbers and what is told of each (02, P3). The answers were worked out elsewhere, by the second reader or by hand.
+-- The table of texts, symbol numbers and what is told of each (RULES 19, request 3). The answers were worked out elsewhere, by the second reader or by hand.
 -- Assumes nothing.
 use mathlib.Core.Path.{_≡_}
 use mathlib.Core.Bool.{Bool, _&&_}
@@ -55,6 +55,11 @@ unfoldable pub all-told : List Asked → Bool
 unfolding told all-hold
 all-told rows = every told rows
 
+-- each row of a list that passes the test is as promised
+pub each-told : (rows : List Asked) → T (all-told rows) → Each Told rows
+unfolding all-told
+each-told rows t = by-test told Told told-right rows t
+
 -- 66 names, each of two letters and a semicolon before the L: A0 to A9, B0 to B9 and so on
 many-names : String
 many-names = "LA0;LA1;LA2;LA3;LA4;LA5;LA6;LA7;LA8;LA9;LB0;LB1;LB2;LB3;LB4;LB5;LB6;LB7;LB8;LB9;LC0;LC1;LC2;LC3;LC4;LC5;LC6;LC7;LC8;LC9;LD0;LD1;LD2;LD3;LD4;LD5;LD6;LD7;LD8;LD9;LE0;LE1;LE2;LE3;LE4;LE5;LE6;LE7;LE8;LE9;LF0;LF1;LF2;LF3;LF4;LF5;LF6;LF7;LF8;LF9;LG0;LG1;LG2;LG3;"
@@ -104,4 +109,4 @@ asked =
 
 pub summaries : Each Told asked
 unfolding all-told asked many-names
-summaries = by-test told Told told-right asked tt
+summaries = each-told asked tt

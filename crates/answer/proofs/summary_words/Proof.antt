@@ -5,38 +5,38 @@ use borrow.Author.Needs.{needs}
 use Rattle.answer.proofs.summary_words.Statement.{statement}
 use Rattle.answer.proofs.summary_words.Tie as tie
 
-array-write-told : tie.Need-array-write-told
-array-write-told c = search needs
+array-write-said : tie.Need-array-write-said
+array-write-said c = search needs
 
-array-write-told-2 : tie.Need-array-write-told-2
-array-write-told-2 c = search needs
+array-write-said-2 : tie.Need-array-write-said-2
+array-write-said-2 c = search needs
 
-array-write-told-3 : tie.Need-array-write-told-3
-array-write-told-3 c = search needs
+array-write-said-3 : tie.Need-array-write-said-3
+array-write-said-3 c = search needs
 
-array-write-told-4 : tie.Need-array-write-told-4
-array-write-told-4 c = search needs
+array-write-said-4 : tie.Need-array-write-said-4
+array-write-said-4 c = search needs
 
-array-write-told-5 : tie.Need-array-write-told-5
-array-write-told-5 c = search needs
+array-write-said-5 : tie.Need-array-write-said-5
+array-write-said-5 c = search needs
 
-array-write-told-6 : tie.Need-array-write-told-6
-array-write-told-6 c = search needs
+array-write-said-6 : tie.Need-array-write-said-6
+array-write-said-6 c = search needs
 
-array-write-told-7 : tie.Need-array-write-told-7
-array-write-told-7 c = search needs
+array-write-said-7 : tie.Need-array-write-said-7
+array-write-said-7 c = search needs
 
-array-write-told-8 : tie.Need-array-write-told-8
-array-write-told-8 c = search needs
+array-write-said-8 : tie.Need-array-write-said-8
+array-write-said-8 c = search needs
 
-array-write-told-9 : tie.Need-array-write-told-9
-array-write-told-9 c = search needs
+array-write-said-9 : tie.Need-array-write-said-9
+array-write-said-9 c = search needs
 
-array-write-told-10 : tie.Need-array-write-told-10
-array-write-told-10 c = search needs
+array-write-said-10 : tie.Need-array-write-said-10
+array-write-said-10 c = search needs
 
-array-write-told-11 : tie.Need-array-write-told-11
-array-write-told-11 c = search needs
+array-write-said-11 : tie.Need-array-write-said-11
+array-write-said-11 c = search needs
 
 returns : tie.Need-returns
 returns c = refl
@@ -45,15 +45,15 @@ pub summary-words-spec : {M : Type 1} → statement M
 summary-words-spec =
     tie.close
     (tie.spec
-    array-write-told
-    array-write-told-2
-    array-write-told-3
-    array-write-told-4
-    array-write-told-5
-    array-write-told-6
-    array-write-told-7
-    array-write-told-8
-    array-write-told-9
-    array-write-told-10
-    array-write-told-11
+    array-write-said
+    array-write-said-2
+    array-write-said-3
+    array-write-said-4
+    array-write-said-5
+    array-write-said-6
+    array-write-said-7
+    array-write-said-8
+    array-write-said-9
+    array-write-said-10
+    array-write-said-11
     returns)
