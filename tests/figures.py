@@ -94,7 +94,7 @@ class Shape:
                     yield x, y
 
 
-# ---- transformations of points, by document 01
+# ---- transformations of points, by RULES 9
 
 
 def moved(call, p):

@@ -6,7 +6,7 @@ from account import IN_GRAMMAR, following
 
 UNKNOWN = object()
 
-# document 01, 'Texts on either side', and the sample of its list program
+# RULES 15, and the sample of RULES 13
 DOCUMENT = [
     ("E", IN_GRAMMAR), ("", 0), (" E", 1), (";E", IN_GRAMMAR), ("E x", IN_GRAMMAR), ("E X", 2), ("B1-2 3 4;E", 2), ("LABCDE;E", 5), ("DF;E", 1),
 ] + [(t, IN_GRAMMAR) for t in [

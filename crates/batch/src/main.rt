@@ -4,6 +4,7 @@
 //   cut short        the input ends within a record
 //   too long         a number of a record is over its limit
 use definition::Answer;
+use definition::Summary;
 use streams::Input;
 ghost use Prim.Native.Nat.{_≤_, _<_};
 ghost use mathlib.Core.Path.{_≡_};
@@ -16,6 +17,10 @@ const MOST: usize = 1048576;
 const MOST_OPEN: usize = 64;
 // In place of a number of words: as many as the text and the second text have bytes, which is always enough, but not more than the limit.
 const AS_MANY: usize = 4294967295;
+// The task that tells what is in a symbol.
+const SUMMARISE: usize = 3;
+// A packed name has 32 bits: all are below this.
+const NAMES: usize = 4294967296;
 
 // The contracts of these two spare callers the zeros.
 fn bytes() -> [u8; MOST]
@@ -128,8 +133,74 @@ fn list(text: &[u8], room: &mut [u8]) -> bool
     streams::write(&room[..length])
 }
 
-// What a record begins with, as far as a task needs it: the task, the lengths of its two texts and of its room, the words lent for bodies, and the records
-// lent for open calls. The argument is passed over.
+fn put_drawn(told: Summary) -> bool {
+    if !put_field(told.gives) {
+        return false;
+    }
+    if !put_field(told.drawn) {
+        return false;
+    }
+    put_field(told.height)
+}
+
+fn put_own(told: Summary) -> bool {
+    if !put_field(told.shapes) {
+        return false;
+    }
+    if !put_field(told.calls) {
+        return false;
+    }
+    put_field(told.layers)
+}
+
+// Line and column, with which the line ends.
+fn put_end(told: Summary) -> bool {
+    if !put_field(told.line) {
+        return false;
+    }
+    streams::write_number(told.column, b"\n")
+}
+
+// The line of a summary, whose first layer has a name of this length.
+fn put_summary(told: Summary, length: usize) -> bool {
+    if !put_field(told.number) {
+        return false;
+    }
+    if !put_field(told.place) {
+        return false;
+    }
+    if !put_field(length) {
+        return false;
+    }
+    if !put_drawn(told) {
+        return false;
+    }
+    if !put_own(told) {
+        return false;
+    }
+    put_end(told)
+}
+
+// The letters of a packed name, which are at most four, and how many they are.
+fn put_letters(name: &mut [u8], packed: u32) -> usize
+    ensures { λ r. ⌜ r ≤ 4 ⌝ }
+{
+    pen::put_name(name, 0, packed)
+}
+
+// Task 3: what is in a symbol, and the name of its first layer.
+fn summarise(text: &[u8], words: &mut [i32], symbol: usize) -> bool {
+    let told = summary::summarise(text, words, symbol);
+    let mut name = [0u8; 4];
+    let length = put_letters(&mut name, (told.first % NAMES) as u32);
+    if !put_summary(told, length) {
+        return false;
+    }
+    streams::write(&name[..length])
+}
+
+// What a record begins with, as far as a task needs it: the task, the lengths of its two texts and of its room, the words lent for bodies, the records
+// lent for open calls, and the argument.
 struct Head {
     task: usize,
     text: usize,
@@ -137,6 +208,7 @@ struct Head {
     room: usize,
     words: usize,
     open: usize,
+    argument: usize,
 }
 
 fn number_of(lowest: u8, second: u8, third: u8, highest: u8) -> usize {
@@ -163,6 +235,7 @@ fn head_of(numbers: &[u8; 28]) -> Head {
         room: number_at(numbers, 12),
         words: number_at(numbers, 16),
         open: number_at(numbers, 20),
+        argument: number_at(numbers, 24),
     }
 }
 
@@ -209,14 +282,29 @@ fn read_text(text: &mut [u8]) -> bool {
     }
 }
 
-// Answers a record by its task. A task that is still to come gives a line and no bytes.
-fn answer(task: usize, text: &[u8], words: &mut [i32], size: usize, room: &mut [u8]) -> bool
+// The tasks that need no room. One that is still to come gives a line and no bytes.
+fn answer_without_room(task: usize, text: &[u8], words: &mut [i32], argument: usize) -> bool {
+    if task == SUMMARISE {
+        return summarise(text, words, argument);
+    }
+    streams::write(b"0\t0\t0\n")
+}
+
+// Answers a record by its task.
+fn answer(
+    task: usize,
+    text: &[u8],
+    words: &mut [i32],
+    size: usize,
+    room: &mut [u8],
+    argument: usize,
+) -> bool
     requires { ⌜ (size ≤ length (now room)) × (1048576 ≡ length (now room)) ⌝ }
 {
     match task {
         0 => flatten(text, words, &mut room[..size]),
         2 => list(text, &mut room[..printout::LONGEST_LISTING]),
-        _ => streams::write(b"0\t0\t0\n"),
+        _ => answer_without_room(task, text, words, argument),
     }
 }
 
@@ -227,6 +315,7 @@ fn answer_texts(
     words: &mut [i32],
     size: usize,
     room: &mut [u8],
+    argument: usize,
 ) -> bool
     requires { ⌜ (size ≤ length (now room)) × (1048576 ≡ length (now room)) ⌝ }
 {
@@ -236,7 +325,7 @@ fn answer_texts(
     if !read_text(second) {
         return false;
     }
-    answer(task, text, words, size, room)
+    answer(task, text, words, size, room, argument)
 }
 
 // Whether so many words may be asked for.
@@ -258,6 +347,14 @@ fn lent(words: usize, bytes: usize) -> usize
         return bytes;
     }
     MOST
+}
+
+// What is asked for: the summary is lent enough, whatever the number says.
+fn asked(task: usize, words: usize) -> usize {
+    if task == SUMMARISE {
+        return AS_MANY;
+    }
+    words
 }
 
 // Whether a number of a record is over its limit. The lengths of the texts and of the room are looked at where they are lent.
@@ -292,7 +389,7 @@ fn answer_next(text: &mut [u8], second: &mut [u8], words: &mut [i32], room: &mut
             if over(head) {
                 return stop(b"too long\n");
             }
-            let k = lent(head.words, n + m);
+            let k = lent(asked(head.task, head.words), n + m);
             answer_texts(
                 head.task,
                 &mut text[..n],
@@ -300,6 +397,7 @@ fn answer_next(text: &mut [u8], second: &mut [u8], words: &mut [i32], room: &mut
                 &mut words[..k],
                 size,
                 room,
+                head.argument,
             )
         }
     }

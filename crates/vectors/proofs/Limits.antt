@@ -92,7 +92,7 @@ many-symbols =
     accepting 2 (symbols 512 (bytesOf "DS512;DF;DD512;DS0;DF;E")) 0 0 1 (bytesOf "E\n")
     ∷ refusing 2 (symbols 512 (bytesOf "DD513;DS0;DF;C513;E")) 10 4506
     ∷ refusing 2 (symbols 512 (bytesOf "C513;DS0;DF;E")) 12 4500
-    -- 02, P10: 25 directly after it, at the same DS
+    -- RULES 12, request 10: 25 directly after it, at the same DS
     ∷ lent 2 (refusing 2 (symbols 512 (bytesOf "DS0;LA;DF;E")) 10 4500)
     ∷ lent 2 (refusing 2 (symbols 512 (bytesOf "DD512;DS0;LA;DF;E")) 25 4506)
     ∷ []

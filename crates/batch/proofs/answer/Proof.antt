@@ -24,11 +24,8 @@ slice-aggregate-list c = sym (length-take-le 623616 (c .before .before .before .
 list-requires : tie.Need-list-requires
 list-requires c κs = length-take-le 623616 (c .before .before .before .before .args .room .now) (search needs)
 
-slice-aggregate-write : tie.Need-slice-aggregate-write
-slice-aggregate-write c = search needs
-
-write-requires : tie.Need-write-requires
-write-requires c κs = search needs
+answer-without-room-requires : tie.Need-answer-without-room-requires
+answer-without-room-requires c κs = search needs
 
 same-length : tie.Need-same-length
 same-length c = search needs
@@ -45,6 +42,9 @@ same-length-3 c = search needs
 returns-2 : tie.Need-returns-2
 returns-2 c = search needs
 
+same-length-4 : tie.Need-same-length-4
+same-length-4 c = search needs
+
 returns-3 : tie.Need-returns-3
 returns-3 c = search needs
 
@@ -58,11 +58,11 @@ answer-spec =
     slice-relend-prefix-list
     slice-aggregate-list
     list-requires
-    slice-aggregate-write
-    write-requires
+    answer-without-room-requires
     same-length
     same-length-2
     returns
     same-length-3
     returns-2
+    same-length-4
     returns-3)

@@ -63,6 +63,9 @@ stop-requires-5 c κs = search needs
 returns-4 : tie.Need-returns-4
 returns-4 c = search needs
 
+asked-requires : tie.Need-asked-requires
+asked-requires c κs = search needs
+
 add-lent : tie.Need-add-lent
 add-lent c = search needs
 
@@ -134,6 +137,7 @@ answer-next-spec =
     slice-aggregate-stop-5
     stop-requires-5
     returns-4
+    asked-requires
     add-lent
     lent-requires
     slice-relend-prefix-answer-texts
