@@ -35,7 +35,14 @@ enum cif_word {
   CIF_OPEN_CALLS = 9,    /* how many calls were open there, at most CIF_MOST_OPEN_CALLS */
   CIF_TEXT = 10,         /* of two texts that are joined: in which of them the place is, 1 or 2 */
   CIF_POSITION = 11,     /* nothing is told yet here, and it is 0: which of several texts is refused */
-  CIF_CHAIN = 16,        /* 16 to 47: the places of the open calls, the outermost first, and 0 after them. 12 to 15 and 48 to 63 are free, and 0 */
+  CIF_CHAIN = 16,        /* 16 to 47: the places of the open calls, the outermost first, and 0 after them */
+  CIF_GIVES = 48,        /* 48 to 54 are cif_summary's: 12, 13 or 14 where the symbol cannot be drawn, or 0 */
+  CIF_LAYERS = 49,       /* how many layers a call of the symbol draws on */
+  CIF_FIRST_LAYER = 50,  /* of these the one that appears first in the text, or 0: its letters as the bytes of a number of 32 bits, the first letter highest */
+  CIF_HEIGHT = 51,       /* the height of the symbol */
+  CIF_OWN_SHAPES = 52,   /* how many shapes stand in its definition */
+  CIF_OWN_CALLS = 53,    /* how many calls */
+  CIF_OWN_LAYERS = 54,   /* on how many layers those shapes are. 12 to 15 and 55 to 63 are free, and 0 */
   CIF_WORDS = 64
 };
 
@@ -134,6 +141,30 @@ void cif_recognise(const unsigned char *text, size_t text_length, uint64_t answe
    on the last layer of the first. */
 void cif_join(const unsigned char *first, size_t first_length, const unsigned char *second, size_t second_length, unsigned char *room, size_t room_length,
               uint64_t answer[CIF_WORDS]);
+
+/* What is in a symbol, in the table of definitions that the text leaves at its end. The text is read and its definitions kept, as by cif_flatten, but nothing is drawn.
+
+   Told: answer[CIF_OWN_SHAPES] and answer[CIF_OWN_CALLS] are the shapes and the calls that stand in the symbol's definition, and answer[CIF_OWN_LAYERS] the layers of
+   these shapes, each counted once. answer[CIF_LAYERS] is the number of layers that a call of the symbol would draw on, with all that it calls;
+   answer[CIF_FIRST_LAYER] the one of them whose first L command stands first in the text, wherever that is; and answer[CIF_HEIGHT] one more than the tallest
+   height of the symbols that it calls, and 1 if it calls none. Whatever draws nothing has no layers and the first layer 0.
+
+   A symbol that cannot be drawn: answer[CIF_GIVES] is the first of these that drawing it would meet, and layers, first layer and height are 0.
+
+      12    a call of a symbol that is not defined; also where the symbol asked for is not. Its own numbers are then 0, and only then are its calls 0
+      13    a call of a symbol that is being drawn
+      14    calls 33 deep
+
+   Angles, ranges and the limits of calls and shapes play no part.
+
+   Refused: answer[CIF_NUMBER], answer[CIF_PLACE], answer[CIF_LINE] and answer[CIF_COLUMN] as above, for every symbol alike, with 1 to 10 and 25, and 19 among 3 to
+   9 in the order of the text. Nothing from 11 on comes.
+
+      19    the 65th layer name of the text, at its L command: 64 are told apart. cif_flatten takes any number
+
+   All other words are 0. The words lent are as many as to cif_flatten; whatever stood in them, they are all 0 afterwards. The time is that of one pass over the text,
+   and of one over each definition that the symbol leads to. */
+void cif_summary(const unsigned char *text, size_t text_length, int32_t *words, size_t words_length, size_t symbol, uint64_t answer[CIF_WORDS]);
 
 #ifdef __cplusplus
 }

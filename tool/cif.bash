@@ -3,7 +3,7 @@ _cif() {
   local word=${COMP_WORDS[COMP_CWORD]} before=${COMP_WORDS[COMP_CWORD - 1]} task=${COMP_WORDS[1]} options=
   COMPREPLY=()
   if ((COMP_CWORD == 1)); then
-    mapfile -t COMPREPLY < <(compgen -W "check flat list plot summary compare join -h --help -V --version" -- "$word")
+    mapfile -t COMPREPLY < <(compgen -W "check flat list plot summary show compare join -h --help -V --version" -- "$word")
     return
   fi
   case $before in
@@ -13,6 +13,7 @@ _cif() {
   check) options="-q --json --strict" ;;
   flat | list | summary | join) options="-o --strict" ;;
   plot) options="-o --strict --window --layers --size" ;;
+  show) options="-o --json --strict" ;;
   compare) options="--any-order" ;;
   esac
   case $word in

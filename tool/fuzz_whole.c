@@ -154,9 +154,9 @@ void cif_join(const unsigned char *first, size_t first_length, const unsigned ch
   static const struct output none;
   size_t end = first_length;
   memset(answer, 0, CIF_WORDS * sizeof *answer);
-  demand(room_length == CIF_MOST_BYTES && first_length + second_length + 4 <= CIF_MOST_BYTES, "the room for a joined text", &none);
+  demand(room_length == CIF_MOST_BYTES, "the room for a joined text", &none);
   while (end > 0 && (end == first_length || first[end] != 'E')) end--;
-  if (seed_of(second, second_length) % 8 == 3) {
+  if (end + 4 + second_length > CIF_MOST_BYTES || seed_of(second, second_length) % 8 == 3) {
     answer[CIF_NUMBER] = 18;
     answer[CIF_LINE] = answer[CIF_COLUMN] = 1;
     return;
@@ -165,6 +165,34 @@ void cif_join(const unsigned char *first, size_t first_length, const unsigned ch
   memcpy(room + end, "DD0;", 4);
   memcpy(room + end + 4, second, second_length);
   answer[CIF_LENGTH] = end + 4 + second_length;
+}
+
+/* Any numbers; a symbol that gives 12 has calls or is not defined, and what cannot be drawn has no layers and no height. Whether a text is refused does not go by
+   the symbol. */
+void cif_summary(const unsigned char *text, size_t text_length, int32_t *words, size_t words_length, size_t symbol, uint64_t answer[CIF_WORDS]) {
+  uint64_t kept = fuzz_state;
+  demand(words != NULL && words_length >= text_length, "the words", &standard_error);
+  memset(answer, 0, CIF_WORDS * sizeof *answer);
+  memset(words, 0, words_length * sizeof *words);
+  fuzz_state = seed_of(text, text_length);
+  if (text_length > CIF_MOST_BYTES) {
+    answer[CIF_NUMBER] = answer[CIF_LINE] = answer[CIF_COLUMN] = 1;
+  } else if (below(4) == 0) {
+    refuse(answer, text_length);
+    if (answer[CIF_NUMBER] > 10) answer[CIF_NUMBER] = 19, answer[CIF_OPEN_CALLS] = 0;
+  } else {
+    fuzz_state += symbol;
+    answer[CIF_GIVES] = below(3) == 0 ? 12 + below(3) : 0;
+    answer[CIF_OWN_CALLS] = answer[CIF_GIVES] > 12 ? 1 + below(99) : below(4) * below(1000000);
+    answer[CIF_OWN_SHAPES] = below(3) * below(1000000);
+    answer[CIF_OWN_LAYERS] = answer[CIF_OWN_SHAPES] > 0 ? 1 + below(64) : 0;
+    if (answer[CIF_GIVES] == 0) {
+      answer[CIF_HEIGHT] = 1 + below(32);
+      answer[CIF_LAYERS] = below(65);
+      if (answer[CIF_LAYERS] > 0) answer[CIF_FIRST_LAYER] = below(2) == 0 ? 0x41000000u : 0x394d5a30u;
+    }
+  }
+  fuzz_state = kept;
 }
 
 /* ---- files */
@@ -222,6 +250,7 @@ static const char *random_word(char room[WORD]) {
       "--window", "--layers",   "--size",   "--size=9", "-o",       "-oout",     "--layers=A", "--help",    "--",       "-V",
       "a.cif",    "b.cif",      "a.cif",    "b.cif",    "-",        "none.cif",  ".",         "out",        "none/out", "/dev/full",
       "/dev/null", "/dev/fd/77", "NM,ND",    "800",      "0",        "-1.5",      "20",        "1e3",        "join",     "",
+      "show",     "16777215",   "00000000000000000001", "1;",
   };
   if (below(10) != 0) return known[below(sizeof known / sizeof *known)];
   size_t length = below(WORD);
@@ -237,7 +266,7 @@ static int choose_words(const char *words[MOST_WORDS + 1], char rooms[MOST_WORDS
       {"check", "a.cif"}, {"check", "--json", "a.cif", "b.cif"}, {"check", "-q", "-", "none.cif", "b.cif"}, {"flat", "a.cif", "-o", "out"}, {"list", "-", "--strict"},
       {"plot", "a.cif", "-oout"}, {"plot", "b.cif", "--window", "-1.5", "0", "20", "3", "--layers=NM"}, {"summary", "a.cif", "-o", "out"}, {"compare", "a.cif", "b.cif"},
       {"compare", "--any-order", "b.cif", "-"}, {"flat", "b.cif", "-o", "/dev/full"}, {"plot", "a.cif", "--size", "1600", "--layers", "NM,A,Q"},
-      {"join", "a.cif", "b.cif", "-o", "out"}, {"join", "--strict", "b.cif", "-", "a.cif", "b.cif"},
+      {"join", "a.cif", "b.cif", "-o", "out"}, {"join", "--strict", "b.cif", "-", "a.cif", "b.cif"}, {"show", "a.cif"}, {"show", "b.cif", "1", "-o", "out"}, {"show", "--json", "--strict", "-"},
   };
   int count = 1;
   words[0] = "cif";

@@ -137,6 +137,72 @@ void put_unread(struct output *out, const char *name) {
   put_text(out, ",\"status\":\"unread\"}\n");
 }
 
+/* null where it does not exist. */
+static void put_number_or_null(struct output *out, const char *name, bool exists, uint64_t number) {
+  if (exists) put_number_field(out, name, number);
+  else {
+    put_field(out, name);
+    put_text(out, "null");
+  }
+}
+
+static void put_first(struct output *out, const struct contents *symbol) {
+  char name[5];
+  spell_layer(symbol->first, name);
+  put_field(out, "first");
+  if (symbol->first != 0) put_string(out, name);
+  else put_text(out, "null");
+}
+
+/* What stands in the definition itself: nothing does where there is none. */
+static void put_own(struct output *out, const struct contents *symbol) {
+  put_field(out, "own");
+  if (!is_defined(symbol)) {
+    put_text(out, "null");
+    return;
+  }
+  put_text(out, "{\"shapes\":");
+  put_number(out, (int64_t)symbol->own_shapes);
+  put_number_field(out, "calls", symbol->own_calls);
+  put_number_field(out, "layers", symbol->own_layers);
+  put_text(out, "}");
+}
+
+static void put_symbol(struct output *out, const struct contents *symbol) {
+  put_text(out, "{\"symbol\":");
+  put_number(out, (int64_t)symbol->number);
+  put_number_field(out, "gives", symbol->gives);
+  put_number_or_null(out, "layers", symbol->gives == 0, symbol->layers);
+  put_first(out, symbol);
+  put_number_or_null(out, "height", symbol->gives == 0, symbol->height);
+  put_own(out, symbol);
+  put_text(out, "}");
+}
+
+static void put_all_symbols(struct output *out, const struct symbols *symbols) {
+  put_field(out, "symbols");
+  if (symbols->left_out) {
+    put_text(out, "null");
+    return;
+  }
+  put_text(out, "[");
+  for (size_t i = 0; i < symbols->count; i++) {
+    if (i > 0) put_text(out, ",");
+    put_symbol(out, &symbols->all[i]);
+  }
+  put_text(out, "]");
+}
+
+void put_symbols_json(struct output *out, const struct reading *reading, const struct symbols *symbols) {
+  bool accepted = reading->answer[CIF_NUMBER] == 0;
+  put_text(out, "{\"file\":");
+  put_string(out, reading->name);
+  put_text(out, accepted ? ",\"status\":\"accepted\",\"number\":0" : ",\"status\":\"refused\"");
+  if (!accepted) put_refusal(out, reading);
+  else put_all_symbols(out, symbols);
+  put_text(out, "}\n");
+}
+
 bool put_json(struct output *out, const struct reading *reading, const struct remarks *remarks) {
   bool accepted = reading->answer[CIF_NUMBER] == 0;
   struct layers layers = {0};

@@ -5,7 +5,7 @@
 
 #include "tool.h"
 
-#define VERSION "4.0"
+#define VERSION "4.1"
 
 static const char help[] =
     "cif reads layouts in CIF 2.0 (Caltech Intermediate Form) and answers exactly as the\n"
@@ -16,14 +16,16 @@ static const char help[] =
     "  cif list FILE [-o OUT]       a line for each shape, warnings, the totals and the window\n"
     "  cif plot FILE [-o OUT.svg]   a picture of the shapes, layer by layer\n"
     "  cif summary FILE [-o OUT]    shapes by layer and kind, windows, symbols, depth of calls\n"
+    "  cif show FILE [SYMBOL]       what is in a symbol, or in each that is defined\n"
     "  cif compare A B              tell whether two texts draw the same shapes\n"
     "  cif join A B .. [-o OUT]     one text that draws what A draws, then what B draws, ..\n"
     "  cif -h, --help; cif -V, --version\n"
     "\n"
     "  -q           with check: say nothing about texts accepted without a hint or warning\n"
-    "  --json       with check: a JSON object for each FILE, on a line of its own\n"
+    "  --json       with check and show: a JSON object for each FILE, on a line of its own\n"
     "  --any-order  with compare: whatever the order of the shapes\n"
-    "  --strict     an accepted text that gets a hint or a warning ends with status 1 too\n"
+    "  --strict     an accepted text that gets a hint or a warning ends with status 1 too;\n"
+    "               with show: one with a symbol that cannot be drawn\n"
     "  --window x y x y   with plot: what lies between two corners, in microns\n"
     "  --layers NM,NP     with plot: these layers only\n"
     "  --size 1600        with plot: pixels of the frame's longer side, usually 800\n"
@@ -39,7 +41,7 @@ static const char version[] = "cif " VERSION ": the CIF 2.0 reader Wadhuulexi\n"
 /* ---- the tasks and the words of the command line */
 
 /* What goes with a task. */
-enum takes { OUT = 1, QUIET = 2, JSON = 4, STRICT = 8, MANY = 16, REFUSALS = 32, TWO = 64, ANY_ORDER = 128, WINDOW = 256, LAYERS = 512, SIZE = 1024, JOINED = 2048 };
+enum takes { OUT = 1, QUIET = 2, JSON = 4, STRICT = 8, MANY = 16, REFUSALS = 32, TWO = 64, ANY_ORDER = 128, WINDOW = 256, LAYERS = 512, SIZE = 1024, JOINED = 2048, SYMBOL = 4096 };
 
 struct task;
 
@@ -47,6 +49,7 @@ struct request {
   const struct task *task;
   char **files; /* the words that are no options */
   int count;
+  uint64_t symbol;  /* for show, where a second such word is given */
   const char *out;  /* NULL: not said */
   unsigned given;   /* of the options below */
   struct view view; /* for plot */
@@ -54,7 +57,7 @@ struct request {
 
 struct task {
   const char *name;
-  /* What it writes for a text, NULL for check, compare and join, which have their own ways. False where there is not enough memory. */
+  /* What it writes for a text, NULL for check, show, compare and join, which have their own ways. False where there is not enough memory. */
   bool (*show)(struct output *out, const struct request *request, const struct reading *reading);
   unsigned takes;
 };
@@ -83,6 +86,7 @@ static const struct task tasks[] = {
     {"list", list, OUT | STRICT | REFUSALS},
     {"plot", plot, OUT | STRICT | WINDOW | LAYERS | SIZE},
     {"summary", summary, OUT | STRICT},
+    {"show", NULL, OUT | JSON | STRICT | SYMBOL},
     {"compare", NULL, TWO | ANY_ORDER},
     {"join", NULL, OUT | STRICT | MANY | JOINED},
 };
@@ -162,8 +166,9 @@ static bool take_option(struct request *request, char **words, int *at) {
 }
 
 static bool take_file(struct request *request, char *word) {
-  int most = (request->task->takes & TWO) != 0 ? 2 : 1;
-  if ((request->task->takes & MANY) == 0 && request->count == most) return misread("one FILE too many:", word);
+  int most = (request->task->takes & (TWO | SYMBOL)) != 0 ? 2 : 1;
+  if ((request->task->takes & MANY) == 0 && request->count == most) return misread((request->task->takes & SYMBOL) != 0 ? "one SYMBOL too many:" : "one FILE too many:", word);
+  if ((request->task->takes & SYMBOL) != 0 && request->count == 1 && !take_symbol(word, &request->symbol)) return misread("no number of a symbol:", word);
   request->files[request->count++] = word;
   return true;
 }
@@ -207,14 +212,16 @@ static bool flatten_text(struct reading *reading) {
   return true;
 }
 
-static bool flatten_file(const char *file, struct reading *reading) {
+static bool load_text(const char *file, struct reading *reading) {
   unsigned char *text;
   size_t count;
   /* One byte more than the reader takes, so that it sees that a text is too long. */
   if (!read_file(file, CIF_MOST_BYTES + 1, &text, &count)) return false;
   reading->text = (struct bytes){text, count};
-  return flatten_text(reading);
+  return true;
 }
+
+static bool flatten_file(const char *file, struct reading *reading) { return load_text(file, reading) && flatten_text(reading); }
 
 /* False and a complaint where the file cannot be read or memory is short. Else to be released. */
 static bool read_text(const char *file, struct reading *reading) {
@@ -351,6 +358,67 @@ static enum status show_file(const struct request *request) {
   return status;
 }
 
+/* ---- show */
+
+static bool write_symbols(const struct request *request, const struct reading *reading, const struct symbols *symbols) {
+  static struct output out;
+  bool json = (request->given & JSON) != 0;
+  if (!json && !accepted(reading)) return true;
+  if (!open_output(&out, request->out)) return false;
+  if (json) put_symbols_json(&out, reading, symbols);
+  else put_symbols(&out, reading, symbols, request->count == 1);
+  return close_output(&out);
+}
+
+/* A symbol that is asked for and cannot be drawn is refused as a call of it would be; in a table such symbols are told, and count with --strict. */
+static enum status status_of_symbols(const struct request *request, const struct reading *reading, const struct symbols *symbols) {
+  bool counts = request->count > 1 || (request->given & STRICT) != 0;
+  return accepted(reading) && (!counts || count_undrawn(symbols) == 0) ? ACCEPTED : REFUSED;
+}
+
+static enum status tell_long(const struct reading *reading, const struct symbols *symbols) {
+  put_name(&standard_error, reading->name);
+  put_text(&standard_error, ": ");
+  put_count(&standard_error, symbols->asked, " symbol");
+  put_text(&standard_error, " are defined here and there, and to ask for each would take long: name one of them, as in cif show FILE 7.\n");
+  flush(&standard_error);
+  return COULD_NOT_RUN;
+}
+
+static enum status show_asked(const struct request *request, const struct reading *reading, const struct symbols *symbols) {
+  bool json = (request->given & JSON) != 0;
+  if ((json || !symbols->left_out) && !write_symbols(request, reading, symbols)) return COULD_NOT_RUN;
+  if (symbols->left_out) return tell_long(reading, symbols);
+  if (!accepted(reading) && !json) tell_refusal(&standard_error, reading, true);
+  flush(&standard_error);
+  return status_of_symbols(request, reading, symbols);
+}
+
+/* For programs an object tells it too. */
+static enum status tell_unread(const struct request *request, const struct reading *reading) {
+  static struct output out;
+  if ((request->given & JSON) != 0 && open_output(&out, request->out)) {
+    put_unread(&out, reading->name);
+    (void)close_output(&out);
+  }
+  return COULD_NOT_RUN;
+}
+
+/* The text is not drawn: symbols are told of one that is refused as it is drawn, too. */
+static enum status show_symbols(const struct request *request) {
+  struct reading reading = {.name = shown_name(request->files[0])};
+  struct symbols symbols = {0};
+  if (!is_typed(request->files[0])) start_progress(reading.name);
+  bool loaded = load_text(request->files[0], &reading);
+  bool found = loaded && find_symbols(&reading, request->count > 1 ? &request->symbol : NULL, &symbols);
+  end_progress();
+  if (loaded && !found) complain("not enough memory to read", reading.name, 0);
+  enum status status = found ? show_asked(request, &reading, &symbols) : tell_unread(request, &reading);
+  release_symbols(&symbols);
+  release_reading(&reading);
+  return status;
+}
+
 /* ---- compare */
 
 /* Both accepted, or it is told which is not. */
@@ -475,5 +543,6 @@ int main(int count, char **words) {
   if (!take_words(&request, words + 1)) return COULD_NOT_RUN;
   if (request.task->show != NULL) return (int)show_file(&request);
   if ((request.task->takes & JOINED) != 0) return (int)join_files(&request);
+  if ((request.task->takes & SYMBOL) != 0) return (int)show_symbols(&request);
   return (int)((request.task->takes & TWO) != 0 ? compare_files(&request) : check_files(&request));
 }

@@ -103,6 +103,8 @@ static const struct sentence sentences[] = {
      "Check the T of the calls that lead here: the unit is a hundredth of a micron."},
     {17, ANY, "this would be the 1,048,577th shape drawn; 1,048,576 is the limit.", "Split the layout into several texts."},
     {18, ANY, "the flat file would be longer than 16,777,216 bytes.", "Split the layout into several texts."},
+    {19, ANY, "this is the 65th layer name of the text; what is in a symbol is told of at most 64.",
+     "The text itself may well be accepted: cif check takes any number of layers. To see into its symbols, split it, or leave out L commands whose layers nobody needs."},
     /* Never from this tool, which lends as many words as the text has bytes; it stands here so that every number of the reader has a sentence. */
     {25, ANY, "the symbols defined at one time need more words than were lent.", "Delete symbols that are no longer called, by DD, before defining others; or split the layout."},
 };

@@ -366,12 +366,43 @@ bool add_text(struct joined *joined, const char *name, struct bytes text);
 /* What is refused of the joined text, with its places in the text that they come from. Nothing of it is to be released. */
 struct reading refused_text(const struct joined *joined, const uint64_t answer[CIF_WORDS]);
 
+/* ---- symbols.c: what is in the symbols of a text, by the archive. */
+
+struct contents {
+  uint64_t number;
+  uint64_t gives; /* 12, 13 or 14 where it cannot be drawn, or else 0 */
+  uint64_t layers, height;
+  uint32_t first; /* layer, packed; 0 for none */
+  uint64_t own_shapes, own_calls, own_layers;
+};
+
+struct symbols {
+  struct contents *all;
+  size_t count;
+  size_t asked;  /* numbers that stand after a DS, each once */
+  bool left_out; /* they were not asked for, since that would take long */
+};
+
+/* The number of a symbol as a word; false where it is none. */
+bool take_symbol(const char *word, uint64_t *symbol);
+/* The symbol asked for, or for NULL all that are defined at the end of the text, by their numbers. The reading's answer is then the archive's: of a refused text there
+   are no symbols. False where there is no memory. To be released either way. */
+bool find_symbols(struct reading *reading, const uint64_t *number, struct symbols *symbols);
+void release_symbols(struct symbols *symbols);
+bool is_defined(const struct contents *symbol);
+/* How many cannot be drawn, and why one of them cannot. */
+size_t count_undrawn(const struct symbols *symbols);
+const char *why_undrawn(const struct contents *symbol);
+/* A line of heads and one for each symbol; before them a line that counts them, for a table of all. */
+void put_symbols(struct output *out, const struct reading *reading, const struct symbols *symbols, bool table);
+
 /* ---- json.c */
 
 /* False where there is no memory; then nothing is put. */
 bool put_json(struct output *out, const struct reading *reading, const struct remarks *remarks);
 /* For a file that cannot be read. */
 void put_unread(struct output *out, const char *name);
+void put_symbols_json(struct output *out, const struct reading *reading, const struct symbols *symbols);
 
 /* ---- colours.c */
 

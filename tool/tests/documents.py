@@ -43,7 +43,7 @@ def test_refusals():
     short = {2, 3, 4, 6, 7, 8, 9, 11, 12, 13, 16, 20}
     expect(5 not in found, "5 never occurs")
     expect(set(found) >= short, "REFUSALS.md has a text for each number that a short text can get")
-    expect([int(n) for n in re.findall(r"^## (\d+):", page, re.M)] == [*range(1, 19), 20, 25], "REFUSALS.md has a part for each number")
+    expect([int(n) for n in re.findall(r"^## (\d+):", page, re.M)] == [*range(1, 21), 25], "REFUSALS.md has a part for each number")
 
 
 def test_hints():

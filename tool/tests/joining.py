@@ -8,7 +8,7 @@ ONE, TWO = b"DS1;LA;R2 0 0;DF;C1;E", b"(E);LE;R4 0 0;DS1;LB;W1 0 0;DF;C1T5 5;9E;
 
 
 def joined(first, *others):
-    """Document 02's words: the first cut at its E, then `DD0;`, then the second; and so on with the next."""
+    """RULES 18, request 14: the first cut at its E, then `DD0;`, then the second; and so on with the next."""
     for text in others:
         first = first[:first.rindex(b"E")] + b"DD0;" + text
     return first

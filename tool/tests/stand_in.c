@@ -1,5 +1,5 @@
 /* Stands in for the proved archive where that cannot be linked: on Arm this machine's compiler builds the tool over it, so that the build, the shared library
-   and examples/host.py are tried there too. It knows document 01's example, refuses one text, and says whether it was lent what a host must lend. */
+   and examples/host.py are tried there too. It knows the example of RULES 13, refuses one text, and says whether it was lent what a host must lend. */
 #include <string.h>
 
 #include "cif.h"
@@ -40,4 +40,18 @@ void cif_join(const unsigned char *first, size_t first_length, const unsigned ch
   (void)first, (void)first_length, (void)second, (void)second_length, (void)room, (void)room_length;
   memset(answer, 0, CIF_WORDS * sizeof *answer);
   answer[CIF_NUMBER] = 18;
+}
+
+/* The example's symbol 7 has a box on CM. */
+void cif_summary(const unsigned char *text, size_t text_length, int32_t *words, size_t words_length, size_t symbol, uint64_t answer[CIF_WORDS]) {
+  memset(answer, 0, CIF_WORDS * sizeof *answer);
+  memset(words, 0, words_length * sizeof *words);
+  if (text_length != sizeof example - 1 || memcmp(text, example, text_length) != 0) {
+    answer[CIF_NUMBER] = 2;
+    answer[CIF_LINE] = answer[CIF_COLUMN] = 1;
+  } else if (symbol != 7) answer[CIF_GIVES] = 12;
+  else {
+    answer[CIF_LAYERS] = answer[CIF_HEIGHT] = answer[CIF_OWN_SHAPES] = answer[CIF_OWN_LAYERS] = 1;
+    answer[CIF_FIRST_LAYER] = 0x434d0000u;
+  }
 }

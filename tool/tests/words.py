@@ -44,7 +44,7 @@ def test_accepted():
     expect((done.returncode, done.stdout, done.stderr, content(out)) == (0, b"", b"", EXAMPLE_FLAT), "flat -o", done)
     expect(cif("flat", "-", text=EXAMPLE).stdout == EXAMPLE_FLAT, "a text from standard input")
     done = cif("list", good)
-    expect((done.returncode, done.stdout, done.stderr) == (0, EXAMPLE_LIST, b""), "document 01's list", done)
+    expect((done.returncode, done.stdout, done.stderr) == (0, EXAMPLE_LIST, b""), "the list of RULES 13", done)
     done = cif("list", good, "-o", out)
     expect((done.returncode, done.stdout, done.stderr, content(out)) == (0, b"", b"", EXAMPLE_LIST), "list -o", done)
     done = cif("list", "-", "-o", out, text=b"X")
@@ -57,7 +57,7 @@ def test_accepted():
 
 
 def reach(kind, n):
-    """How far a shape reaches beyond its doubled points, along x and along y (document 02, request 6)."""
+    """How far a shape reaches beyond its doubled points, along x and along y (RULES 13, request 6)."""
     if kind == "P":
         return 0, 0
     if kind != "B":
@@ -66,7 +66,7 @@ def reach(kind, n):
 
 
 def listed(flat, totals, warnings):
-    """Document 01's list of a flat file, with the warnings that are due."""
+    """The list of a flat file (RULES 13), with the warnings that are due."""
     lines, layer, x, y = [], "", [], []
     for line in flat.decode().split("\n")[:-2]:
         kind, numbers = line[0], line[1:-1]
@@ -177,7 +177,7 @@ def test_json():
     found = [*found, json.loads(cif("check", "--json", "-", text=b"DS1;\nC1;\nDF;\nC1;E").stdout)]
     expect(found[-1].pop("message") and found[-1] == {"file": "standard input", "status": "refused", "number": 13, "place": 5, "line": 2, "column": 1,
                                                       "chain": [{"place": 13, "line": 4, "column": 1}]}, "a text refused in a call", found[-1])
-    page = content(os.path.join(TOP, "docs", "JSON.md")).decode()
+    page = content(os.path.join(TOP, "docs", "JSON.md")).decode().split("\n## What `cif show --json` writes\n")[0]
     warned = json.loads(cif("check", "--json", "-", text=b"DS1;DF;DS1;DF;C1;E").stdout)
     names = {name for o in found + odd["layers"] + odd["hints"] + warned["warnings"] for name in o} | {"message"}
     expect(names == set(re.findall(r"^\| `([a-z]+)` \|", page, re.M)), "docs/JSON.md has every field", names)
