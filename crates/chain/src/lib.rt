@@ -1,5 +1,5 @@
 // The calls that are open while a body is drawn: the place and the symbol of each, the outermost first, in a run that is lent. Refusal 13 asks it, and where
-// a drawing is refused it tells the chain (02, P4).
+// a drawing is refused it tells the chain (RULES 12, request 4).
 ghost use mathlib.Core.Path.{_≡_};
 ghost use Prim.Native.Nat.{_≤_, _<_};
 ghost use lib.Dec.{eqb};

@@ -63,7 +63,7 @@ blames s c =
     ofNumbers s (c .place) (c .letter) ns
     (ofWhole (c .place) (c .letter) (lastLetter c) (length ns) (turnsOf (letters (c .items))) (sizeAt 1 ns 1) (sizeAt 1 ns 2) (layerOf s))
 
--- 01: within a command by number, within a number by place
+-- RULES 12: within a command by number, within a number by place
 abbrev pub sooner : Blame → Blame → Blame
 sooner x y = if ltb (y .no) (x .no) then y else x
 
@@ -90,12 +90,12 @@ scopeAfter s c =
     let ns = numbers c in
     scopeBy s (c .letter) (lastLetter c) (sizeAt 1 ns 1) (sizeAt 1 ns 2) (packedBy firstUnit (letters (c .items)))
 
--- 02, request 2: how many numbers of a command with the first letter l are rounded
+-- RULES 6, request 2: how many numbers of a command with the first letter l are rounded
 unfoldable pub roundedOf : Scope → ℕ → List Figure → ℕ
 roundedOf s l [] = 0
 roundedOf s l (f ∷ fs) = roundedBy (s .a) (s .b) l (f .word) (f .index) (f .size) + roundedOf s l fs
 
--- 01: for all commands in text order; where there is no fault, how many numbers are rounded, after k of them
+-- RULES 12: for all commands in text order; where there is no fault, how many numbers are rounded, after k of them
 unfoldable pub faultFrom : Scope → ℕ → List Written → Fault
 faultFrom s k [] = Clear k
 faultFrom s k (c ∷ cs) = faultBy (foremost (blames s c)) (faultFrom (scopeAfter s c) (k + roundedOf s (c .letter) (numbers c)) cs)

@@ -33,7 +33,7 @@ abbrev pub faultAnswer : List ℕ → Fault → Answer  -- of a text
 faultAnswer t (Clear k) = clean
 faultAnswer t (Refused r) = failure t r []
 
-abbrev pub verdictAnswer : List ℕ → Verdict → Answer  -- 01, refusal 2: "not in the grammar"
+abbrev pub verdictAnswer : List ℕ → Verdict → Answer  -- RULES 12, refusal 2: "not in the grammar"
 verdictAnswer t InGrammar = clean
 verdictAnswer t (StuckAt n) = failure t (refuse notInGrammar n) []
 

@@ -1,4 +1,4 @@
-// The summary beside the table (02, P3): for each live row its own shapes, its own calls and the set of the layers of its own shapes, one column each. A
+// The summary beside the table (RULES 19, request 3): for each live row its own shapes, its own calls and the set of the layers of its own shapes, one column each. A
 // definition that is entered has its numbers made once, from its body's words, and the others move with their rows; DD cuts the columns with the rows. So
 // the columns are always those that would be made afresh from the bodies.
 ghost use mathlib.Core.Path.{_≡_};

@@ -51,7 +51,7 @@ pub record AddsShape (c : Counts) (r : ℕ) (c′ : Counts) : Type 0 where
 abbrev pub answered : ℕ → Counts → Counted
 answered refusal c = if eqb refusal 0 then More c else Full refusal
 
--- how the definition says what is answered at a place and under open calls: one definition for both cases, with document 01's number in it
+-- how the definition says what is answered at a place and under open calls: one definition for both cases, with the number of RULES 12 in it
 unfoldable pub endOf : Counted → ℕ → Chain → End
 endOf (More c) p chain = finished (tally c)
 endOf (Full number) p chain = stopped (record { number = number; place = p }) chain

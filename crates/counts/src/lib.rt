@@ -1,4 +1,4 @@
-// The running counts of 01 ("one record, carried along through the drawing"), lent: each thin function takes the record by `&mut`, takes it apart and
+// The running counts (RULES 8), one record that is carried along through the drawing, lent: each thin function takes the record by `&mut`, takes it apart and
 // calls a covered function on the numbers. Their callers stand below, with the record by value in and out: whoever calls those needs no walk by hand.
 ghost use mathlib.Core.Path.{_≡_};
 ghost use Prim.Native.Nat.{_+_, _<_, _^_};

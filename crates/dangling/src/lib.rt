@@ -1,4 +1,4 @@
-// The first dangling call of the live definitions (02, P1), from the words that hold their bodies: definitions by number, which is the order of their rows,
+// The first dangling call of the live definitions (RULES 13, request 1), from the words that hold their bodies: definitions by number, which is the order of their rows,
 // and in each its calls in written order. Nothing is drawn, and no text is read.
 ghost use Prim.Native.Nat.{_<_, _≤_};
 ghost use lib.ListN.{length};

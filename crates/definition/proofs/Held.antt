@@ -1,5 +1,5 @@
--- The words of 02, P10, at texts: what the live bodies need after each DF, and refusal 25 from both sides. Every number was worked out by hand from
--- 02 and not from the definitions, so a definition that counts otherwise is refused here.
+-- The words of request 10 (RULES 8) at texts: what the live bodies need after each DF, and refusal 25 from both sides. Every number was worked out by hand from
+-- the request and not from the definitions, so a definition that counts otherwise is refused here.
 -- Assumes nothing.
 use mathlib.Core.Path.{_≡_, refl}
 use mathlib.Core.List.{List, [], _∷_, map}

@@ -1,4 +1,4 @@
--- The limits of 01, each from both sides: what still passes, and what one more does. Laws and not rows, since a text that reaches most of
+-- The limits of RULES 14, each from both sides: what still passes, and what one more does. Laws and not rows, since a text that reaches most of
 -- them is too long to compute; so a definition whose limit is one off is refused here, whatever its size. The numbers are written out, so that
 -- specs/Limits.antt is held to them, too.
 -- Assumes nothing.
@@ -38,7 +38,7 @@ pub range-passed : (z : ℤ) → 16777215 < natAbs z → beyond z ≡ true
 unfolding beyond
 range-passed z h = lt-ltb 16777215 (natAbs z) h
 
--- 02, P4: of one shape 16 comes before 20, and in the order of the rules 20 stands directly after it
+-- RULES 12, request 4: of one shape 16 comes before 20, and in the order of the rules 20 stands directly after it
 pub directly-after-16 : numberAfter 16 order ≡ 20
 unfolding numberAfter
 directly-after-16 = refl
@@ -119,7 +119,7 @@ text-passed t words room h (too-long g) = refl
 text-passed t words room h (not-cif g x y) = absurd (omega (arith, h, g))
 text-passed t words room h (read g m) = absurd (omega (arith, h, g))
 
--- 02, P4: 1 and 18 stand at place 0, which is line 1 and column 1 of every text, and so does 2 in an empty one
+-- RULES 12, request 4: 1 and 18 stand at place 0, which is line 1 and column 1 of every text, and so does 2 in an empty one
 pub start-of-text : (t : List ℕ) → (lineOf t 0 ≡ 1) × (columnOf t 0 ≡ 1)
 unfolding lineOf columnOf those sinceLineEnd
 start-of-text t = (refl, refl)

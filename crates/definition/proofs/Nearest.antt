@@ -1,4 +1,4 @@
--- What request 2 of document 02 asks of `scaled`: no whole number is nearer to a * d / b, and of two that are as near it is the one farther from zero.
+-- What request 2 (RULES 6) asks of `scaled`: no whole number is nearer to a * d / b, and of two that are as near it is the one farther from zero.
 -- All is said without division, b times over: a * d against b times a whole number. And when nothing is rounded, for the code.
 -- Assumes nothing.
 use mathlib.Core.Path.{_≡_, refl, sym, ap, _∙_, subst}

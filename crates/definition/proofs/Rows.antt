@@ -41,6 +41,7 @@ use Rattle.definition.specs.Listing.{fields, shapeLines, windowLine, lis
 use Rattle.definition.specs.Summary.{among, namesAfter, namesFrom, tooManyFrom, sooner, firstFaultOrName, shape?, call?, layersOf, ownShapes, ownCalls, ownLayers, bothReply, stepReply, bodyReply, higher, replyBy, replyTo, kept?, tableThen, tableDeeds, appearing, packedName, bodyFound, inSymbol, noSummary, summaryIn, summaryFrom, summaryOf}
 use Rattle.definition.specs.Marks.{layerSet}
 use Rattle.definition.specs.Computed.{verdict, answerOf, summaryVerdict, summaryFor}
+
 -- the end of what tools/rows.py writes here
 
 pub record Row : Type 0 where
@@ -58,7 +59,7 @@ pub record Row : Type 0 where
   pub chain : List ℕ
   pub flat-file : List ℕ
 
--- a text that is accepted with as many words as it has bytes, which is always enough (02, P10), in a room of this size, with its shapes, calls, redefinitions, rounded distances and flat file; one in which nothing is rounded;
+-- a text that is accepted with as many words as it has bytes, which is always enough (RULES 8, request 10), in a room of this size, with its shapes, calls, redefinitions, rounded distances and flat file; one in which nothing is rounded;
 -- and one that is refused, with number and place: on line 1, so that the column is one more than the place, and in no call
 abbrev pub rounding : ℕ → List ℕ → ℕ → ℕ → ℕ → ℕ → List ℕ → Row
 rounding n t s c r k f = record { text = t; words = length t; room = n; number = 0; place = 0; shapes = s; calls = c; redefinitions = r; rounded-count = k; line = 0; column = 0; chain = []; flat-file = f }
@@ -87,7 +88,7 @@ lent w r = record {
   flat-file = r .flat-file;
 }
 
--- 02, P4: the same where the refusal is on this line and in this column; and where it is in calls, of which these are the places, outermost first
+-- RULES 12, request 4: the same where the refusal is on this line and in this column; and where it is in calls, of which these are the places, outermost first
 abbrev pub on-line : ℕ → ℕ → Row → Row
 on-line l c r = record {
   text = r .text;

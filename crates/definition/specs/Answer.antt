@@ -30,8 +30,8 @@ pub data Outcome : Type 0 where  -- a text's commands are drawn, with the counts
   accepted : List (Placed Command) → Counts → List Event → Outcome
   rejected : Refusal → Chain → Outcome
 
--- 01, "What the reader takes and gives": on success the number and place are 0; on refusal the length and all counts are 0. 02, request 2: the result also
--- counts the rounded distances of the text. 02, P4: line and column of every refusal and the chain; on success line and column are 0 and the chain is empty
+-- RULES 1: on success the number and place are 0; on refusal the length and all counts are 0. Request 2: the result also
+-- counts the rounded distances of the text. Request 4: line and column of every refusal and the chain; on success line and column are 0 and the chain is empty
 unfoldable pub flatFile : Outcome → List ℕ
 flatFile (accepted cs c es) = flat (shapesOf es)
 flatFile (rejected r chain) = []
@@ -76,15 +76,15 @@ roomAfter o room = flatFile o ++ drop (length (flatFile o)) room
 abbrev pub drawingOf : List (Placed Command) → List Event  -- the drawing of commands
 drawingOf cs = story [] (deeds (outside []) cs)
 
-abbrev pub heldDrawing : (words : ℕ) → List (Placed Command) → List Event  -- 02, P10: the same, held to the words lent
+abbrev pub heldDrawing : (words : ℕ) → List (Placed Command) → List Event  -- RULES 8, request 10: the same, held to the words lent
 heldDrawing words cs = map (heldTo words) (drawingOf cs)
 
-unfoldable pub fitted : End → List (Placed Command) → List Event → ℕ → Outcome  -- 01, refusal 18: flat file longer than the room or than 16,777,216
+unfoldable pub fitted : End → List (Placed Command) → List Event → ℕ → Outcome  -- RULES 12, refusal 18: flat file longer than the room or than 16,777,216
 fitted (stopped r chain) cs es room = rejected r chain
 fitted (finished c) cs es room =
     if leb (length (flat (shapesOf es))) room && leb (length (flat (shapesOf es))) mostBytes then accepted cs c es else rejected (refuse flatFileTooLong 0) []
 
--- 01, order: 3 to 9 for all commands, then 10 to 17 in the order of drawing, 25 directly after 10 by 02, then 18
+-- RULES 12, the order: 3 to 9 for all commands, then 10 to 17 in the order of drawing, 25 directly after 10, then 18
 unfoldable pub drawn : Option Refusal → List (Placed Command) → (words room : ℕ) → Outcome
 drawn (some r) cs words room = rejected r []
 drawn none cs words room = fitted (ending (counts 0 0 0) (heldDrawing words cs)) cs (drawingOf cs) room
@@ -98,7 +98,7 @@ pub data Answers (t : List ℕ) (words room : ℕ) : Outcome → Type 0 where
   not-cif : {n : ℕ} → length t ≤ mostBytes → (Grammatical t → ⊥) → LongestViable t n → Answers t words room (rejected (refuse notInGrammar n) [])
   read : {m : List Letter} → length t ≤ mostBytes → Marked t m → Answers t words room (outcomeOf m words room)
 
-abbrev pub zeros : List ℤ → List ℤ  -- 02, P10: the words are all zero afterwards, refused or not
+abbrev pub zeros : List ℤ → List ℤ  -- RULES 1, request 10: the words are all zero afterwards, refused or not
 zeros words = replicate (length words) (pos 0)
 
 -- the contract of a reader that gives back r of the text t, and leaves the words and the room so

@@ -9,7 +9,7 @@ use Rattle.grammar.specs.Notation.{Class, has, 'B', 'C', 'D', 'F', 'L', 'P', 'R
 use Rattle.grammar.specs.Notation.{Role, Role-discrete, Letter, dec, head, second, turn, axis, sign, lead, later, name, stop}
 use Rattle.definition.specs.Words.{if_then_else_, Placed, at, Point, point}
 
-abbrev pub Number : Type 0  -- 7.1.2, Numbers: a number of the text. Its place is its minus sign's, or else its first digit's (01)
+abbrev pub Number : Type 0  -- 7.1.2, Numbers: a number of the text. Its place is its minus sign's, or else its first digit's (RULES 4)
 Number = Placed ℤ
 
 -- 7.1.1, the table of commands: a shape has sizes (a box length and width, a flash its diameter, a wire its width), then points (a centre, or the

@@ -10,7 +10,7 @@ use Rattle.definition.specs.Rules.{tooManyCalls, tooManyShapes, refuse}
 use Rattle.definition.specs.Table.{find}
 use Rattle.definition.specs.Drawing.{Chain, Drawn, Event, called, drew, entered, removed, refused}
 
-pub record Counts : Type 0 where  -- 01: the running counts of calls, shapes and redefinitions are one record, carried along through the drawing
+pub record Counts : Type 0 where  -- the running counts of calls, shapes and redefinitions are one record, carried along through the drawing
   pub calls : ℕ
   pub shapes : ℕ
   pub redefinitions : ℕ
@@ -22,7 +22,7 @@ pub data End : Type 0 where  -- how it ends: with counts, or by a refusal and th
   finished : Counts → End
   stopped : Refusal → Chain → End
 
-unfoldable pub counted : Counts → Event → End  -- one event counted. 01, refusals 15 and 17: call 1,048,577 and shape 1,048,577
+unfoldable pub counted : Counts → Event → End  -- one event counted. RULES 12, refusals 15 and 17: call 1,048,577 and shape 1,048,577
 counted c (called p chain d) =
     if ltb (c .calls) mostCalls then finished (counts (c .calls + 1) (c .shapes) (c .redefinitions)) else stopped (refuse tooManyCalls p) chain
 counted c (drew d) =

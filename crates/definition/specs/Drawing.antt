@@ -70,7 +70,7 @@ pub data Event : Type 0 where
   removed : (symbol : Placed ℕ) → (before : Table) → Event
   refused : Refusal → Chain → Event
 
--- 01, refusal 16: a final point beyond 16,777,215. 02, P4: 16 for a shape with some x beyond the range, 20 for one whose x are all good and some y is not
+-- RULES 12, refusal 16: a final point beyond 16,777,215. Request 4: 16 for a shape with some x beyond the range, 20 for one whose x are all good and some y is not
 unfoldable pub drawShape : Chain → List (Turn ℤ) → ℕ → List ℕ → Shape ℤ → Event
 drawShape chain net p l k =
     let m = moved net k in
@@ -78,7 +78,7 @@ drawShape chain net p l k =
     else if any (λ q. beyond (q .y)) (m .points) then refused (refuse yOutOfRange p) chain
     else drew (record { place = p; chain = chain; net = net; layer-of = l; itself = m })
 
--- 01: a body draws its calls, by the function given, and its shapes, in written order
+-- RULES 8: a body draws its calls, by the function given, and its shapes, in written order
 unfoldable pub drawStep : (ℕ → ℕ → List (Turn ℤ) → List Event) → Chain → List (Turn ℤ) → ℕ → Step → List Event
 drawStep drawCall chain net p (shape l k) = drawShape chain net p l k ∷ []
 drawStep drawCall chain net p (instance n ts) = drawCall p n ts
@@ -92,7 +92,7 @@ pub data Passage : Type 0 where  -- a call is barred by a rule, or it leads to a
   barred : Rule → Passage
   leads : Definition → Passage
 
--- 01, refusals 11 to 14: an R off the axes; an undefined symbol; a symbol already being drawn; depth 33, where no level is left
+-- RULES 12, refusals 11 to 14: an R off the axes; an undefined symbol; a symbol already being drawn; depth 33, where no level is left
 unfoldable pub passageTo : Option Definition → (left : ℕ) → Chain → (symbol : ℕ) → Passage
 passageTo none left chain n = barred undefinedSymbol
 passageTo (some d) left chain n = if any (λ c. eqb (c .what) n) chain then barred beingDrawn else if eqb left 0 then barred tooDeep else leads d
@@ -104,7 +104,7 @@ unfoldable pub through : Passage → ℕ → Chain → (Definition → List Even
 through (barred r) p chain go = refused (refuse r p) chain ∷ []
 through (leads d) p chain go = called p chain d ∷ go d
 
--- 01: and a call draws its body. An executable call has depth 1 and 32 levels left; the inner call's list acts before the outer's
+-- RULES 8: and a call draws its body. An executable call has depth 1 and 32 levels left; the inner call's list acts before the outer's
 unfoldable pub drawCall : (left : ℕ) → Table → Chain → List (Turn ℤ) → ℕ → ℕ → List (Turn ℤ) → List Event
 drawCall zero t chain net p n ts = through (passageOf 0 t chain n ts) p chain (λ d. [])
 drawCall (suc left) t chain net p n ts =
@@ -112,7 +112,7 @@ drawCall (suc left) t chain net p n ts =
     through (passageOf (suc left) t chain n ts) p chain
     (λ d. drawBody (drawCall left t deeper (ts ++ net)) deeper (ts ++ net) (d .body))
 
-unfoldable pub happens : Table → Deed → List Event  -- 7.1.2.4: what happens at a deed. 01, refusal 10: 513 live definitions
+unfoldable pub happens : Table → Deed → List Event  -- 7.1.2.4: what happens at a deed. RULES 12, refusal 10: 513 live definitions
 happens t (output s) = drawStep (drawCall deepest t [] []) [] [] (s .place) (s .what)
 happens t (define d) = (if ltb mostDefinitions (length (enter d t)) then refused (refuse tooManyDefinitions (d .place)) [] else entered d t) ∷ []
 happens t (remove n) = removed n t ∷ []

@@ -1,4 +1,4 @@
--- 02, P10: bodies are kept as numbers in words that a host lends. How many words the live bodies need, and the refusal where they are more than were
+-- RULES 8, request 10: bodies are kept as numbers in words that a host lends. How many words the live bodies need, and the refusal where they are more than were
 -- lent. The story stays as it is: it is held to the words lent, event by event.
 use mathlib.Core.List.{List, [], _∷_}
 use Prim.Native.Nat.{ℕ, _+_, max}

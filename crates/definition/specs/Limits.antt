@@ -1,4 +1,4 @@
--- Document 01's limits, each under one name: how far a number may lie from zero, how long a text and a flat file may be, and how many of a thing
+-- The limits of RULES 14, each under one name: how far a number may lie from zero, how long a text and a flat file may be, and how many of a thing
 -- there may be. The code has the same as constants.
 use Prim.Native.Nat.{ℕ}
 

@@ -1,4 +1,4 @@
--- The lines of the list program (01, "The list program"): read off the outcome, so that the program adds nothing of its own.
+-- The lines of the list program (RULES 13): read off the outcome, so that the program adds nothing of its own.
 use mathlib.Core.List.{List, [], _∷_, _++_, map}
 use mathlib.Core.Option.{Option, none, some}
 use Prim.Native.Nat.{ℕ, _+_, _<_, _≤_}
@@ -24,11 +24,11 @@ shapeLines n (d ∷ ds) =
     bytesOf "shape" ++ (fields (decimal (pos n) ∷ d .layer-of ∷ (letterOf (d .itself .kind) ∷ []) ∷ spaced (numbersOfShape (d .itself)) ∷ [])
     ++ shapeLines (n + 1) ds)
 
-unfoldable pub windowLine : Option Window → List ℕ  -- 02, P6: the window that holds the figures, in half units
+unfoldable pub windowLine : Option Window → List ℕ  -- RULES 13, request 6: the window that holds the figures, in half units
 windowLine none = bytesOf "window" ++ fields (bytesOf "none" ∷ [])
 windowLine (some w) = bytesOf "window" ++ fields (map decimal (w .left ∷ w .bottom ∷ w .right ∷ w .top ∷ []))
 
--- of a text. 02, P1: the warnings stand directly before the total. 02, P4: line, column and the places of the chain come after the place
+-- of a text. RULES 13, request 1: the warnings stand directly before the total. Request 4: line, column and the places of the chain come after the place
 unfoldable pub listing : List ℕ → Outcome → List ℕ
 listing t (accepted cs c es) =
     shapeLines 1 (shapesOf es)

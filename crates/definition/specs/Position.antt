@@ -1,4 +1,4 @@
--- 02, P4: where a place is in the text, as an editor counts: its line and its column. And the chain of a refusal as it is given back: the places of the
+-- RULES 12, request 4: where a place is in the text, as an editor counts: its line and its column. And the chain of a refusal as it is given back: the places of the
 -- calls that are open there.
 use mathlib.Core.Bool.{Bool, true, false}
 use mathlib.Core.List.{List, [], _∷_, _++_, map}

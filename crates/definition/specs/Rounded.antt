@@ -1,4 +1,4 @@
--- Request 2 of document 02: the rounded distances of a text, each counted once, whether it is drawn or not. Outside definitions a and b are 1, so
+-- Request 2 (RULES 6): the rounded distances of a text, each counted once, whether it is drawn or not. Outside definitions a and b are 1, so
 -- nothing is rounded there.
 use mathlib.Core.Bool.{not}
 use mathlib.Core.List.{List, [], _∷_}

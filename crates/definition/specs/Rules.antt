@@ -1,5 +1,5 @@
--- 01, "Numbers a refusal carries": a name for each row of the table, its number there, and the order in which the rules are looked at. A rule that
--- is added gets a name, its number, and its place in the order, which need not be by number. 5 is no rule's number since request 2 of document 02.
+-- RULES 12: a name for each row of the table, its number there, and the order in which the rules are looked at. A rule that
+-- is added gets a name, its number, and its place in the order, which need not be by number. 5 is no rule's number since request 2.
 use mathlib.Core.List.{List, [], _∷_}
 use Prim.Native.Nat.{ℕ}
 use Rattle.definition.specs.declared.Refusal.{Refusal}
@@ -33,7 +33,7 @@ numberOf tooFewWords = 25
 abbrev pub refuse : Rule → (place : ℕ) → Refusal
 refuse r p = record { number = numberOf r; place = p }
 
-abbrev pub order : List Rule  -- 01: 1; then 2; then 3 to 9, within a command by number; then 10 to 17, at one command by number; then 18. 02: 19 among 3 to 9, 25 directly after 10, and 20 after 16
+abbrev pub order : List Rule  -- RULES 12: 1; then 2; then 3 to 9, within a command by number; then 10 to 17, at one command by number; then 18. 19 among 3 to 9, 25 directly after 10, and 20 after 16
 order =
     textTooLong ∷ notInGrammar ∷ numberTooLarge ∷ zeroFactor ∷ scaledTooLarge ∷ degenerateCommand ∷ noLayer ∷ tooManyParts ∷ tooManyLayers
     ∷ tooManyDefinitions ∷ tooFewWords ∷ offTheAxes ∷ undefinedSymbol ∷ beingDrawn ∷ tooDeep ∷ tooManyCalls ∷ xOutOfRange ∷ yOutOfRange ∷ tooManyShapes ∷ flatFileTooLong ∷ []

@@ -9,7 +9,7 @@ use Rattle.definition.specs.Words.{Point, point}
 use Rattle.definition.specs.Commands.{Number, Shape, shapeOf, Turn, translate, mirrorX, mirrorY, rotate}
 use Rattle.definition.specs.Commands.{Command, draw, layer, call, start, finish, delete, nothing}
 
--- 7.1.2.3, 01 Layers: whether a definition is open, its a and b, the layer that is set, by its name (empty where none is), and the layer set before the DS
+-- 7.1.2.3, RULES 7: whether a definition is open, its a and b, the layer that is set, by its name (empty where none is), and the layer set before the DS
 pub record Standing : Type 0 where
   pub inside : Bool
   pub a : ℕ
@@ -33,7 +33,7 @@ after nothing s = s
 unfoldable pub nearest : ℕ → ℕ → ℕ  -- the whole number nearest to n / b, the higher of two: n / b and a half more, cut off
 nearest n b = (2 * n + b) / (2 * b)
 
--- 7.1.2.3, 02 request 2: each distance d becomes a * d / b, to the nearest whole number, halves away from zero
+-- 7.1.2.3, RULES 6, request 2: each distance d becomes a * d / b, to the nearest whole number, halves away from zero
 unfoldable pub scaled : Standing → ℤ → ℤ
 scaled s (pos d) = pos (nearest (s .a * d) (s .b))
 scaled s (negsuc d) = negℤ (pos (nearest (s .a * natAbs (negsuc d)) (s .b)))

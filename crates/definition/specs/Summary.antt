@@ -1,4 +1,4 @@
--- 02, P3: what is in a symbol. The text is read and its table kept, and nothing is drawn: what a call of the symbol would meet, how high it stands and
+-- RULES 19, request 3: what is in a symbol. The text is read and its table kept, and nothing is drawn: what a call of the symbol would meet, how high it stands and
 -- which layers it would draw is told of the table left at the end of the text. The exported contract is `Summarised`, at the end.
 use mathlib.Core.Path.{_≡_}
 use mathlib.Core.Bool.{Bool, true, false}

@@ -20,7 +20,7 @@ heading d =
     if zero? (d .y) then some (if negative (d .x) then -x else +x)
     else if zero? (d .x) then some (if negative (d .y) then -y else +y) else none
 
-unfoldable pub rotated : Option Heading → Point ℤ → Point ℤ  -- 01, Drawing: what R does; one off the axes draws nothing, by refusal 11
+unfoldable pub rotated : Option Heading → Point ℤ → Point ℤ  -- RULES 9: what R does; one off the axes draws nothing, by refusal 11
 rotated (some +x) p = p
 rotated (some +y) p = point (negℤ (p .y)) (p .x)
 rotated (some -x) p = point (negℤ (p .x)) (negℤ (p .y))
@@ -33,7 +33,7 @@ act mirrorX p = point (negℤ (p .x)) (p .y)
 act mirrorY p = point (p .x) (negℤ (p .y))
 act (rotate d) p = rotated (heading d) p
 
-unfoldable pub aim : Turn ℤ → Point ℤ → Point ℤ  -- 01: directions take the mirrors and turns and not the T
+unfoldable pub aim : Turn ℤ → Point ℤ → Point ℤ  -- RULES 9: directions take the mirrors and turns and not the T
 aim (translate d) p = p
 aim mirrorX p = act mirrorX p
 aim mirrorY p = act mirrorY p
@@ -44,8 +44,8 @@ unfoldable pub inOrder : (Turn ℤ → Point ℤ → Point ℤ) → List (Turn �
 inOrder f [] p = p
 inOrder f (t ∷ ts) p = inOrder f ts (f t p)
 
-unfoldable pub moved : List (Turn ℤ) → Shape ℤ → Shape ℤ  -- 01: lengths, widths and diameters never change
+unfoldable pub moved : List (Turn ℤ) → Shape ℤ → Shape ℤ  -- RULES 9: lengths, widths and diameters never change
 moved ts k = shapeOf (k .kind) (k .sizes) (map (inOrder act ts) (k .points)) (map (inOrder aim ts) (k .directions))
 
-unfoldable pub offAxes : List (Turn ℤ) → Bool  -- 01, refusal 11: an R off the axes
+unfoldable pub offAxes : List (Turn ℤ) → Bool  -- RULES 12, refusal 11: an R off the axes
 offAxes ts = any (λ t. any (λ d. none? (heading d)) (bearings t)) ts

@@ -1,4 +1,4 @@
--- 02, P1: the two warnings of 7.1.2.4, each read off the one event that it is due at, so that they come in the order of their commands, and the line that
+-- RULES 13, request 1: the two warnings of 7.1.2.4, each read off the one event that it is due at, so that they come in the order of their commands, and the line that
 -- each is printed as.
 use mathlib.Core.Bool.{Bool, true, false}
 use mathlib.Core.List.{List, [], _∷_, _++_, flatMap}

@@ -1,4 +1,4 @@
--- The window of a shape, and of a list of shapes, in half units (02, P6): all four numbers are doubled, so that it holds the figures and not only their
+-- The window of a shape, and of a list of shapes, in half units (RULES 13, request 6): all four numbers are doubled, so that it holds the figures and not only their
 -- points. That it does, and that no smaller one does save for slanting boxes, is shown in crates/figures.
 use mathlib.Core.Bool.{Bool, false, not, _&&_}
 use mathlib.Core.List.{List, [], _∷_, map, flatMap}

@@ -1,7 +1,7 @@
 // What a CIF text means stands in specs/, and what follows from it in proofs/. This crate has no code: only what readers give back is declared here, so
-// that contracts can say which one it is, and document 01's limits, so that code has each under one name (specs/Limits.antt has them for definitions).
+// that contracts can say which one it is, and the limits of RULES 14, so that code has each under one name (specs/Limits.antt has them for definitions).
 
-// The farthest from zero that a number may be (01, refusals 3, 6 and 16).
+// The farthest from zero that a number may be (RULES 12, refusals 3, 6, 16 and 20).
 pub const LARGEST: usize = 16_777_215;
 // The longest text and the longest flat file (1 and 18).
 pub const MOST_BYTES: usize = 16_777_216;
@@ -20,14 +20,14 @@ pub const MOST_SHAPES: usize = 1_048_576;
 // The most layer names of a text whose symbols are summed up (19).
 pub const MOST_LAYERS: usize = 64;
 
-// A refusal: its number in document 01's table, and its place.
+// A refusal: its number in the table of RULES 12, and its place.
 pub struct Refusal {
     pub number: usize,
     pub place: usize,
 }
 
-// What a reader gives back (01, "What the reader takes and gives"): refusal number, place, length written, the counts of the drawing, and how many distances
-// of the text were rounded (02, request 2); line and column of the place, and the places of the calls open there, zeros after them (02, request 4).
+// What a reader gives back (RULES 1): refusal number, place, length written, the counts of the drawing, and how many distances
+// of the text were rounded (request 2); line and column of the place, and the places of the calls open there, zeros after them (request 4).
 pub struct Answer {
     pub number: usize,
     pub place: usize,
@@ -42,7 +42,7 @@ pub struct Answer {
     pub chain: [usize; DEEPEST],
 }
 
-// What is told of a symbol (02, request 3): refusal number, place, line and column; what drawing it would give, 12, 13, 14 or 0; how many layers a call
+// What is told of a symbol (RULES 19, request 3): refusal number, place, line and column; what drawing it would give, 12, 13, 14 or 0; how many layers a call
 // would draw, the packed name of the first of them in the text, and the height; and its own shapes, calls and layers.
 pub struct Summary {
     pub number: usize,

@@ -1,4 +1,4 @@
-// Bytes and whole numbers written into a lent room (01, "The flat file"). Nothing is stored past the room's end and the next place is exact all the same,
+// Bytes and whole numbers written into a lent room (RULES 11). Nothing is stored past the room's end and the next place is exact all the same,
 // so one drawing measures, on an empty room, and writes.
 ghost use mathlib.Core.Path.{_≡_};
 ghost use mathlib.Core.List.{_∷_, []};

@@ -1,5 +1,5 @@
-// A body draws its calls and a call draws its body (01, "Drawing"), from the words that hold the bodies: no text is read here, and which calls are
-// refused is asked of crate opening. Where a refusal arises the run of open calls is told how many are open (02, P4), and what comes up from below is
+// A body draws its calls and a call draws its body (RULES 8), from the words that hold the bodies: no text is read here, and which calls are
+// refused is asked of crate opening. Where a refusal arises the run of open calls is told how many are open (RULES 12, request 4), and what comes up from below is
 // handed on. The same code measures, on an empty part, and writes: what is stored past the room's end is dropped.
 use shapes::Drawn;
 use shapes::Ink;
@@ -155,7 +155,7 @@ fn draw_body(
     Drawn::Done(ink)
 }
 
-// A command outside of definitions that draws: a call (01: an executable call has depth 1), and else a shape.
+// A command outside of definitions that draws: a call (RULES 8: an executable call has depth 1), and else a shape.
 pub fn draw_outer(
     bodies: &[i32],
     rows: &[usize; library::ROW_NUMBERS],

@@ -9,7 +9,7 @@ use Rattle.definition.specs.Window.{extreme}
 use Rattle.figures.specs.Figure.{segments, closed, edges, turn, crossing, winding}
 use Rattle.definition.specs.Window.{boxReach, reachOf, reach, around, windows, hull, joined, windowOf}
 
--- 02, P6: document 01's example, B100 50 75 0 -1 0, gives 50, -50, 250, 50
+-- RULES 13, request 6: the example, B100 50 75 0 -1 0, gives 50, -50, 250, 50
 of-document : windowOf (shapeOf box (pos 100 ∷ pos 50 ∷ []) (point (pos 75) (pos 0) ∷ []) (point (negsuc 0) (pos 0) ∷ []) ∷ []) ≡ some (record { left = pos 50; bottom = negℤ (pos 50); right = pos 250; top = pos 50 })
 unfolding windows around reach reachOf boxReach flatMap joined hull extreme
 of-document = refl

@@ -1,4 +1,4 @@
--- Every point of a shape's figure lies in its window (02, P6), boxes that slant too.
+-- Every point of a shape's figure lies in its window (RULES 13, request 6), boxes that slant too.
 -- Assumes nothing.
 use mathlib.Core.Path.{_≡_, refl, sym, ap, ap₂, _∙_, subst}
 use mathlib.Core.Logic.{_≢_}

@@ -169,7 +169,7 @@ pub met : {k : Shape ℤ} → Plain k → {u : Window} → u ∈ windows k → M
 unfolding windows
 met {k} p {u} m = let r = of-map (around (reach k)) (k .points) m in subst (Met k) (sym (r .2)) (met-at (axes p) (r .0) (r .1))
 
--- ---- the shapes that are drawn: made by a command, and not empty (01, refusal 7)
+-- ---- the shapes that are drawn: made by a command, and not empty (RULES 12, refusal 7)
 
 pub record Drawable (k : Shape ℤ) : Type 0 where
   pub formed : Formed k

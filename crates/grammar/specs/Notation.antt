@@ -12,7 +12,7 @@ pub data Class : Type 0 where  -- 7.1.1: the sets of characters that the rules n
   'B' 'C' 'D' 'E' 'F' 'L' 'M' 'P' 'R' 'S' 'T' 'W' 'X' 'Y' : Class
   deriving Discrete as Class-discrete
 
-abbrev pub ascii : ℕ → Bool  -- 01, Grammar: an ASCII byte is 0 to 127, and bytes from 128 up fit nowhere
+abbrev pub ascii : ℕ → Bool  -- RULES 2: an ASCII byte is 0 to 127, and bytes from 128 up fit nowhere
 ascii a = leb a 127
 
 abbrev pub digit : ℕ → Bool
@@ -21,7 +21,7 @@ digit a = leb 48 a && leb a 57
 abbrev pub upper : ℕ → Bool
 upper a = leb 65 a && leb a 90
 
--- byte a is a character of the class. A blank is any ASCII byte except digits, upper-case letters, `-`, `(`, `)` and `;` (01); user text has
+-- byte a is a character of the class. A blank is any ASCII byte except digits, upper-case letters, `-`, `(`, `)` and `;` (RULES 2); user text has
 -- any but `;`, and a comment any but `(` and `)` (7.1.1)
 unfoldable pub has : Class → ℕ → Bool
 has Digit a = digit a

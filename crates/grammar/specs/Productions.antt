@@ -7,7 +7,7 @@ use Rattle.grammar.specs.Notation.{skip, head, second, turn, axis, sign,
 abbrev pub blank : Expression
 blank = one skip Blank
 
-abbrev pub sep : Expression  -- 01: "a separator is an upper-case letter or a blank"
+abbrev pub sep : Expression  -- RULES 2: "a separator is an upper-case letter or a blank"
 sep = one skip Upper ∣ blank
 
 abbrev pub semi : Expression
@@ -16,7 +16,7 @@ semi = many blank ▹ one stop semicolon ▹ many blank
 abbrev pub userText : Expression
 userText = many (one skip User)
 
-abbrev pub c : Expression  -- 01: "a layer-name character c is a digit or an upper-case letter"
+abbrev pub c : Expression  -- RULES 3: "a layer-name character c is a digit or an upper-case letter"
 c = one name Digit ∣ one name Upper
 
 abbrev pub shortname : Expression

@@ -16,7 +16,7 @@ pub record Marked (t : List ℕ) (m : List Letter) : Type 0 where  -- m is the t
   pub reads : bytes m ≡ t
   pub rule : Match cifFile m
 
-abbrev pub Grammatical : List ℕ → Type 0  -- 01, refusal 2: "in the grammar"
+abbrev pub Grammatical : List ℕ → Type 0  -- RULES 12, refusal 2: "in the grammar"
 Grammatical t = (m : List Letter) × Marked t m
 
 abbrev pub Viable : List ℕ → Type 0  -- "a prefix that some continuation completes to a grammatical text"

@@ -1,4 +1,4 @@
-// What a call of a symbol would draw (02, P3): its height, the set of its layers, or the first of 12, 13 and 14, from the words that hold the bodies. The
+// What a call of a symbol would draw (RULES 19, request 3): its height, the set of its layers, or the first of 12, 13 and 14, from the words that hold the bodies. The
 // height and the set of a finished symbol are kept beside its row, so that every body is gone through once: a known height answers for any allowance
 // (proofs/Walking.antt).
 ghost use mathlib.Core.Path.{_≡_};
@@ -64,7 +64,7 @@ fn next_call(bodies: &[i32], from: usize, end: usize) -> Next
     Next::NoCall
 }
 
-// Refusals 12, 13 and 14 of one call with so many levels left, in their order (01, "Drawing"). A known height is too tall where fewer levels are left.
+// Refusals 12, 13 and 14 of one call with so many levels left, in their order (RULES 8). A known height is too tall where fewer levels are left.
 fn look_up(
     rows: &[usize; library::ROW_NUMBERS],
     live: usize,

@@ -1,4 +1,4 @@
--- What `join` makes of two texts and a room (02, P14): the joined text in the room, or a refusal and which text it is about. Refusals come in document 01's order: 1, for
+-- What `join` makes of two texts and a room (RULES 18, request 14): the joined text in the room, or a refusal and which text it is about. Refusals come in the order of RULES 12: 1, for
 -- the first and then for the second; 2, likewise; then 18, which is about neither.
 use mathlib.Core.Path.{_≡_}
 use mathlib.Core.Bool.{_&&_}

@@ -1,4 +1,4 @@
-// Two texts joined (02, P14): the first cut at its E, then `DD0;`, then the second. `join` writes the joined text into a lent room, or says which of the two is
+// Two texts joined (RULES 18, request 14): the first cut at its E, then `DD0;`, then the second. `join` writes the joined text into a lent room, or says which of the two is
 // refused and why. That two accepted texts are accepted together and draw one list after the other is proved in joining.
 use definition::Refusal;
 use grammar::Verdict;

@@ -1,5 +1,5 @@
 -- Texts that show what joining and placing say, and that each condition is needed: joined as the request says, and in ways that it does not say. Every answer was worked out
--- by hand from 01 and 02, and the definitions are held to it here, as in Texts of crate definition.
+-- by hand from the rules, and the definitions are held to it here, as in Texts of crate definition.
 -- Assumes nothing.
 use mathlib.Core.List.{List, [], _∷_, _++_}
 use Prim.Native.Nat.{ℕ}

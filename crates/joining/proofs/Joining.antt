@@ -1,4 +1,4 @@
--- Request 14 of document 02, joining: two accepted texts are joined, the first cut at its E, then `DD0;`, then the second. If the totals of calls and shapes and the lengths of
+-- Request 14 (RULES 18), joining: two accepted texts are joined, the first cut at its E, then `DD0;`, then the second. If the totals of calls and shapes and the lengths of
 -- the joined text and of its flat file stay within the limits, it is accepted and draws the first list followed by the second; and in no other case is it accepted.
 -- Assumes nothing.
 use mathlib.Core.List.{List, _++_}

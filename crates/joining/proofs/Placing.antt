@@ -1,4 +1,4 @@
--- Request 14 of document 02, placing: drawing under one call's right-angle list and then another's is drawing under the composed list, over whole numbers,
+-- Request 14 (RULES 18), placing: drawing under one call's right-angle list and then another's is drawing under the composed list, over whole numbers,
 -- before the range is looked at: for points, directions, shapes, lists of shapes, and all that a call draws. Crate turns has the same of the nets that code keeps.
 -- Assumes nothing.
 use mathlib.Core.Path.{_≡_, refl, sym, ap, ap₂, _∙_}
@@ -25,11 +25,11 @@ use Rattle.laws.proofs.Story.Axes.{drawn-within}
 use Rattle.laws.proofs.Story.Moments.{Act, calling, drawing, entering, removing, Moment, callEvent, eventOf, events, followed, stepMoments, bodyMoments, callMoments, call-events}
 use Rattle.laws.proofs.FlatFile.Reread.{plain}
 
--- every R of the list turns by a right angle (01, refusal 11)
+-- every R of the list turns by a right angle (RULES 12, refusal 11)
 abbrev pub RightAngled : List (Turn ℤ) → Type 0
 RightAngled ts = offAxes ts ≡ false
 
--- a symbol is called with `inner` in a body that is called with `outer`: the first list acts before the second (01, "Drawing")
+-- a symbol is called with `inner` in a body that is called with `outer`: the first list acts before the second (RULES 9)
 abbrev pub composed : (inner outer : List (Turn ℤ)) → List (Turn ℤ)
 composed inner outer = inner ++ outer
 

@@ -1,4 +1,4 @@
--- Two texts joined (request 14 of document 02): the first cut at its E, then `DD0;`, then the second; and all that is said of it. proofs/Joining.antt proves it. It stands in
+-- Two texts joined (RULES 18, request 14): the first cut at its E, then `DD0;`, then the second; and all that is said of it. proofs/Joining.antt proves it. It stands in
 -- specs/ so that a contract can cite it.
 use mathlib.Core.Path.{_≡_}
 use mathlib.Core.List.{List, [], _∷_, _++_, map}

@@ -1,4 +1,4 @@
-// One definition, decoded once: its body goes as words straight into the run lent, after those used, and the definition is entered (01, "Drawing").
+// One definition, decoded once: its body goes as words straight into the run lent, after those used, and the definition is entered (RULES 8).
 // Where a command does not fit, the live bodies are moved together and it is decoded again; where it still does not fit, more words are needed than
 // were lent (refusal 25).
 ghost use mathlib.Core.Path.{_≡_};

@@ -87,7 +87,7 @@ stepsIn b from n = stepsOf n [] (wordsAt b from n)
 
 -- ---- rows
 
--- the most live definitions that there can be (01, refusal 10), and the numbers of their rows
+-- the most live definitions that there can be (RULES 12, refusal 10), and the numbers of their rows
 abbrev pub most : ℕ
 most = mostDefinitions
 

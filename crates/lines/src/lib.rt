@@ -1,4 +1,4 @@
-// A flat file followed byte by byte: the line and the number that are being read, and the window of the figures before them (02, P6). Plain values come
+// A flat file followed byte by byte: the line and the number that are being read, and the window of the figures before them (RULES 13, request 6). Plain values come
 // in and plain values go out; what is printed of them is the business of listing, above. It takes any bytes.
 ghost use mathlib.Core.Path.{_≡_};
 ghost use Prim.Native.Nat.{_+_, _*_, _^_, _≤_};

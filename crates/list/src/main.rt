@@ -1,4 +1,4 @@
-// 01's list program: of the text on standard input, at most 32,768 bytes, a line for each shape, the total and the window; or the refusal. Where a read
+// The list program (RULES 13): of the text on standard input, at most 32,768 bytes, a line for each shape, the total and the window; or the refusal. Where a read
 // fails nothing is printed of the text.
 use streams::Input;
 ghost use mathlib.Core.Path.{_≡_};

@@ -1,4 +1,4 @@
-// What the list program prints (01, "The list program"), from the answer, the flat file and, for its warnings, the text. The flat file is read once, byte by
+// What the list program prints (RULES 13), from the answer, the flat file and, for its warnings, the text. The flat file is read once, byte by
 // byte: a shape's line is copied after its count and its layer, and its points are taken into the window, which crate lines keeps.
 ghost use mathlib.Core.Path.{_≡_};
 ghost use mathlib.Core.List.{_∷_, []};

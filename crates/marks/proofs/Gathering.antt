@@ -81,8 +81,10 @@ is-named (a-layer {p} {l} letter n) e = record {
   where
     w : Written
     w = record { place = p; letter = letterL; items = map Word l; stopped = true }
+
     last : packedBy firstUnit (letters (map Word l)) ≡ packed l
     last = unfold packed in ap (packedBy firstUnit) (letters-of l)
+
     third : (ws : List ℤ) → 3 ≤ length ws → getD (sets ws 0 (wordsOf 1 1 w)) 2 (pos 0) ≡ pos (packed l)
     third ws h = unfold wordsOf closing in
         rw (no-body l 0) (third-set ws _ _ (word false (packedBy firstUnit (letters (map Word l)))) h ∙ (ap (word false) last ∙ fits-word (packed l) (unfold packed in packed-most l n)))
@@ -196,8 +198,7 @@ module _ {t : List ℕ} {run : List ℕ} {words : List ℤ} {spot : Spot} {count
   unfolding Gathers
   gather-out r words′ x e =
       let none-written : written (stream t spot) ≡ [] = subst (λ (r : Read). ReadsCommand t spot 1 1 words r words′) e x .0 in
-      let over : u .rest ≡ [] = none-left (subst (λ (cs : List Written). AllSay cs (u .rest)) none-written (u .say)) in
-      (
+      let over : u .rest ≡ [] = none-left (subst (λ (cs : List Written). AllSay cs (u .rest)) none-written (u .say)) in (
         subst (Noted run count) (sym (ap (namesFrom (u .names)) over ∙ from-end (u .names)) ∙ u .names-left) (u .noted),
         sym (u .stop-left) ∙ (ap (tooManyFrom (u .names)) over ∙ stop-end (u .names)),
       )
@@ -250,7 +251,7 @@ module _ {t : List ℕ} {run : List ℕ} {words : List ℤ} {spot : Spot} {count
             sym (u .stop-left)
             ∙ (ap (tooManyFrom (u .names)) (first .are)
             ∙ (stop-here (u .names) (first .command) (first .rest)
-              (let z = ap (λ (d : Command). length (namesAfter (u .names) d)) is-layer ∙ names-many (u .noted) (layered .known .back) (q ∙ third-is) x in omega (arith, z, h))
+            (let z = ap (λ (d : Command). length (namesAfter (u .names) d)) is-layer ∙ names-many (u .noted) (layered .known .back) (q ∙ third-is) x in omega (arith, z, h))
             ∙ ap (λ (p : ℕ). some (refuse tooManyLayers p)) (ap (λ (d : Placed Command). d .place) (layered .is) ∙ sym (r .tells .place))))
 
 -- whatever letters the text is read as, they are these

@@ -113,8 +113,8 @@ module _ {run : List ℕ} {count : ℕ} {ns : Names} (n : Noted run count ns) {l
       go (inl f) =
           subst (λ (j : ℕ). P (getD (ns ++ (l ∷ [])) j []) (getD (set run count v) j 0)) (sym f)
           (subst (λ (x : List ℕ). P x (getD (set run count v) count 0))
-            (sym (ap (λ (j : ℕ). getD (ns ++ (l ∷ [])) j []) (sym (n .many)) ∙ last-there l [] ns))
-            (subst (P l) (sym (getD-set-same run count v 0 (omega (arith, room, n .sized)))) last))
+          (sym (ap (λ (j : ℕ). getD (ns ++ (l ∷ [])) j []) (sym (n .many)) ∙ last-there l [] ns))
+          (subst (P l) (sym (getD-set-same run count v 0 (omega (arith, room, n .sized)))) last))
       go (inr g) =
           subst (λ (x : List ℕ). P x (getD (set run count v) i 0)) (sym (before-there l [] ns i (omega (arith, g, n .many))))
           (subst (P (getD ns i [])) (sym (getD-set-other run count i v 0 (λ f. omega (arith, f, g)))) (old i g))

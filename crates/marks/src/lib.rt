@@ -1,4 +1,4 @@
-// The layer names of a text (02, P3): each distinct name of its L commands has one mark of 64, by first appearance, in and outside definitions. A name is
+// The layer names of a text (RULES 19, request 3): each distinct name of its L commands has one mark of 64, by first appearance, in and outside definitions. A name is
 // kept as the one number that an L command of a body has in its words, so a body's layers are told from them.
 ghost use mathlib.Core.Path.{_≡_};
 ghost use mathlib.Core.List.{List};

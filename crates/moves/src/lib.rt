@@ -1,4 +1,4 @@
-// A shape's numbers moved from its words to their final places, under a net transformation (01, "Drawing"). Each number comes to stand where its word
+// A shape's numbers moved from its words to their final places, under a net transformation (RULES 9). Each number comes to stand where its word
 // stands, so that a line of them has them in written order.
 ghost use mathlib.Core.Path.{_≡_};
 ghost use mathlib.Core.List.{_∷_, []};

@@ -1,4 +1,4 @@
-// One call before its body is drawn: what its words say, and refusals 11 to 15 in their order (01, "Drawing"). Nothing is drawn here, and of a body only
+// One call before its body is drawn: what its words say, and refusals 11 to 15 in their order (RULES 8). Nothing is drawn here, and of a body only
 // its row is asked, so that every engine that draws calls asks the same leaf.
 ghost use mathlib.Core.Path.{_≡_};
 ghost use Prim.Native.Nat.{_-_, _*_, _^_, _≤_};

@@ -1,4 +1,4 @@
-// The pass over a text: definitions are decoded once, into the words lent, by crate keeping, and all else outside them is drawn (01, "Drawing"), by crate
+// The pass over a text: definitions are decoded once, into the words lent, by crate keeping, and all else outside them is drawn (RULES 8), by crate
 // engine, from these words.
 use keeping::Defined;
 use keeping::Start;
@@ -16,7 +16,7 @@ ghost use Rattle.keeping.specs.Keeping.{mostWords};
 ghost use Rattle.chain.specs.Chain.{runLength};
 ghost use Rattle.passing.specs.Passed.{Passed, TextDraws, outputs, startIn, Deletes, RefusedOutside, lentOf};
 
-// A command has at most 2,049 numbers (01, refusal 9: 1,024 points, and a width), and two words in front.
+// A command has at most 2,049 numbers (RULES 12, refusal 9: 1,024 points, and a width), and two words in front.
 const COMMAND_WORDS: usize = 2051;
 // The most words that bodies can need: a text has no more bytes, and no command has more words than bytes.
 const MOST_WORDS: usize = 16777216;
@@ -174,7 +174,7 @@ pub fn at_most(n: usize) -> usize
 }
 
 // All that a text draws, counted, and its lines in the room up to the first refusal. Lines past the room's end are counted and dropped. The run of the open
-// calls is lent, since it tells the calls that are open at a refusal (02, request 4).
+// calls is lent, since it tells the calls that are open at a refusal (RULES 12, request 4).
 pub fn draw(text: &[u8], bodies: &mut [i32], drawing: &mut [usize], room: &mut [u8]) -> Drawn
     requires { ⌜ Passed (now text) × (length (now drawing) ≡ runLength) ⌝ }
     ensures { λ r. ⌜ TextDraws (now (text .entry)) (length (now (bodies .entry))) (now (room .entry)) (now (drawing .exit)) r (now (room .exit)) ⌝ }

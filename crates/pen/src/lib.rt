@@ -1,4 +1,4 @@
-// Command lines written into a lent room (01, "The flat file"), over the bytes and numbers of crate digits: like these, every function gives back the next
+// Command lines written into a lent room (RULES 11), over the bytes and numbers of crate digits: like these, every function gives back the next
 // place, exact whatever the room.
 ghost use mathlib.Core.Path.{_≡_};
 ghost use mathlib.Core.List.{_∷_, []};

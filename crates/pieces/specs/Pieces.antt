@@ -22,7 +22,7 @@ use Rattle.pieces.specs.declared.Piece.the-variants.{First, Second, Numb
 use Rattle.pieces.specs.declared.Begun.{Begun}
 use Rattle.pieces.specs.declared.Numeral.{Numeral as Counted}
 
--- 01: every number lies within this of zero
+-- RULES 4: every number lies within this of zero
 abbrev pub largest : ℕ
 largest = limits.largest
 

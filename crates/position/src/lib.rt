@@ -1,4 +1,4 @@
-// Where a place is in a text, as an editor counts (02, P4): found in one pass over the text up to the place.
+// Where a place is in a text, as an editor counts (RULES 12, request 4): found in one pass over the text up to the place.
 ghost use Rattle.position.specs.Found.{Found};
 
 const LINE_END: u8 = 10;

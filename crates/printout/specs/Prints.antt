@@ -7,11 +7,11 @@ use lib.ListN.{length, take}
 use Rattle.definition.specs.Listing.{Lists}
 use Rattle.digits.specs.Writes.{Writes}
 
--- 02, P10: it lends as many words as the longest text that it takes has bytes
+-- RULES 13, request 10: it lends as many words as the longest text that it takes has bytes
 abbrev pub wordsLent : ℕ
 wordsLent = 32768
 
--- 01: its room is 32,768 bytes; no listing is longer than four bytes for each of those, fifteen for each of the text's and 1,024 more
+-- RULES 13: its room is 32,768 bytes; no listing is longer than four bytes for each of those, fifteen for each of the text's and 1,024 more
 abbrev pub roomLength : ℕ
 roomLength = 32768
 

@@ -1,4 +1,4 @@
-// What 01's list program prints of a text: the reader flattens it, and its flat file is listed, with its warnings. The programs only read and write.
+// What the list program (RULES 13) prints of a text: the reader flattens it, and its flat file is listed, with its warnings. The programs only read and write.
 use definition::Refusal;
 ghost use mathlib.Core.Path.{_≡_};
 ghost use mathlib.Core.List.{[]};

@@ -115,7 +115,7 @@ module _ {t : List ℕ} {words words′ : List ℤ} {room left : List ℕ} {r : 
 
   -- ---- demand 2
 
-  -- accepted exactly when 01's rules let the text pass, its drawing finishes and its flat file fits
+  -- accepted exactly when RULES 12 lets the text pass, its drawing finishes and its flat file fits
   pub accepted-when : (r .number ≡ 0) ↔ ((cs : List (Placed Command)) × (c : Counts) × (es : List Event) × Accepting t (length words) (length room) cs c es)
   accepted-when = (
     λ e. let d = drew e in (d .commands, d .counted, d .events, accepted-exactly .0 (subst (Answers t (length words) (length room)) (d .is) (h .answers))),

@@ -1,4 +1,4 @@
-// The reader (01, "What the reader takes and gives"): `flatten` answers of any text, any words lent and any room. Refusals 1 and 18 stand here, 2 to 9 in
+// The reader (RULES 1): `flatten` answers of any text, any words lent and any room. Refusals 1 and 18 stand here, 2 to 9 in
 // reading, 10 to 17, 20 and 25 in passing and the crates below it; crate answer makes the answer of each.
 use checking::Fault;
 use counts::Counts;

@@ -32,7 +32,7 @@ letterT = 84
 abbrev pub letterM : ℕ
 letterM = 77
 
--- 01, refusal 7: polygon under 3 points
+-- RULES 12, refusal 7: polygon under 3 points
 abbrev pub leastPoints : ℕ
 leastPoints = 3
 

@@ -9,7 +9,7 @@ ghost use Rattle.pieces.specs.Pieces.{tooLarge};
 ghost use Rattle.rules.specs.Written.{one};
 ghost use Rattle.rules.specs.Rules.{shapely, distance, scaledBy, roundedBy, scaledTo, vital, scaleless, few, bare, pointsOf, many, emptyNo, numberNo, wholeNo};
 
-// 01, refusal 7.
+// RULES 12, refusal 7.
 const LEAST_POINTS: usize = 3;
 // Above the refusals that a command can meet: none.
 pub const NO_REFUSAL: usize = 10;
@@ -55,7 +55,7 @@ fn scaled_to(value: usize, rounded: usize) -> AtScale
     AtScale { value, rounded }
 }
 
-// A distance at a scale, to the nearest whole number, halves away from zero (02, request 2). Here alone a number is divided, once, for the check and for the
+// A distance at a scale, to the nearest whole number, halves away from zero (RULES 6, request 2). Here alone a number is divided, once, for the check and for the
 // drawing; what the division leaves is held against what is missing to the next whole number, so that nothing is doubled.
 fn scaled_distance(a: usize, b: usize, n: usize) -> AtScale
     requires { ⌜ (a ≤ tooLarge) × (1 ≤ b) × (n ≤ tooLarge) ⌝ }

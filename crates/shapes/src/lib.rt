@@ -1,4 +1,4 @@
-// One shape drawn: refusals 16, 20 and 17, or its lines (01, "Drawing"). And what every function that draws takes and gives: the pen, and the answer.
+// One shape drawn: refusals 16, 20 and 17, or its lines (RULES 8). And what every function that draws takes and gives: the pen, and the answer.
 ghost use mathlib.Core.Path.{_≡_};
 ghost use Prim.Native.Nat.{_^_, _<_, _≤_};
 ghost use lib.IntN.{pos, natAbs};

@@ -303,7 +303,7 @@ module _ {t : List ℕ} {w : ℕ} {words₀ : List ℤ} {names : List ℕ} {coun
                 end-left =
                     ap (endFrom w (tally c′) (enter new (s .table))) same
                     ∙ (sym (ap (endFrom w (tally counts) (s .table)) kept-left
-                      ∙ end-define w (tally counts) (s .table) new (keptOf later) (k .few) (let y = size-then in omega (arith, y, z)) (k .counts-so))
+                    ∙ end-define w (tally counts) (s .table) new (keptOf later) (k .few) (let y = size-then in omega (arith, y, z)) (k .counts-so))
                     ∙ u .end-left);
               }
 

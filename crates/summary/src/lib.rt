@@ -1,4 +1,4 @@
-// What is in a symbol (02, P3): the text is read and its table kept, with the summary beside it, and nothing is drawn. Then a symbol is asked for, in the table
+// What is in a symbol (RULES 19, request 3): the text is read and its table kept, with the summary beside it, and nothing is drawn. Then a symbol is asked for, in the table
 // left at the end of the text.
 use checking::Fault;
 use columns::Own;
@@ -144,11 +144,7 @@ fn no_summary(text: &[u8], refusal: Refusal) -> Summary
 }
 
 // The first of refusals 3 to 9 of a text, and 19, in text order.
-fn foremost(
-    text: &[u8],
-    names: &mut [usize; definition::MOST_LAYERS],
-    refusal: Refusal,
-) -> Refusal
+fn foremost(text: &[u8], names: &mut [usize; definition::MOST_LAYERS], refusal: Refusal) -> Refusal
     requires { ⌜ Grammatical (now text) × (length (now names) ≡ mostLayers) ⌝ }
     ensures { λ r. ⌜ Foremost (now (text .entry)) refusal r ⌝ }
 {

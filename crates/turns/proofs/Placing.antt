@@ -1,4 +1,4 @@
--- Request 14 of document 02, placing, for the nets that code keeps: what `compose` gives of the nets of two lists draws what one list draws and then the other, before the
+-- Request 14 (RULES 18), placing, for the nets that code keeps: what `compose` gives of the nets of two lists draws what one list draws and then the other, before the
 -- range is looked at. And the two lists are one list of at most three transformations, so that one call can always stand for two.
 -- Assumes nothing.
 use mathlib.Core.Path.{_≡_, refl, sym, ap, _∙_}

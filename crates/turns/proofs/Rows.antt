@@ -1,4 +1,4 @@
--- What the definition makes of the point (3, 5) and of the direction (1, 0): under each of the eight turns and mirrors, by document 01's own
+-- What the definition makes of the point (3, 5) and of the direction (1, 0): under each of the eight turns and mirrors, by RULES 9's own
 -- examples, and through twelve levels of calls. One table, computed twice: by the definition, and by the account that code keeps.
 -- Assumes nothing.
 use mathlib.Core.Path.{_≡_, refl}

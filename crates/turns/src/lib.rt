@@ -1,4 +1,4 @@
-// Right-angle transformations over whole numbers (01, "Drawing"): what a call's list makes of points and directions, exactly. Only the final points
+// Right-angle transformations over whole numbers (RULES 9): what a call's list makes of points and directions, exactly. Only the final points
 // of a shape are held to the range, by `is_beyond`. A transformation adds a step of 32 bits, 32 of them a level and 32 levels at most 2^41,
 // so that i64 never wraps: the contracts carry the longest step along as `Near`.
 ghost use mathlib.Core.Path.{_≡_};
@@ -43,7 +43,7 @@ pub struct Listed {
     pub askew: bool,
 }
 
-// Whether a final point is beyond the range, by its x and by its y: they are refusals of their own (02, request 4).
+// Whether a final point is beyond the range, by its x and by its y: they are refusals of their own (RULES 12, request 4).
 pub struct Beyond {
     pub x: bool,
     pub y: bool,

@@ -1,4 +1,4 @@
-// The warnings of a text (02, P1), by a pass that enters and deletes as the drawing does, and draws nothing: a line for each, in the order of their
+// The warnings of a text (RULES 13, request 1), by a pass that enters and deletes as the drawing does, and draws nothing: a line for each, in the order of their
 // commands. What is live is asked of crate dangling, and not again before the table changes.
 use checking::Fault;
 use dangling::Dangling;

@@ -1,5 +1,5 @@
 -- A shape of a grammatical text has a point, unless it is a polygon: a wire has a path behind its width. So refusal 7 falls on no shape for want of
--- points but on a polygon, as 01's table says.
+-- points but on a polygon, as the table of RULES 12 says.
 -- Assumes nothing.
 use mathlib.Core.Path.{_≡_, refl, sym, ap, _∙_, subst}
 use mathlib.Core.Bool.{Bool, true, false, not, _&&_, _||_}
@@ -188,7 +188,7 @@ cif-wired = tt
 
 -- ---- shapes
 
--- 01's table has only polygons refused for want of points
+-- RULES 12 has only polygons refused for want of points
 unfoldable pub Pathed : Command → Type 0
 Pathed (draw k) = (k .kind ≡ polygon) ⊎ (0 < length (k .points))
 Pathed (layer l) = Unit {0}

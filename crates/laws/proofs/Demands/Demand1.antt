@@ -45,7 +45,7 @@ some-answer t words room b =
 
 -- ---- where a refusal stands
 
--- 01: every refusal is by a rule; places count bytes of the text from 0, and only one by the grammar may stand at its end
+-- RULES 12: every refusal is by a rule; places count bytes of the text from 0, and only one by the grammar may stand at its end
 pub record Located (t : List ℕ) (r : Refusal) (chain : Chain) : Type 0 where
   pub rule : Rule
   pub is : r ≡ refuse rule (r .place)
@@ -109,7 +109,7 @@ located {r = r} a =
 
 -- ---- what is given back
 
--- 01: on refusal the length and all counts are 0 and the room is unchanged. 02, P4: line and column are those of the place, and the chain tells the open calls
+-- RULES 1: on refusal the length and all counts are 0 and the room is unchanged. Request 4: line and column are those of the place, and the chain tells the open calls
 pub record RefusalHolds (t room : List ℕ) (r : Answer) (left : List ℕ) (by : Refusal) (chain : Chain) : Type 0 where
   pub number : r .number ≡ by .number
   pub place : r .place ≡ by .place
@@ -146,7 +146,7 @@ refusal-holds {t} {words} {room} {r} {words′} {left} h {by} {chain} e =
       located (subst (Answers t (length words) (length room)) e (h .answers)),
     )
 
--- 01: on success the number and place are 0, the first bytes of the room hold the flat file and the rest of the room is unchanged. 02, P4: line and column
+-- RULES 1: on success the number and place are 0, the first bytes of the room hold the flat file and the rest of the room is unchanged. Request 4: line and column
 -- are 0, too, and the chain is empty
 pub record SuccessHolds (room : List ℕ) (r : Answer) (left : List ℕ) (cs : List (Placed Command)) (c : Counts) (flat-file : List ℕ) : Type 0 where
   pub no-number : r .number ≡ 0

@@ -1,4 +1,4 @@
--- Demand 2: a text is accepted, and refused by each rule at each place, exactly when document 01's table and its order of refusals say so.
+-- Demand 2: a text is accepted, and refused by each rule at each place, exactly when the table of RULES 12 and its order of refusals say so.
 -- The rules stand in FaultRules (3 to 9) and DrawingRules (10 to 17, 20 and 25), each as its row states it; the calls that are open at a refusal are told,
 -- and there are none but at 11 to 17 and 20 (`located` of Demand1).
 -- Assumes nothing.
@@ -119,22 +119,22 @@ module _ {t : List ℕ} {words room : ℕ} where
 
 -- ---- the table
 
--- 01: 1, text over 16,777,216 bytes; at 0
+-- RULES 12: 1, text over 16,777,216 bytes; at 0
 pub refused-by-length : {t : List ℕ} {words room p : ℕ} → Refused t words room textTooLong p ↔ ((p ≡ 0) × (mostBytes < length t))
 refused-by-length {t} {words} {room} {p} = (
   λ r. way-long (refusal textTooLong p (r .0) .0 (r .1)),
   λ h. ([], subst (λ (q : ℕ). Answers t words room (rejected (refuse textTooLong q) [])) (sym (h .0)) (refusal textTooLong 0 [] .1 (by-length (h .1)))),
 )
 
--- 01: 2, not in the grammar; at the length of the longest prefix that some continuation completes to a grammatical text
+-- RULES 12: 2, not in the grammar; at the length of the longest prefix that some continuation completes to a grammatical text
 pub refused-by-grammar : {t : List ℕ} {words room p : ℕ} → Refused t words room notInGrammar p ↔ ((length t ≤ mostBytes) × (Grammatical t → ⊥) × LongestViable t p)
 refused-by-grammar {t} {words} {room} {p} = (λ r. way-strange (refusal notInGrammar p (r .0) .0 (r .1)), λ h. ([], refusal notInGrammar p [] .1 (by-grammar (h .0) (h .1) (h .2))))
 
--- 01: then 3 to 9 for all commands in text order, within a command by number, within a number by place
+-- RULES 12: then 3 to 9 for all commands in text order, within a command by number, within a number by place
 pub refused-by-command : {t : List ℕ} {words room : ℕ} {r : Rule} {p : ℕ} → ByCommand r → Refused t words room r p ↔ CommandsBreak t r p
 refused-by-command {t} {words} {room} {r} {p} i = (λ a. way-command i (refusal r p (a .0) .0 (a .1)), λ h. ([], refusal r p [] .1 (by-command (h .within) (h .marked) (h .broken))))
 
--- 01: then 10 to 17 in the order of drawing, at one command by number, and by 02 25 directly after 10, and 20 after 16. A drawing is stopped by these rules only
+-- RULES 12: then 10 to 17 in the order of drawing, at one command by number, 25 directly after 10, and 20 after 16. A drawing is stopped by these rules only
 pub refused-by-drawing : {t : List ℕ} {words room : ℕ} {r : Rule} {p : ℕ} {chain : Chain} → ByDrawing r
     → Answers t words room (rejected (refuse r p) chain) ↔ DrawingStopped t words r p chain
 refused-by-drawing {t} {words} {room} {r} {p} {chain} i = (λ a. way-drawing i (refusal r p chain .0 a), λ h. refusal r p chain .1 (by-drawing (h .passed) (stopping words (h .roles) .1 (h .stops))))
@@ -142,7 +142,7 @@ refused-by-drawing {t} {words} {room} {r} {p} {chain} i = (λ a. way-drawing i (
 pub stopped-rule : {t : List ℕ} {words : ℕ} {r : Rule} {p : ℕ} {chain : Chain} → DrawingStopped t words r p chain → ByDrawing r
 stopped-rule {words = words} h = drawing-ranked words (h .passed) (stopping words (h .roles) .1 (h .stops))
 
--- 02, P4: 16 exactly where the first moment that breaks a rule draws a shape here, under these calls, with some x beyond the range; and 20 exactly where it
+-- RULES 12, request 4: 16 exactly where the first moment that breaks a rule draws a shape here, under these calls, with some x beyond the range; and 20 exactly where it
 -- draws one whose x are all good and some y is not
 pub record OutOfRange (Far : List (Turn ℤ) → Shape ℤ → Type 0) (t : List ℕ) (words p : ℕ) (chain : Chain) : Type 0 where
   pub roles : List Letter
@@ -207,13 +207,13 @@ refused-by-y = (
   λ o. refused-by-drawing {r = yOutOfRange} (record { least = omega arith; most = omega arith }) .1 (stop-ranged FarInY yOutOfRange (λ c u net l k y. y-foremost y) o),
 )
 
--- 01: then 18, flat file longer than the room or than 16,777,216; at 0
+-- RULES 12: then 18, flat file longer than the room or than 16,777,216; at 0
 pub refused-by-flat-file : {t : List ℕ} {words room p : ℕ} → Refused t words room flatFileTooLong p ↔ ((p ≡ 0) × FileTooLong t words room)
 refused-by-flat-file {t} {words} {room} {p} = (
   λ r. way-file (refusal flatFileTooLong p (r .0) .0 (r .1)),
   λ h. ([], subst (λ (q : ℕ). Answers t words room (rejected (refuse flatFileTooLong q) [])) (sym (h .0)) (refusal flatFileTooLong 0 [] .1 (by-flat-file (h .1 .passed) (h .1 .finishes) (h .1 .too-long)))),
 )
 
--- 01: accepted otherwise: nothing broken, the drawing finishes with these counts, and the flat file fits
+-- RULES 12: accepted otherwise: nothing broken, the drawing finishes with these counts, and the flat file fits
 pub accepted-exactly : {t : List ℕ} {words room : ℕ} {cs : List (Placed Command)} {c : Counts} {es : List Event} → Answers t words room (accepted cs c es) ↔ Accepting t words room cs c es
 accepted-exactly = acceptance

@@ -1,4 +1,4 @@
--- Request 10 of 02: whatever words are lent, a text comes out as it does with as many words as it has bytes, or it is refused with 25; and that exactly where the live
+-- Request 10 (RULES 8): whatever words are lent, a text comes out as it does with as many words as it has bytes, or it is refused with 25; and that exactly where the live
 -- bodies need more words than were lent, at the DS of the first definition for which they do, if nothing stops the reading before.
 -- Assumes nothing.
 use mathlib.Core.Path.{_≡_, refl, sym, ap, _∙_, subst}
@@ -37,7 +37,7 @@ pub record TooFewLent (t : List ℕ) (words p : ℕ) : Type 0 where
   pub lacking : TooFew words (counts 0 0 0) (drawingOf (commands 0 roles))
   pub place-is : lacking .definition .place ≡ p
 
--- 02: 25, exactly when the live bodies after some DF need more words than were lent, at the DS; with no calls open
+-- RULES 8: 25, exactly when the live bodies after some DF need more words than were lent, at the DS; with no calls open
 pub refused-by-words : {t : List ℕ} {words room p : ℕ} {chain : Chain}
     → Answers t words room (rejected (refuse tooFewWords p) chain) ↔ ((chain ≡ []) × TooFewLent t words p)
 refused-by-words {t} {words} {room} {p} {chain} = (there, λ h. subst (λ (x : Chain). Answers t words room (rejected (refuse tooFewWords p) x)) (sym (h .0)) (back (h .1)))

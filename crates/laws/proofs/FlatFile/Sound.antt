@@ -1,4 +1,4 @@
--- Every shape that an accepted text draws is sound: what 01 asks of numbers, sizes, directions, points and layer names holds of it in its final
+-- Every shape that an accepted text draws is sound: what RULES 4, 7 and 12 ask of numbers, sizes, directions, points and layer names holds of it in its final
 -- place. The laws of lengths stand on it, and code that writes shapes.
 -- Assumes nothing.
 use mathlib.Core.Path.{_≡_, refl, sym, ap, _∙_, subst}

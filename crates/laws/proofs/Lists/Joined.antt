@@ -41,7 +41,7 @@ unfolding flatMap
 flat-++ f [] b = refl
 flat-++ {B = B} f (x ∷ a) b = ap (λ (l : List B). f x ++ l) (flat-++ f a b) ∙ sym (append-assoc (f x) (flatMap f a) (flatMap f b))
 
--- 01, "The inner call's list acts before the outer's"
+-- RULES 9, "The inner call's list acts before the outer's"
 pub inOrder-++ : (f : Turn ℤ → Point ℤ → Point ℤ) (a b : List (Turn ℤ)) (p : Point ℤ) → inOrder f (a ++ b) p ≡ inOrder f b (inOrder f a p)
 unfolding inOrder
 inOrder-++ f [] b p = refl

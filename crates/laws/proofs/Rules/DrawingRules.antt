@@ -1,4 +1,4 @@
--- The refusals 10 to 17 as rules of document 01, and 20 and 25 of 02, in plain facts, and the theorem that they are the refusals of the drawing: it is stopped with a number and a place
+-- The refusals 10 to 17, 20 and 25 as RULES 12 has them, in plain facts, and the theorem that they are the refusals of the drawing: it is stopped with a number and a place
 -- exactly where the first moment stands that breaks a rule, by the first rule of the order that it breaks; and it finishes exactly when no moment breaks any.
 -- Assumes nothing.
 use mathlib.Core.Path.{_≡_, refl, sym, ap, ap₂, _∙_, subst}
@@ -26,7 +26,7 @@ use Rattle.laws.proofs.Story.Moments.{Act, calling, drawing, entering, 
 use Rattle.laws.proofs.Story.Decides.{Decides, holds, fails, Among, Askew, Defined, BeingDrawn, FinallyBeyondX, FinallyBeyondY}
 use Rattle.laws.proofs.Story.Decides.{off-axes-decides, undefined-decides, being-drawn-decides, depth-decides, ltb-decides, final-x-decides, final-y-decides}
 
--- 01, "Numbers a refusal carries", the rows 10 to 17, and 20 and 25 of 02: what an act breaks where so many words are lent, the counts are c, the table t, the
+-- RULES 12, the rows 10 to 17, 20 and 25: what an act breaks where so many words are lent, the counts are c, the table t, the
 -- open calls `chain` and their transformations `net`
 pub data Broken (words : ℕ) (c : Counts) (t : Table) (chain : Chain) (net : List (Turn ℤ)) : Act → Rule → Type 0 where
   -- 513 live definitions
@@ -53,7 +53,7 @@ pub data Broken (words : ℕ) (c : Counts) (t : Table) (chain : Chain) (net : Li
 abbrev pub Breaks : (words : ℕ) → Counts → Moment → Rule → Type 0
 Breaks words c m r = Broken words c (m .table) (m .chain) (m .net) (m .act) r
 
--- 01: every call drawn, at any depth, counts as one call; so does every shape as one shape; an entry that is replaced counts as one redefinition
+-- RULES 8: every call drawn, at any depth, counts as one call; so does every shape as one shape; an entry that is replaced counts as one redefinition
 unfoldable pub tallyOf : Counts → Table → Act → Counts
 tallyOf c t (calling n ts) = counts (c .calls + 1) (c .shapes) (c .redefinitions)
 tallyOf c t (drawing l k) = counts (c .calls) (c .shapes + 1) (c .redefinitions)
@@ -72,12 +72,12 @@ abbrev pub Unbroken : (words : ℕ) → Counts → List Moment → Type 0
 Unbroken words c ms =
     (before : List Moment) (m : Moment) (after : List Moment) → ms ≡ before ++ (m ∷ after) → (r : Rule) → Breaks words (tally c before) m r → ⊥
 
--- the rule is the first in the order that the moment breaks: 01, "at one command by number"
+-- the rule is the first in the order that the moment breaks: RULES 12, "at one command by number"
 pub record Foremost (words : ℕ) (c : Counts) (m : Moment) (r : Rule) : Type 0 where
   pub breaks : Breaks words c m r
   pub none-earlier : (k : Rule) → Earlier k r → Breaks words c m k → ⊥
 
--- 01, "in the order of drawing": the first moment that breaks a rule
+-- RULES 12, "in the order of drawing": the first moment that breaks a rule
 pub record FirstStop (words : ℕ) (c : Counts) (ms : List Moment) (rule : Rule) (place : ℕ) (chain : Chain) : Type 0 where
   pub before : List Moment
   pub it : Moment

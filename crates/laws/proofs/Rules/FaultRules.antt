@@ -1,4 +1,4 @@
--- Demand 2 for the refusals 3 to 9: a rule for each row of 01's table, and that the first fault of a text is the first rule broken: the commands in
+-- Demand 2 for the refusals 3 to 9: a rule for each row of the table of RULES 12, and that the first fault of a text is the first rule broken: the commands in
 -- text order, within a command by number, within a number by place.
 -- Assumes nothing.
 use mathlib.Core.Path.{_≡_, refl, sym, ap, _∙_, subst, ap₂}
@@ -46,7 +46,7 @@ pub record Nowhere (q : Point Number) : Type 0 where
   pub no-x : natAbs (q .x .what) ≡ 0
   pub no-y : natAbs (q .y .what) ≡ 0
 
--- 01, "Numbers a refusal carries": the command c breaks, where s stands, the rule of this row at this place
+-- RULES 12: the command c breaks, where s stands, the rule of this row at this place
 pub data Breaks (s : Standing) (c : Placed Command) : Rule → (place : ℕ) → Type 0 where
   -- a number beyond 16,777,215; its minus sign or first digit
   number-beyond : (d : Number) → d ∈ numbersOf (c .what) → largest < natAbs (d .what) → Breaks s c numberTooLarge (d .place)
@@ -76,7 +76,7 @@ UnbrokenFrom s cs =
     (before : List (Placed Command)) (c : Placed Command) (behind : List (Placed Command)) → cs ≡ before ++ (c ∷ behind)
     → (r : Rule) (place : ℕ) → Breaks (standing s before) c r place → ⊥
 
--- 01, order: for all commands in text order, within a command by number, within a number by place
+-- RULES 12, the order: for all commands in text order, within a command by number, within a number by place
 pub record FirstBreakFrom (s : Standing) (cs : List (Placed Command)) (rule : Rule) (place : ℕ) : Type 0 where
   pub before : List (Placed Command)
   pub command : Placed Command
@@ -692,7 +692,7 @@ broken-fault high s cs x {rule} {place} f =
         ap (λ (q : Refusal). some q)
         (same r (first-broken (standing s (f .before)) (f .command) high own r l h) (first-earlier (standing s (f .before)) (f .command) high own r l h (f .breaks)))
 
--- 01, refusals 3 to 9: the first fault of a text is by the first rule that its commands break
+-- RULES 12, refusals 3 to 9: the first fault of a text is by the first rule that its commands break
 pub fault-rule : {t : List ℕ} {m : List Letter} → Marked t m → {r : Refusal} → firstFault (commands 0 m) ≡ some r → FirstRule (outside []) (commands 0 m) r
 unfolding firstFault
 fault-rule {t} {m} k {r} e = fault-broken (length t) (outside []) (commands 0 m) (commands-written k) r e

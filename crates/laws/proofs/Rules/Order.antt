@@ -1,4 +1,4 @@
--- The rules of 01's table by their order and by their numbers: when a rule is earlier than another, that no two have the same rank or the same
+-- The rules of the table of RULES 12 by their order and by their numbers: when a rule is earlier than another, that no two have the same rank or the same
 -- number, and that no number is 0, which says success. And the two stretches of the order: the rules that a command breaks, and those that stop a drawing.
 -- Assumes nothing.
 use mathlib.Core.Path.{_≡_, refl, sym, ap, _∙_}
@@ -29,10 +29,10 @@ pub record Between (a b r : Rule) : Type 0 where
   pub least : rank a ≤ rank r
   pub most : rank r ≤ rank b
 
-abbrev pub ByCommand : Rule → Type 0  -- 01, refusals 3 to 9
+abbrev pub ByCommand : Rule → Type 0  -- RULES 12, refusals 3 to 9
 ByCommand r = Between numberTooLarge tooManyParts r
 
-abbrev pub ByDrawing : Rule → Type 0  -- 01, refusals 10 to 17; 02, 20 and 25
+abbrev pub ByDrawing : Rule → Type 0  -- RULES 12, refusals 10 to 17, 20 and 25
 ByDrawing r = Between tooManyDefinitions tooManyShapes r
 
 abbrev pub UnderCalls : Rule → Type 0  -- those of them that can be broken where calls are open: 11 to 17, and 20
@@ -93,7 +93,7 @@ number-from-1 yOutOfRange = omega arith
 number-from-1 tooManyShapes = omega arith
 number-from-1 flatFileTooLong = omega arith
 
--- 02, request 2: 5 is no rule's number any more
+-- RULES 12, request 2: 5 is no rule's number any more
 pub number-not-5 : (r : Rule) → numberOf r ≡ 5 → ⊥
 number-not-5 textTooLong e = omega arith
 number-not-5 notInGrammar e = omega arith

@@ -1,4 +1,4 @@
--- How an outcome comes about: every way to a refusal and to an acceptance, in the words of 01's table, and nothing else. Demands 1 and 2 go by
+-- How an outcome comes about: every way to a refusal and to an acceptance, in the words of the table of RULES 12, and nothing else. Demands 1 and 2 go by
 -- these cases.
 -- Assumes nothing.
 use mathlib.Core.Path.{_≡_, refl, sym, ap, _∙_, subst}
@@ -40,11 +40,11 @@ endOf words m = ending (counts 0 0 0) (heldDrawing words (commands 0 m))
 abbrev pub flatLength : List Letter → ℕ
 flatLength m = length (flat (shapesOf (drawingOf (commands 0 m))))
 
--- 01, refusal 18: flat file longer than the room or than 16,777,216
+-- RULES 12, refusal 18: flat file longer than the room or than 16,777,216
 abbrev pub TooLong : (flat-file room : ℕ) → Type 0
 TooLong n room = (room < n) ⊎ (mostBytes < n)
 
--- the ways to a refusal, in the order of 01: 1; then 2; then 3 to 9; then 10 to 17, 20 and 25; then 18
+-- the ways to a refusal, in the order of RULES 12: 1; then 2; then 3 to 9; then 10 to 17, 20 and 25; then 18
 pub data Way (t : List ℕ) (words room : ℕ) : Rule → (place : ℕ) → Chain → Type 0 where
   by-length : mostBytes < length t → Way t words room textTooLong 0 []
   by-grammar : {n : ℕ} → length t ≤ mostBytes → (Grammatical t → ⊥) → LongestViable t n → Way t words room notInGrammar n []

@@ -1,4 +1,4 @@
--- What is told of where a refusal stands (02, P4): line and column count from 1, so that 0 says success; and the chain as it is given back holds the places
+-- What is told of where a refusal stands (RULES 12, request 4): line and column count from 1, so that 0 says success; and the chain as it is given back holds the places
 -- of the open calls, as many as it says, in as many numbers as there can be levels.
 -- Assumes nothing.
 use mathlib.Core.Path.{_≡_, ap, _∙_}

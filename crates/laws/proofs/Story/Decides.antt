@@ -1,4 +1,4 @@
--- The tests that the drawing makes, and the facts that they decide: so the rules of document 01 can be stated as facts.
+-- The tests that the drawing makes, and the facts that they decide: so what RULES 12 says can be stated as facts.
 -- Assumes nothing.
 use mathlib.Core.Path.{_≡_, refl, sym, ap, subst}
 use mathlib.Core.Bool.{Bool, true, false, not, _&&_, _||_}
@@ -96,7 +96,7 @@ nat-abs-zero (negsuc n) e = absurd (go e)
 zero-decides : (z : ℤ) → Decides (z ≡ pos 0) (zero? z)
 zero-decides z = decides (nat-abs-zero z) (ap natAbs) (eqb-decides (natAbs z) 0)
 
--- 01, refusal 11: an R off the axes, both of whose parts are not 0
+-- RULES 12, refusal 11: an R off the axes, both of whose parts are not 0
 pub data Askew : Turn ℤ → Type 0 where
   askew : {v : Point ℤ} → (v .x ≡ pos 0 → ⊥) → (v .y ≡ pos 0 → ⊥) → Askew (rotate v)
 
@@ -134,7 +134,7 @@ pub off-axes-decides : (ts : List (Turn ℤ)) → Decides (Among Askew ts) (offA
 unfolding offAxes
 off-axes-decides ts = any-decides Askew (λ t. any (λ d. none? (heading d)) (bearings t)) askew-decides ts
 
--- 01, refusal 12: a live definition has the number, or none has it
+-- RULES 12, refusal 12: a live definition has the number, or none has it
 abbrev pub Defined : Table → ℕ → Type 0
 Defined t n = Among (λ (d : Definition). d .symbol ≡ n) t
 
@@ -155,18 +155,18 @@ undefined-decides n (d ∷ t) = go (eqb-decides (d .symbol) n) (undefined-decide
     go (holds e) r = fails (λ h. h (among-first Numbered e))
     go (fails m) r = decides (λ h x. neither m h (among-cases Numbered x)) (λ h x. h (among-later Numbered x)) r
 
--- 01, refusal 13: an open call is of that symbol
+-- RULES 12, refusal 13: an open call is of that symbol
 abbrev pub BeingDrawn : Chain → ℕ → Type 0
 BeingDrawn chain n = Among (λ (o : Placed ℕ). o .what ≡ n) chain
 
 pub being-drawn-decides : (n : ℕ) (chain : Chain) → Decides (BeingDrawn chain n) (any (λ c. eqb (c .what) n) chain)
 being-drawn-decides n chain = any-decides (λ (c : Placed ℕ). c .what ≡ n) (λ c. eqb (c .what) n) (λ c. eqb-decides (c .what) n) chain
 
--- 01, refusal 14
+-- RULES 12, refusal 14
 pub depth-decides : (depth : ℕ) → Decides (deepest < depth + 1) (eqb (deepest - depth) 0)
 depth-decides depth = decides (λ e. omega arith) (λ h. omega arith) (eqb-decides (deepest - depth) 0)
 
--- 01, refusal 16, and 20 of 02: of a shape's points, in their final places, some x, or some y, lies beyond 16,777,215
+-- RULES 12, refusals 16 and 20: of a shape's points, in their final places, some x, or some y, lies beyond 16,777,215
 module _ (axis : Point ℤ → ℤ) (f : Point ℤ → Point ℤ) where
   abbrev Out : Point ℤ → Type 0
   Out p = largest < natAbs (axis (f p))

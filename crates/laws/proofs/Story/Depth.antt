@@ -187,7 +187,7 @@ unfolding All
 events-shallow words [] x = tt
 events-shallow words (m ∷ ms) x = (act-shallow words (m .table) (m .chain) (m .net) (m .place) (m .act) (x .0 .few), events-shallow words ms (x .1))
 
--- 02, P4: at every refusal of a story, and wherever else it comes
+-- RULES 12, request 4: at every refusal of a story, and wherever else it comes
 pub story-shallow : (words : ℕ) (t : Table) (ds : List Deed) → All Shallow (map (heldTo words) (story t ds))
 story-shallow words t ds = rw (story-events words t ds) (events-shallow words (moments t ds) (moments-opened t ds))
 

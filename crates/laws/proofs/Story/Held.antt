@@ -1,4 +1,4 @@
--- Refusal 25 (02, P10): a story that is held to the words lent is the story itself where enough are lent. Where they are too few, it ends as it did, or it is stopped
+-- Refusal 25 (RULES 8, request 10): a story that is held to the words lent is the story itself where enough are lent. Where they are too few, it ends as it did, or it is stopped
 -- at the first definition for which they do not suffice, if nothing stops it before; and the shapes are the same.
 -- Assumes nothing.
 use mathlib.Core.Path.{_≡_, refl, sym, ap, ap₂, _∙_, subst}

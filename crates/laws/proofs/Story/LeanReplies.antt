@@ -90,6 +90,7 @@ body-others ask (s ∷ ss) = go (s .what) refl (body-others ask ss)
   where
     rest : List (Placed Step)
     rest = flatMap (λ s. kept-if (no-layer? (s .what)) s) ss
+
     go : (x : Step) → s .what ≡ x → bodyReply ask ss ≡ bodyReply ask rest
         → bothReply (stepReply ask (s .place) x) (bodyReply ask ss) ≡ bodyReply ask (kept-if (no-layer? x) s ++ rest)
     go (setting l) e h = nothing-before (bodyReply ask ss) ∙ h
@@ -129,8 +130,8 @@ module _ (t : Table) where
       let g : Definition → Reply = λ d. bodyReply (replyTo left t deeper) (d .body) in
       ap (λ (w : Passage). replyBy w f) (passage-lean (suc left) chain n)
       ∙ by-lean (passageTo (find n t) (suc left) chain n) f g
-        (λ d. lean-body (replyTo left (leanTable t) deeper) (d .body)
-          ∙ body-by (replyTo left (leanTable t) deeper) (replyTo left t deeper) (λ q m. lean-replies left deeper q m) (d .body))
+      (λ d. lean-body (replyTo left (leanTable t) deeper) (d .body)
+      ∙ body-by (replyTo left (leanTable t) deeper) (replyTo left t deeper) (λ q m. lean-replies left deeper q m) (d .body))
 
   -- and the body found is the lean one
   pub lean-found : (n : ℕ) → bodyFound (find n (leanTable t)) ≡ lean (bodyFound (find n t))

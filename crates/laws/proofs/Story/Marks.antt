@@ -64,7 +64,7 @@ set-joined (n ∷ ns) a b =
     let y : ℕ = layerSet ns b in
     ap₂ (λ (k : ℕ) (c : Bool). k * 2 + bit c) (set-joined ns a b) (among-++ n a b)
     ∙ ap₂ (λ (k m : ℕ). k * 2 + m) (ap₂ bitOr (sym (upper x (among n a))) (sym (upper y (among n b))))
-      (bit-or (among n a) (among n b) ∙ ap₂ max (sym (lower x (among n a))) (sym (lower y (among n b))))
+    (bit-or (among n a) (among n b) ∙ ap₂ max (sym (lower x (among n a))) (sym (lower y (among n b))))
     ∙ sym (or-step (x * 2 + bit (among n a)) (y * 2 + bit (among n b)))
 
 -- one mark for each name
@@ -111,6 +111,7 @@ set-first (suc k) (n ∷ ns) ls h = go (among n ls) (set-first k ns ls (omega ar
   where
     x : ℕ
     x = layerSet ns ls
+
     go : (b : Bool) → first (appearing ns ls) ≡ markedFirst ns x (trailingZeros k x)
         → first (if b then n ∷ appearing ns ls else appearing ns ls)
         ≡ markedFirst (n ∷ ns) (x * 2 + bit b) (under ((x * 2 + bit b) % 2) (trailingZeros k ((x * 2 + bit b) / 2)))
@@ -158,16 +159,17 @@ unfolding layerSet
 set-one [] l i h e one = absurd (omega arith)
 set-one (n ∷ ns) l zero h e one =
     ap₂ (λ (x : ℕ) (b : Bool). x * 2 + bit b) (set-no-one ns l (λ j k f. absurd (impossible (one (suc j) (omega arith) f))))
-      (is-among n l ∙ ap (λ (m : List ℕ). same m l) e ∙ same-self l)
+    (is-among n l ∙ ap (λ (m : List ℕ). same m l) e ∙ same-self l)
   where
     impossible : {j : ℕ} → suc j ≡ 0 → ⊥
     impossible f = omega arith
 set-one (n ∷ ns) l (suc i) h e one =
     ap₂ (λ (x : ℕ) (b : Bool). x * 2 + bit b) (set-one ns l i (omega arith) e (λ j k f. pred (one (suc j) (omega arith) f)))
-      (is-among n l ∙ same-other n l (λ f. absurd (impossible (one 0 (omega arith) f))))
+    (is-among n l ∙ same-other n l (λ f. absurd (impossible (one 0 (omega arith) f))))
     ∙ (omega arith ∙ sym (pow-suc 2 i))
   where
     pred : {j : ℕ} → suc j ≡ suc i → j ≡ i
     pred f = omega arith
+
     impossible : 0 ≡ suc i → ⊥
     impossible f = omega arith

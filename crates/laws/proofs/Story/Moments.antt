@@ -1,5 +1,5 @@
 -- The moments of a drawing: what it comes to, one after the other, each with the table, the open calls and their transformations as they are there.
--- The rules 10 to 17 of document 01, and 20 and 25 of 02, speak of moments (DrawingRules); here each event of the story is what one moment leads to, and no
+-- The rules 10 to 17, 20 and 25 of RULES 12 speak of moments (DrawingRules); here each event of the story is what one moment leads to, and no
 -- moment is left out.
 -- Assumes nothing.
 use mathlib.Core.Path.{_≡_, refl, sym, ap, ap₂, _∙_}

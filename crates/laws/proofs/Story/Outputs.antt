@@ -20,7 +20,7 @@ use Rattle.laws.proofs.Lists.Range.{All, all-++}
 use Rattle.laws.proofs.Rules.Order.{Between}
 use Rattle.laws.proofs.Story.Axes.{by-axes}
 
-abbrev pub ByOutput : Rule → Type 0  -- 01, refusals 11 to 16; 02, 20
+abbrev pub ByOutput : Rule → Type 0  -- RULES 12, refusals 11 to 16 and 20
 ByOutput r = Between offTheAxes yOutOfRange r
 
 pub record Outputs (P : Event → Type 0) : Type 0 where  -- what holds of a call, a shape and a refusal
