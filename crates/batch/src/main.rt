@@ -3,6 +3,7 @@
 //
 //   cut short        the input ends within a record
 //   too long         a number of a record is over its limit
+#![tactic(auto)]
 ghost use Rattle.std.specs.Prelude.{◌≤◌, ◌<◌, ◌≡◌, length};
 ghost use Rattle.printout.specs.Prints.{listing_length};
 
@@ -305,7 +306,7 @@ fn explain(text: &[u8], words: &mut [i32], count: usize) -> bool {
 
 // What a record begins with, as far as a task needs it: the task, the lengths of its two texts and of its room, the words lent for bodies, the records
 // lent for open calls, and the argument.
-#[derive(Drop)]
+#[derive(Clone, Copy)]
 struct Head {
     task: usize,
     text: usize,
@@ -345,7 +346,7 @@ fn head_of(numbers: &[u8; 28]) -> Head {
 }
 
 // What comes next: a record, or the input is at its end or could not be read, or it ends within the head.
-#[derive(Drop)]
+#[derive(Clone, Copy)]
 enum Next {
     Record(Head),
     End,

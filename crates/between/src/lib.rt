@@ -1,5 +1,6 @@
 // What a text draws between two executable calls, for an engine that keeps its open calls itself: from where it stands up to the next call that is opened, to its
 // end, or to a refusal (RULES 8). Definitions are decoded on the way, by crate keeping, into the words lent.
+#![tactic(auto)]
 ghost use Rattle.std.specs.Prelude.{◌≡◌, List, ℕ, ◌+◌, ◌≤◌, length};
 ghost use Rattle.grammar.specs.Steps.{KindsLent, NextLent};
 ghost use Rattle.definition.specs.Table.{Step};
@@ -17,7 +18,7 @@ use opening::{Call, Opened};
 use shapes::{DrawEnd, Ink};
 
 // Where a text goes on, outside of definitions: its next command, the layer that is set there, and what the memory holds.
-#[derive(Drop)]
+#[derive(Clone, Copy)]
 pub struct Stand {
     pub spot: pieces::Spot,
     pub layer: u32,
@@ -25,7 +26,7 @@ pub struct Stand {
 }
 
 // What a stretch of a text comes to: its end; a call that is opened, with where the text goes on after it and the row of its symbol; or a refusal.
-#[derive(Drop)]
+#[derive(Clone, Copy)]
 pub enum Text {
     Over(Ink),
     Calls(Stand, Call, usize, Ink),
@@ -36,7 +37,7 @@ pub enum Text {
 const COMMAND_WORDS: usize = 2051;
 
 // What a command outside of definitions that draws comes to: a shape is drawn, a call is opened, or it is refused.
-#[derive(Drop)]
+#[derive(Clone, Copy)]
 enum Outer {
     Shown(Ink),
     Opens(Call, usize, Ink),

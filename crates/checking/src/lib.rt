@@ -1,5 +1,6 @@
 // The check of a CIF text's commands by a running account: `checked` finds the first of refusals 3 to 9 in one pass. It takes any bytes: where a text
 // leaves the grammar it has no more pieces, and so no more commands. That the account is the definition's is proved in reading, above.
+#![tactic(auto)]
 ghost use Rattle.std.specs.Prelude.{◌≡◌, true, false, ◌+◌, ◌≤◌};
 ghost use Rattle.grammar.specs.Steps.{KindsLent, NextLent};
 ghost use Rattle.pieces.specs.Pieces.{farthest, too_large, stream, start};
@@ -10,7 +11,7 @@ ghost use Rattle.checking.specs.Along.{lower, blamed, kept, fresh, idle, counted
 use definition::Refusal;
 
 // What stands between commands: whether a definition is open, its scale, and the layers set outside and inside, packed, 0 for none.
-#[derive(Drop)]
+#[derive(Clone, Copy)]
 pub struct Scope {
     pub inside: bool,
     pub a: usize,
@@ -20,7 +21,7 @@ pub struct Scope {
 }
 
 // What is said of a text: nothing against it, and how many of its distances are rounded; or a refusal.
-#[derive(Drop)]
+#[derive(Clone, Copy)]
 pub enum Fault {
     Clear(usize),
     Refused(Refusal),
@@ -29,7 +30,7 @@ pub enum Fault {
 // The command that is being checked: its place and first letter, its last letter, how many numbers it has had and whether the last was 0, its
 // transformations, what its next letter counts in its name, its second and third number, its name, its lowest refusal so far with the place, and how many
 // distances of the text are rounded so far.
-#[derive(Drop)]
+#[derive(Clone, Copy)]
 pub struct Doing {
     pub busy: bool,
     pub place: usize,
@@ -48,7 +49,7 @@ pub struct Doing {
 }
 
 // How a command ends: what stands then, or its refusal.
-#[derive(Drop)]
+#[derive(Clone, Copy)]
 pub enum Ended {
     Then(Scope),
     Broken(Refusal),

@@ -1,5 +1,6 @@
 // All that a host calls, in the one archive that `rt staticlib cif` makes; include/cif.h declares it for C. Every answer is told in the same 64 words, whose
 // positions are fixed for good (crates/answer, specs/Words.antt). No function asks anything of its caller: any bytes and any words may come.
+#![tactic(auto)]
 ghost use Rattle.std.specs.Prelude.{◌≡◌};
 ghost use Rattle.answer.specs.Words.{answer_words};
 ghost use Rattle.cif.specs.Told.{FlattenTold, StackedTold, ListTold, RefusalTold, VerdictTold, JoinTold, SummaryTold, WhyTold, answer_of_fault, answer_of_verdict, refused_in, words_of_join};

@@ -1,6 +1,7 @@
 // The summary beside the table (RULES 19, request 3): for each live row its own shapes, its own calls and the set of the layers of its own shapes, one column each. A
 // definition that is entered has its numbers made once, from its body's words, and the others move with their rows; DD cuts the columns with the rows. So
 // the columns are always those that would be made afresh from the bodies.
+#![tactic(auto)]
 ghost use Rattle.std.specs.Prelude.{◌≡◌, ℕ, ◌+◌, ◌<◌, ◌≤◌, length};
 ghost use Rattle.definition.specs.Limits.{most_layers};
 ghost use Rattle.library.specs.Memory.{most, most_words, symbol_at};
@@ -9,7 +10,7 @@ ghost use Rattle.library.specs.Rows.{Sorted};
 ghost use Rattle.columns.specs.Columns.{OwnOf, Shifted, Puts, More, Stands, Enters};
 
 // What is told of one definition's own commands.
-#[derive(Drop)]
+#[derive(Clone, Copy)]
 pub struct Own {
     pub shapes: u64,
     pub calls: u64,

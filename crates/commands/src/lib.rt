@@ -1,5 +1,6 @@
 // One command of a CIF text decoded to words: its kind, its place, and its numbers after scaling, with what is left out filled in. `read_command` takes
 // any bytes: where a text leaves the grammar it has no more pieces, and so no more commands. Which numbers these are is proved in reading, above.
+#![tactic(auto)]
 ghost use Rattle.std.specs.Prelude.{◌≡◌, false, [], ◌∷◌, ◌+◌, ◌*◌, ◌/◌, ◌<◌, ◌≤◌};
 ghost use Rattle.grammar.specs.Steps.{KindsLent, NextLent};
 ghost use Rattle.definition.specs.Words.{if◌then◌else◌};
@@ -13,7 +14,7 @@ const WIDEST: usize = 2_147_483_647;
 
 // The command that is being decoded: where its next word goes, its last letter, how many numbers it has had, what its next letter counts in its
 // name, and its name.
-#[derive(Drop)]
+#[derive(Clone, Copy)]
 pub struct Decoding {
     pub at: usize,
     pub latest: u8,
@@ -23,7 +24,7 @@ pub struct Decoding {
 }
 
 // A decoded command: its kind, its place, how many words it has, and where the next begins; or that no command is left.
-#[derive(Drop)]
+#[derive(Clone, Copy)]
 pub enum Read {
     Decoded(u8, usize, usize, pieces::Spot),
     Nothing,

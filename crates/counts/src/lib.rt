@@ -1,9 +1,10 @@
 // The running counts (RULES 8), one record that is carried along through the drawing, lent: each thin function takes the record by `&mut`, takes it apart and
 // calls a covered function on the numbers. Their callers stand below, with the record by value in and out: whoever calls those needs no walk by hand.
+#![tactic(auto)]
 ghost use Rattle.std.specs.Prelude.{◌≡◌, ◌+◌, ◌<◌, ◌^◌};
 ghost use Rattle.counts.specs.Counting.{zero_counts, with_redefinitions, tried, answered, AddsCall, AddsShape, CountsCall, CountsShape, CountsRedefinition};
 
-#[derive(Drop)]
+#[derive(Clone, Copy)]
 pub struct Counts {
     pub calls: usize,
     pub shapes: usize,
@@ -11,14 +12,14 @@ pub struct Counts {
 }
 
 // What is answered where one more is counted: the counts with it, or the number of the refusal.
-#[derive(Drop)]
+#[derive(Clone, Copy)]
 pub enum Counted {
     More(Counts),
     Full(usize),
 }
 
 // One count with one more, and the number of the refusal, 0 for none.
-#[derive(Drop)]
+#[derive(Clone, Copy)]
 struct Tried {
     count: usize,
     refusal: usize,

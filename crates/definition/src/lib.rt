@@ -2,6 +2,7 @@
 // that contracts can say which one it is, and the limits of RULES 14, so that code has each under one name (specs/Limits.antt has them for definitions).
 
 // The farthest from zero that a number may be (RULES 12, refusals 3, 6, 16 and 20).
+#![tactic(auto)]
 pub const LARGEST: usize = 16_777_215;
 // The longest text and the longest flat file (1 and 18).
 pub const MOST_BYTES: usize = 16_777_216;
@@ -21,7 +22,7 @@ pub const MOST_SHAPES: usize = 1_048_576;
 pub const MOST_LAYERS: usize = 64;
 
 // A refusal: its number in the table of RULES 12, and its place.
-#[derive(Drop)]
+#[derive(Clone, Copy)]
 pub struct Refusal {
     pub number: usize,
     pub place: usize,
@@ -29,7 +30,7 @@ pub struct Refusal {
 
 // What a reader gives back (RULES 1): refusal number, place, length written, the counts of the drawing, and how many distances
 // of the text were rounded (request 2); line and column of the place, and the places of the calls open there, zeros after them (request 4).
-#[derive(Drop)]
+#[derive(Clone, Copy)]
 pub struct Answer {
     pub number: usize,
     pub place: usize,
@@ -46,7 +47,7 @@ pub struct Answer {
 
 // What is told of a symbol (RULES 19, request 3): refusal number, place, line and column; what drawing it would give, 12, 13, 14 or 0; how many layers a call
 // would draw, the packed name of the first of them in the text, and the height; and its own shapes, calls and layers.
-#[derive(Drop)]
+#[derive(Clone, Copy)]
 pub struct Summary {
     pub number: usize,
     pub place: usize,
@@ -63,7 +64,7 @@ pub struct Summary {
 
 // What is told of a shape of the drawing (RULES 20, request 11): refusal number, place, line and column; how many calls are open at the refusal or drew the shape,
 // and their places, zeros after them; the place of the shape's command; and the net transformation, which sends (x, y) to (a x + b y + tx, c x + d y + ty).
-#[derive(Drop)]
+#[derive(Clone, Copy)]
 pub struct Why {
     pub number: usize,
     pub place: usize,

@@ -1,5 +1,6 @@
 // Bytes and whole numbers written into a lent room (RULES 11). Nothing is stored past the room's end and the next place is exact all the same,
 // so one drawing measures, on an empty room, and writes.
+#![tactic(auto)]
 ghost use Rattle.std.specs.Prelude.{◌≡◌, ◌∷◌, [], ◌+◌, ◌^◌, ◌<◌, ◌≤◌, pos, nat_abs, length};
 ghost use Rattle.std.specs.Int.Signed.{lt_z};
 ghost use Rattle.definition.specs.Flat.{shortest, decimal};
@@ -47,7 +48,7 @@ const BILLION: u64 = 1_000_000_000;
 const WHOLE: u64 = 144_115_188_075_855_872;
 
 // How many digits a number has, and by what it is multiplied, so that the first of them stands above 2^57.
-#[derive(Drop)]
+#[derive(Clone, Copy)]
 struct Width {
     count: usize,
     unit: u64,

@@ -1,5 +1,6 @@
 // Tries digits::put_digits on every power of ten and its neighbours, and on the largest number, in rooms that end before the number, at each of its
 // digits and after it. A line has the room as it is then, in a row of dots, and the next place. tools/digits_tried.py says what must come.
+#![tactic(auto)]
 ghost use Rattle.std.specs.Prelude.{◌≤◌, length};
 
 // One byte before the number, 20 for its digits, and one after them.

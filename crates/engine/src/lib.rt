@@ -1,6 +1,7 @@
 // A body draws its calls and a call draws its body (RULES 8), from the words that hold the bodies: no text is read here, and which calls are
 // refused is asked of crate opening. Where a refusal arises the run of open calls is told how many are open (RULES 12, request 4), and what comes up from below is
 // handed on. The same code measures, on an empty part, and writes: what is stored past the room's end is dropped.
+#![tactic(auto)]
 ghost use Rattle.std.specs.Prelude.{◌≡◌, ℕ, ◌+◌, ◌-◌, ◌*◌, ◌^◌, ◌<◌, ◌≤◌, pos, nat_abs, length, get_or};
 ghost use Rattle.definition.specs.Limits.{deepest};
 ghost use Rattle.definition.specs.Table.{Step};
@@ -15,7 +16,7 @@ ghost use Rattle.engine.specs.Outer.{Says, OuterDraws};
 use shapes::{DrawEnd, Ink};
 
 // A command in the run: its kind, its place, and where the next begins.
-#[derive(Drop)]
+#[derive(Clone, Copy)]
 pub struct Head {
     pub kind: u8,
     pub place: usize,

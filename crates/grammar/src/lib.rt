@@ -1,5 +1,6 @@
 // Tells which texts are CIF, by the grammar of section 7.1.1, and what each character is in them. `recognise` is the whole of it for a text;
 // `recognised`, `step` and `entry_at` are for crates above, which lend the tables and learn a byte's role.
+#![tactic(auto)]
 ghost use Rattle.std.specs.Prelude.{◌≡◌, ◌<◌, ◌/◌, ◌%◌};
 ghost use Rattle.grammar.specs.Tables.{state_count, kind_count, role_unit};
 ghost use Rattle.grammar.specs.Steps.{kind_of, entry_of, next_of, depth_limit, mode, entered, within, Moved, KindsLent, NextLent};
@@ -8,14 +9,14 @@ ghost use Rattle.grammar.specs.Viable.{Judged};
 pub mod tables;
 
 // Where the recogniser stands: a state, STUCK where no text goes on so, and how many comments are open.
-#[derive(Drop)]
+#[derive(Clone, Copy)]
 pub struct Mode {
     pub state: usize,
     pub depth: usize,
 }
 
 // A step of the recogniser: where it then stands, and the number of the byte's role.
-#[derive(Drop)]
+#[derive(Clone, Copy)]
 pub struct Move {
     pub state: usize,
     pub depth: usize,
@@ -23,7 +24,7 @@ pub struct Move {
 }
 
 // The verdict on a text: in the grammar, or the length of the longest prefix that some continuation completes (refusal 2).
-#[derive(Drop)]
+#[derive(Clone, Copy)]
 pub enum Verdict {
     InGrammar,
     StuckAt(usize),

@@ -1,6 +1,7 @@
 // What a call of a symbol would draw (RULES 19, request 3): its height, the set of its layers, or the first of 12, 13 and 14, from the words that hold the bodies. The
 // height and the set of a finished symbol are kept beside its row, so that every body is gone through once: a known height answers for any allowance
 // (proofs/Walking.antt).
+#![tactic(auto)]
 ghost use Rattle.std.specs.Prelude.{◌≡◌, List, [], ℕ, ◌≤◌, max, length};
 ghost use Rattle.definition.specs.Limits.{deepest};
 ghost use Rattle.library.specs.Memory.{most_words};
@@ -12,21 +13,21 @@ ghost use Rattle.heights.specs.Kept.{Looks, Ready, Opened, Replies, Inside, Body
 ghost use Rattle.heights.specs.Replies.{SymbolReplies};
 
 // What a symbol gives: the number of a refusal, or its height and the set of its layers.
-#[derive(Drop)]
+#[derive(Clone, Copy)]
 pub enum Reply {
     Bars(usize),
     Stands(usize, u64),
 }
 
 // The next call of a body: its symbol, and where the command after it begins.
-#[derive(Drop)]
+#[derive(Clone, Copy)]
 enum Next {
     Call(usize, usize),
     NoCall,
 }
 
 // What is known of a symbol before its body is gone through: the refusal that it gives, its height and its set, or its row.
-#[derive(Drop)]
+#[derive(Clone, Copy)]
 enum Looked {
     Refused(usize),
     Known(usize, u64),

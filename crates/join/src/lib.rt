@@ -1,5 +1,6 @@
 // Two texts joined (RULES 18, request 14): the first cut at its E, then `DD0;`, then the second. `join` writes the joined text into a lent room, or says which of the two is
 // refused and why. That two accepted texts are accepted together and draw one list after the other is proved in joining.
+#![tactic(auto)]
 ghost use Rattle.std.specs.Prelude.{◌≡◌, ◌+◌, ◌≤◌, length, take};
 ghost use Rattle.definition.specs.Limits.{most_bytes};
 ghost use Rattle.joining.specs.Joined.{joined};
@@ -21,7 +22,7 @@ pub const SECOND: usize = 2;
 const NEITHER: usize = 0;
 
 // What comes of two texts: how long the joined text is that now stands in the room; or a refusal, and which text it is about.
-#[derive(Drop)]
+#[derive(Clone, Copy)]
 pub enum JoinAnswer {
     Joined(usize),
     NotJoined(Refusal, usize),

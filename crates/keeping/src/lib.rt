@@ -1,6 +1,7 @@
 // One definition, decoded once: its body goes as words straight into the run lent, after those used, and the definition is entered (RULES 8).
 // Where a command does not fit, the live bodies are moved together and it is decoded again; where it still does not fit, more words are needed than
 // were lent (refusal 25).
+#![tactic(auto)]
 ghost use Rattle.std.specs.Prelude.{◌≡◌, ℕ, ◌+◌, ◌≤◌, false, ◌&&◌, eqb, length};
 ghost use Rattle.grammar.specs.Steps.{KindsLent, NextLent};
 ghost use Rattle.definition.specs.Limits.{most_bytes};
@@ -10,7 +11,7 @@ ghost use Rattle.keeping.specs.Growth.{steps, Storable, Stores, Ready, KeepsComm
 ghost use Rattle.keeping.specs.Keeping.{Begins, DefinesAt, Filling, FillsAt};
 
 // What a DS says: its symbol, its scale, and where it stands.
-#[derive(Drop)]
+#[derive(Clone, Copy)]
 pub struct Start {
     pub symbol: usize,
     pub place: usize,
@@ -19,7 +20,7 @@ pub struct Start {
 }
 
 // How many definitions are live, how many words of the run are used, and how many the live definitions need.
-#[derive(Drop)]
+#[derive(Clone, Copy)]
 pub struct Stock {
     pub live: usize,
     pub used: usize,
@@ -28,7 +29,7 @@ pub struct Stock {
 
 // What came of a definition: it was taken, with the stock and the counts after it and where the next command begins; it is one too many (refusal 10);
 // or the words lent are too few (refusal 25).
-#[derive(Drop)]
+#[derive(Clone, Copy)]
 pub enum Defined {
     Taken(Stock, counts::Counts, pieces::Spot),
     Overfull,
@@ -36,7 +37,7 @@ pub enum Defined {
 }
 
 // What became of a command of a body: so many words are used now, and whether the last command kept is an L; the definition ends; or it does not fit.
-#[derive(Drop)]
+#[derive(Clone, Copy)]
 enum Stored {
     More(usize, bool, pieces::Spot),
     Last(pieces::Spot),
@@ -44,7 +45,7 @@ enum Stored {
 }
 
 // What became of a body: it is whole, with so many words used; or the words lent are too few.
-#[derive(Drop)]
+#[derive(Clone, Copy)]
 enum Body {
     Whole(usize, pieces::Spot),
     Lacking,

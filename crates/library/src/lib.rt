@@ -1,5 +1,6 @@
 // Bodies kept as decoded words in one lent run, and the rows that tell where each stands, five numbers to a row in another. Room of replaced and
 // deleted bodies is used again: when the run is full, the live bodies are moved together.
+#![tactic(auto)]
 ghost use Rattle.std.specs.Prelude.{◌≡◌, ℕ, ◌+◌, ◌*◌, ◌<◌, ◌≤◌, ◌^◌, List, ℤ, pos, ltb, leb, eqb, length, get_or, set, replicate, ◌&&◌};
 ghost use Rattle.library.specs.Memory.{row_numbers, most, symbol_at, start_at, length_at, needed_at, needed_in};
 ghost use Rattle.library.specs.Rows.{Sorted, Nearest, Parted, Finds, Forgets, Shifted, with_row, Begins};
@@ -30,7 +31,7 @@ const AT_ONCE: usize = 4;
 pub const LAYER_WORDS: usize = 3;
 
 // The row of a number, if it is live.
-#[derive(Drop)]
+#[derive(Clone, Copy)]
 pub enum Found {
     Live(usize),
     Nothing,
@@ -38,7 +39,7 @@ pub enum Found {
 
 // How a definition was begun: its row, instead of one of its number, with the words which that needed, or beside the others; or not at all, since 512
 // others are live.
-#[derive(Drop)]
+#[derive(Clone, Copy)]
 pub enum Begun {
     Replaced(usize, usize),
     Added(usize),

@@ -1,5 +1,6 @@
 // A flat file followed byte by byte: the line and the number that are being read, and the window of the figures before them (RULES 13, request 6). Plain values come
 // in and plain values go out; what is printed of them is the business of listing, above. It takes any bytes.
+#![tactic(auto)]
 ghost use Rattle.std.specs.Prelude.{◌≡◌, ◌+◌, ◌*◌, ◌^◌, ◌≤◌, nat_abs};
 ghost use Rattle.lines.specs.Followed.{opened, named, line_after, pushed, ends, numeral_after, value_of};
 ghost use Rattle.lines.specs.Followed.{blank, kept, lead_after, reach_by, along_by, box_reach_by, centre_of, box_taken, stretched};
@@ -22,7 +23,7 @@ const NEITHER: u8 = 0;
 
 // A line of the flat file that is being read: the count of the next shape, the packed layer, what the next letter of a layer's name counts in it, and
 // the line's first letter, 0 before it.
-#[derive(Drop)]
+#[derive(Clone, Copy)]
 pub struct Line {
     pub count: u64,
     pub layer: u32,
@@ -31,7 +32,7 @@ pub struct Line {
 }
 
 // A number that is being read: how many stand before it in its line, whether a minus sign did, and what its digits so far are worth.
-#[derive(Drop)]
+#[derive(Clone, Copy)]
 pub struct Numeral {
     pub index: usize,
     pub negative: bool,
@@ -39,7 +40,7 @@ pub struct Numeral {
 }
 
 // The lowest and the highest of numbers, if there are some.
-#[derive(Drop)]
+#[derive(Clone, Copy)]
 pub struct Span {
     pub some: bool,
     pub low: i64,
@@ -48,7 +49,7 @@ pub struct Span {
 
 // The first numbers of a line, by which its shape reaches beyond its points: the sizes, and of a box its centre and the x of its direction, which is
 // known only after the centre. All 0 at a line's start.
-#[derive(Drop)]
+#[derive(Clone, Copy)]
 pub struct Lead {
     pub first: u32,
     pub second: u32,
@@ -59,7 +60,7 @@ pub struct Lead {
 
 // What is known of a flat file after some of its bytes: the line and the number that are being read, the first numbers of the line, and the window of
 // all shapes before.
-#[derive(Drop)]
+#[derive(Clone, Copy)]
 pub struct Seen {
     pub line: Line,
     pub number: Numeral,

@@ -1,5 +1,6 @@
 // The list program (RULES 13): of the text on standard input, at most 32,768 bytes, a line for each shape, the total and the window; or the refusal. Where a read
 // fails nothing is printed of the text.
+#![tactic(auto)]
 ghost use Rattle.std.specs.Prelude.{◌≡◌, length};
 ghost use Rattle.printout.specs.Prints.{listing_length};
 

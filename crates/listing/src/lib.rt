@@ -1,5 +1,6 @@
 // What the list program prints (RULES 13), from the answer, the flat file and, for its warnings, the text. The flat file is read once, byte by
 // byte: a shape's line is copied after its count and its layer, and its points are taken into the window, which crate lines keeps.
+#![tactic(auto)]
 ghost use Rattle.std.specs.Prelude.{◌≡◌, ◌∷◌, [], ◌+◌, ◌^◌, ◌≤◌, pos, length, take};
 ghost use Rattle.definition.specs.Flat.{decimal};
 ghost use Rattle.digits.specs.Writes.{Writes};
@@ -12,7 +13,7 @@ const TAB: u8 = 9;
 const LINE_FEED: u8 = 10;
 
 // After the lines of all shapes: the next place in the listing, and the window.
-#[derive(Drop)]
+#[derive(Clone, Copy)]
 struct Walked {
     at: usize,
     xs: lines::Span,

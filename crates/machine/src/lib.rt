@@ -1,5 +1,6 @@
 // A drawing engine without deep calls (RULES 8, request 7). It never sees the stack of open calls: it answers a state that says which record goes to which slot, and is
 // handed what stood there. So one machine serves records that a host lends (crate frames) and a local array of records.
+#![tactic(auto)]
 ghost use Rattle.std.specs.Prelude.{◌≡◌, List, [], ◌∷◌, true, false, ℕ, ◌+◌, ◌-◌, ◌*◌, ◌%◌, ◌^◌, ◌<◌, ◌≤◌, eqb, pos, length, replicate};
 ghost use Rattle.std.proofs.lemmas.List.Edits.{sets};
 ghost use Rattle.definition.specs.Limits.{deepest, most_shapes};
@@ -24,7 +25,7 @@ use stretch::{Body, Here};
 // An open call, one record per level: its place and symbol, and where its caller's body goes on: its words from `at` to `end`, the layer that is set in it,
 // and what the calls around it do together, one of eight turns and a step. The caller of the outermost is the text, which goes on by the state.
 #[repr(C)]
-#[derive(Drop)]
+#[derive(Clone, Copy)]
 pub struct Frame {
     pub place: usize,
     pub symbol: usize,
@@ -37,7 +38,7 @@ pub struct Frame {
 }
 
 // Why a record goes to a slot.
-#[derive(Drop)]
+#[derive(Clone, Copy)]
 pub enum Kind {
     Clear,
     Push,
@@ -47,7 +48,7 @@ pub enum Kind {
 
 // How far a drawing is, whatever record goes where: how many records there are, whether it writes or measures yet, how many distances of the text were rounded,
 // how many shapes count as drawn before it, how many calls are open and which, where the text goes on, and what was counted and written.
-#[derive(Drop)]
+#[derive(Clone, Copy)]
 pub struct Course {
     pub records: usize,
     pub writing: bool,
@@ -61,7 +62,7 @@ pub struct Course {
 
 // Where it goes on: while `going`, put the record `put` at the slot, and call `turn` with what stood there. Else `answer` is the answer. After a refusal `here` is where it was: so the net
 // transformation of a shape that 17 refuses is known.
-#[derive(Drop)]
+#[derive(Clone, Copy)]
 pub struct State {
     pub going: bool,
     pub slot: usize,

@@ -1,5 +1,6 @@
 // The layer names of a text (RULES 19, request 3): each distinct name of its L commands has one mark of 64, by first appearance, in and outside definitions. A name is
 // kept as the one number that an L command of a body has in its words, so a body's layers are told from them.
+#![tactic(auto)]
 ghost use Rattle.std.specs.Prelude.{◌≡◌, List, ◌≤◌, length};
 ghost use Rattle.grammar.specs.Notation.{Letter};
 ghost use Rattle.grammar.specs.Viable.{Marked};
@@ -12,7 +13,7 @@ ghost use Rattle.marks.specs.Noted.{MarkOf, BitOf, Notes, Gathers};
 const LAYER_WORDS: usize = 3;
 
 // How many names a text has; or the place of the L command that brings one more than there are marks (refusal 19).
-#[derive(Drop)]
+#[derive(Clone, Copy)]
 pub enum Gathered {
     Named(usize),
     Over(usize),

@@ -1,5 +1,6 @@
 // One call before its body is drawn: what its words say, and refusals 11 to 15 in their order (RULES 8). Nothing is drawn here, and of a body only
 // its row is asked, so that every engine that draws calls asks the same leaf.
+#![tactic(auto)]
 ghost use Rattle.std.specs.Prelude.{◌≡◌, ◌-◌, ◌*◌, ◌^◌, ◌≤◌, length};
 ghost use Rattle.definition.specs.Limits.{deepest};
 ghost use Rattle.turns.specs.Nets.{Near};
@@ -10,7 +11,7 @@ ghost use Rattle.opening.specs.Opening.{Opens};
 
 // What a call's words say where a net transformation is in force: its symbol, whether an R of its list is off the axes, what its list and those of the
 // open calls do together, and its place.
-#[derive(Drop)]
+#[derive(Clone, Copy)]
 pub struct Call {
     pub symbol: usize,
     pub askew: bool,
@@ -19,7 +20,7 @@ pub struct Call {
 }
 
 // What comes of a call: it is refused, or the drawing goes down into the row of its symbol, with the counts after this call.
-#[derive(Drop)]
+#[derive(Clone, Copy)]
 pub enum Opened {
     Refused(definition::Refusal),
     Descends(usize, counts::Counts),

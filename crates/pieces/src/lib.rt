@@ -1,6 +1,7 @@
 // The pieces of a CIF text, one after another: what stands between its bytes and its commands. `next_mark` finds the letter that begins the next
 // piece, `read_number` reads on where that is a number. They give plain numbers back and not pieces: an enum that is handed up costs a reader more
 // than reading its bytes. Contracts speak of pieces, so that whoever reads them names no state.
+#![tactic(auto)]
 ghost use Rattle.std.specs.Prelude.{◌≡◌, ◌+◌, ◌*◌, ◌<◌, ◌≤◌, ltb, length};
 ghost use Rattle.grammar.specs.Tables.{state_count};
 ghost use Rattle.grammar.specs.Steps.{KindsLent, NextLent};
@@ -11,7 +12,7 @@ ghost use Rattle.pieces.specs.declared.Piece.TheVariants.{Number};
 pub const TOO_LARGE: usize = definition::LARGEST + 1;
 
 // Where a reader stands: before a byte, in a state of the recogniser, outside comments.
-#[derive(Drop)]
+#[derive(Clone, Copy)]
 pub struct Spot {
     pub at: usize,
     pub state: usize,
@@ -19,7 +20,7 @@ pub struct Spot {
 
 // A piece of a text: the first letter of a command, with its place; the second letter of a D command; a number, by its place, its minus sign and its
 // distance from zero; a further letter, of a transformation or of a layer's name; the semicolon behind a command.
-#[derive(Drop)]
+#[derive(Clone, Copy)]
 pub enum Piece {
     First(usize, u8),
     Second(u8),
@@ -30,7 +31,7 @@ pub enum Piece {
 
 // The letter that begins a piece: the number of its role, SKIP where the text has no more pieces; its byte and its place; the place of the number, if
 // it begins one; and where a reader stands behind it, past the comment, if it begins one.
-#[derive(Drop)]
+#[derive(Clone, Copy)]
 pub struct Begun {
     pub mark: usize,
     pub byte: u8,
@@ -40,7 +41,7 @@ pub struct Begun {
 }
 
 // A number's distance from zero, and where a reader stands behind it.
-#[derive(Drop)]
+#[derive(Clone, Copy)]
 pub struct Numeral {
     pub size: usize,
     pub to: Spot,

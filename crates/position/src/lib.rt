@@ -1,10 +1,11 @@
 // Where a place is in a text, as an editor counts (RULES 12, request 4): found in one pass over the text up to the place.
+#![tactic(auto)]
 ghost use Rattle.position.specs.Found.{Found};
 
 const LINE_END: u8 = 10;
 
 // Line and column, both from 1.
-#[derive(Drop)]
+#[derive(Clone, Copy)]
 pub struct Position {
     pub line: usize,
     pub column: usize,

@@ -1,5 +1,6 @@
 // The rules for one command of a CIF text, in refusals 3 to 9: the lowest that a number meets, and the lowest that a whole command meets; and what is
 // scaled. They stand below both passes over a text, the check and the drawing, so that both go by the same rules.
+#![tactic(auto)]
 ghost use Rattle.std.specs.Prelude.{◌≡◌, not, ◌+◌, ◌*◌, ◌%◌, ◌≤◌, eqb};
 ghost use Rattle.definition.specs.Standing.{nearest};
 ghost use Rattle.pieces.specs.Pieces.{too_large};
@@ -41,7 +42,7 @@ pub fn is_distance(letter: u8, latest: u8, index: usize) -> bool
 }
 
 // A number at a scale: its value, and 1 if it was rounded, else 0.
-#[derive(Drop)]
+#[derive(Clone, Copy)]
 pub struct AtScale {
     pub value: usize,
     pub rounded: usize,

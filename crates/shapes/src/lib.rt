@@ -1,25 +1,26 @@
 // One shape drawn: refusals 16, 20 and 17, or its lines (RULES 8). And what every function that draws takes and gives: the pen, and the answer.
+#![tactic(auto)]
 ghost use Rattle.std.specs.Prelude.{◌≡◌, ◌^◌, ◌<◌, ◌≤◌, pos, nat_abs, length, get_or};
 ghost use Rattle.turns.specs.Nets.{Near};
 ghost use Rattle.moves.specs.Moves.{ShapedAt};
 ghost use Rattle.shapes.specs.Painting.{Reached, ShapeDraws};
 
 // Where the next byte of the flat file goes, and the layer of the last shape written, packed, 0 for none.
-#[derive(Drop)]
+#[derive(Clone, Copy)]
 pub struct Pen {
     pub at: usize,
     pub layer: u32,
 }
 
 // What a drawing carries along: the running counts, and the pen.
-#[derive(Drop)]
+#[derive(Clone, Copy)]
 pub struct Ink {
     pub counts: counts::Counts,
     pub pen: Pen,
 }
 
 // What a function that draws answers: the ink afterwards, or a refusal.
-#[derive(Drop)]
+#[derive(Clone, Copy)]
 pub enum DrawEnd {
     Done(Ink),
     Refused(definition::Refusal),

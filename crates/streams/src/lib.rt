@@ -1,12 +1,13 @@
 // Standard input and output for the programs. The kit's `read_full` gives a short count both where the input ends and where a read fails; here the two
 // are told apart, and a read or a write that fails is said on standard error, so that no program takes the first part of a text for all of it. No
 // contract can say which bytes are read or written.
+#![tactic(auto)]
 ghost use Rattle.streams.specs.Fits.{Fits};
 
 use libc::{STDERR_FILENO, STDIN_FILENO, STDOUT_FILENO};
 
 // What was read: so many bytes, fewer than were asked for only where the input ends. Or a read failed, which has been said.
-#[derive(Drop)]
+#[derive(Clone, Copy)]
 pub enum Input {
     Bytes(usize),
     Failed,

@@ -1,5 +1,6 @@
 // What a body draws between two calls, for an engine that keeps its open calls itself: from where it stands up to the next call that is opened, to its end, or to
 // a refusal (RULES 8). Nothing here calls itself. Refusal 21 (RULES 8, request 7) stands here, after 11 to 14 and before 15.
+#![tactic(auto)]
 ghost use Rattle.std.specs.Prelude.{◌≡◌, ℕ, ◌-◌, ◌*◌, ◌^◌, ◌<◌, ◌≤◌, pos, nat_abs, length, get_or};
 ghost use Rattle.definition.specs.Limits.{deepest};
 ghost use Rattle.turns.specs.Nets.{Near};
@@ -14,7 +15,7 @@ use opening::{Call, Opened};
 use shapes::{DrawEnd, Ink};
 
 // Where an open body goes on: its words from `at` to `end`, the layer that is set in it, and what the open calls do together.
-#[derive(Drop)]
+#[derive(Clone, Copy)]
 pub struct Here {
     pub at: usize,
     pub end: usize,
@@ -23,7 +24,7 @@ pub struct Here {
 }
 
 // What a stretch of a body comes to: its end; a call that is opened, with where the body goes on after it and the row of its symbol; or a refusal.
-#[derive(Drop)]
+#[derive(Clone, Copy)]
 pub enum Body {
     Ends(Ink),
     Calls(Here, Call, usize, Ink),

@@ -1,5 +1,6 @@
 // What is in a symbol (RULES 19, request 3): the text is read and its table kept, with the summary beside it, and nothing is drawn. Then a symbol is asked for, in the table
 // left at the end of the text.
+#![tactic(auto)]
 ghost use Rattle.std.specs.Prelude.{◌≡◌, ◌+◌, ◌<◌, ◌≤◌, length};
 ghost use Rattle.std.specs.Int.Count.{ones, count_trailing_zeros};
 ghost use Rattle.grammar.specs.Viable.{Grammatical};
@@ -28,14 +29,14 @@ const FIRST_OF_COMMANDS: usize = 3;
 const TOO_MANY_LAYERS: usize = 19;
 
 // What came of a text's definitions: so many are live at its end; or one was refused (10 and 25).
-#[derive(Drop)]
+#[derive(Clone, Copy)]
 enum Summed {
     Live(usize),
     Refused(Refusal),
 }
 
 // What is known of a text before its definitions are looked at: it is refused (1 to 9 and 19), or how many layer names it has.
-#[derive(Drop)]
+#[derive(Clone, Copy)]
 enum Begun {
     Stopped(Refusal),
     Named(usize),

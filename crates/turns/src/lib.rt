@@ -1,6 +1,7 @@
 // Right-angle transformations over whole numbers (RULES 9): what a call's list makes of points and directions, exactly. Only the final points
 // of a shape are held to the range, by `is_beyond`. A transformation adds a step of 32 bits, 32 of them a level and 32 levels at most 2^41,
 // so that i64 never wraps: the contracts carry the longest step along as `Near`.
+#![tactic(auto)]
 ghost use Rattle.std.specs.Prelude.{◌≡◌, ◌||◌, ◌∷◌, [], ◌+◌, ◌^◌, ◌<◌, ◌≤◌, pos, nat_abs, ◌+ℤ◌, length};
 ghost use Rattle.definition.specs.Words.{if◌then◌else◌, point};
 ghost use Rattle.definition.specs.Commands.{translate, rotate};
@@ -11,14 +12,14 @@ ghost use Rattle.turns.specs.Nets.{as_point, signed, turned, apply, Carries, Nea
 ghost use Rattle.turns.specs.Nets.{Begins, TurnsBetween, IsSingle, IsListed, net, differ};
 
 // A point or a direction.
-#[derive(Drop)]
+#[derive(Clone, Copy)]
 pub struct Pair {
     pub x: i64,
     pub y: i64,
 }
 
 // A net transformation: x and y change places or not, then each is negated or not, then a step is added.
-#[derive(Drop)]
+#[derive(Clone, Copy)]
 pub struct Net {
     pub swap: bool,
     pub negx: bool,
@@ -28,7 +29,7 @@ pub struct Net {
 }
 
 // One transformation of a list: what it does, whether it is an R off the axes, and the place after its words.
-#[derive(Drop)]
+#[derive(Clone, Copy)]
 struct Single {
     net: Net,
     askew: bool,
@@ -36,14 +37,14 @@ struct Single {
 }
 
 // A call's list: what it does, and whether an R in it is off the axes.
-#[derive(Drop)]
+#[derive(Clone, Copy)]
 pub struct Listed {
     pub net: Net,
     pub askew: bool,
 }
 
 // Whether a final point is beyond the range, by its x and by its y: they are refusals of their own (RULES 12, request 4).
-#[derive(Drop)]
+#[derive(Clone, Copy)]
 pub struct Beyond {
     pub x: bool,
     pub y: bool,

@@ -1,0 +1,8 @@
+-- `refused` meets its contract: what is cleared is zero in every field, and the place is found in the text.
+use Rattle.definition.specs.Answer.{failure}
+use borrow.Author.Rules.{rules}
+use Rattle.answer.proofs.refused.Goals as goal
+
+pub returns : goal.returns
+unfolding failure
+returns c = simp (c.cleared-none.ensures, c.position_of-position.ensures.line_is, c.position_of-position.ensures.column_is, c.opened-opened.ensures, c.places-chain.ensures)

@@ -1,0 +1,10 @@
+-- `places` meets its contract. The invariant: the places of the first calls are told, and after them stand zeros.
+use native.Mathlib.Omega.{arith}
+use Rattle.chain.proofs.Telling.{PlacesSoFar, none_told, few-told, one_told, all_told}
+use Rattle.chain.proofs.places.Given as goal
+
+abbrev pub invariant-loop-left : goal.invariant-loop-left
+invariant-loop-left l = PlacesSoFar l.run l.told l.next l.left
+
+abbrev pub decreases-loop-left : goal.decreases-loop-left
+decreases-loop-left l = l.left

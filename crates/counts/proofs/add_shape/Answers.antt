@@ -1,0 +1,10 @@
+-- `counts::add_shape` meets its contract: its code is `limited` (proofs/Limited.antt), at the field, the limit and the number that it has.
+use mathlib.Core.Path.{refl}
+use lib.Dec.{lit<}
+use Rattle.counts.specs.Counting.{AddsShape}
+use Rattle.counts.proofs.Limited.{limited_meets}
+use Rattle.counts.specs.contracts.add_shape.Key.{name}
+use Rattle.counts.proofs.add_shape.Code as code
+use Rattle.counts.proofs.add_shape.Goals as goal
+
+-- UNTURNED: 0 needs are listed, and 2 are named

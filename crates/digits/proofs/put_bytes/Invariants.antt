@@ -1,0 +1,12 @@
+-- `put_bytes` meets its contract: the loop's invariant says what is left to write, and the measure how many bytes are.
+use Prim.Native.Nat.{◌-◌, ◌≤◌}
+use native.Mathlib.Omega.{arith}
+use lib.ListN.{length, drop}
+use Rattle.digits.proofs.Writing.{WrittenSoFar, begun, goes_on, over, reaches, next-byte, no_byte}
+use Rattle.digits.proofs.put_bytes.Given as goal
+
+abbrev pub invariant-loop-i : goal.invariant-loop-i
+invariant-loop-i l = (l.i ≤ length l.bytes) × WrittenSoFar l.initial.room l.room l.start l.at l.bytes (drop l.i l.bytes)
+
+abbrev pub decreases-loop-i : goal.decreases-loop-i
+decreases-loop-i l = length l.bytes - l.i

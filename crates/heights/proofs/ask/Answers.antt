@@ -1,0 +1,13 @@
+-- `ask` meets its contract: nothing is known and nothing open at first, and the walk is the definition's (proofs/Replied.antt).
+use mathlib.Core.Path.{refl}
+use mathlib.Core.List.{[]}
+use native.Mathlib.Omega.{arith}
+use Rattle.heights.proofs.Kept.{ready-first, none_open, all_zero}
+use Rattle.heights.proofs.Replied.{is_told}
+use Rattle.heights.proofs.ask.Goals as goal
+
+pub reply_to-requires : goal.reply_to-requires
+reply_to-requires c = (ready-first _ _ _ _ c.requires.0 c.requires.1 c.requires.2 refl refl (all_zero 512) (omega arith), ([], none_open _ _ _ _ _ (all_zero 512)))
+
+pub returns : goal.returns
+returns c = UNTURNED let e = c.reply_to.ensures.reply [] (none_open _ _ _ _ _ (all_zero 512)) in (is_told _ _ _ _ _ e, e)

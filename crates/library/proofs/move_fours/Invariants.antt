@@ -1,0 +1,12 @@
+-- `move_fours` meets its contract, four by four (proofs/Runs.antt).
+use mathlib.Core.Path.{refl}
+use Rattle.library.proofs.Runs.{Sinking, sink_start, sink_part, sunk}
+use Prim.Native.Nat.{◌≤◌, ◌-◌}
+use native.Mathlib.Omega.{arith}
+use Rattle.library.proofs.move_fours.Given as goal
+
+abbrev pub invariant-loop-k : goal.invariant-loop-k
+invariant-loop-k l = (l.k ≤ l.n) × Sinking l.initial.bodies l.from l.to l.k l.bodies
+
+abbrev pub decreases-loop-k : goal.decreases-loop-k
+decreases-loop-k l = l.n - l.k

@@ -1,0 +1,16 @@
+-- `lines::push_digit` meets its contract: one return for each way through the tests.
+use borrow.Author.Tests.{lt-ltb, le-ltb}
+use borrow.Author.Rules.{rules}
+use Rattle.lines.proofs.push_digit.Goals as goal
+
+pub returns-then-b-lt48 : goal.returns-then-b-lt48
+returns-then-b-lt48 c = simp (lt-ltb _ _ c.if-b-lt48.true)
+
+pub returns-then-b-gt57 : goal.returns-then-b-gt57
+returns-then-b-gt57 c = simp (le-ltb _ _ c.if-b-lt48.false, lt-ltb _ _ c.if-b-gt57.true)
+
+pub returns-then-value-gt-LARGEST : goal.returns-then-value-gt-LARGEST
+returns-then-value-gt-LARGEST c = simp (le-ltb _ _ c.if-b-lt48.false, le-ltb _ _ c.if-b-gt57.false, lt-ltb _ _ c.if-value-gt-LARGEST.true)
+
+pub returns : goal.returns
+returns c = simp (le-ltb _ _ c.if-b-lt48.false, le-ltb _ _ c.if-b-gt57.false, le-ltb _ _ c.if-value-gt-LARGEST.false)

@@ -1,0 +1,6 @@
+-- `over` meets its contract.
+use borrow.Author.Rules.{rules}
+use Rattle.machine.proofs.over.Goals as goal
+
+pub returns : goal.returns
+returns c = (rw (c.zero_to.ensures, c.fresh.ensures), c.clear.ensures)

@@ -1,0 +1,7 @@
+-- `popped` meets its contract.
+use borrow.Author.Rules.{rules}
+use native.Mathlib.Omega.{arith}
+use Rattle.machine.proofs.popped.Goals as goal
+
+pub returns : goal.returns
+returns c = rw (c.zero_to.ensures, c.at_level.ensures, c.accepted-none.ensures, c.no_counts.ensures)

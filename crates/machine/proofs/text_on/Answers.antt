@@ -1,0 +1,15 @@
+-- `text_on` meets its contract.
+use borrow.Author.Rules.{rules}
+use Rattle.machine.proofs.text_on.Goals as goal
+
+pub write-requires : goal.write-requires
+write-requires c = (c.if-c.true, c.requires)
+
+pub returns-then-c : goal.returns-then-c
+returns-then-c c = c.write.ensures
+
+pub measure-requires : goal.measure-requires
+measure-requires c = (c.if-c.false, c.requires)
+
+pub returns : goal.returns
+returns c = c.measure.ensures

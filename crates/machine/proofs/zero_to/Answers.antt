@@ -1,0 +1,6 @@
+-- `zero_to` meets its contract: no body goes on by the state.
+use borrow.Author.Rules.{rules}
+use Rattle.machine.proofs.zero_to.Goals as goal
+
+pub returns : goal.returns
+returns c = rw (c.zero_at.ensures, c.nowhere.ensures)

@@ -1,0 +1,25 @@
+-- `move_points` meets its contract. The invariant, whatever the points are called: those done stand in their places (`Moving`).
+use Prim.Native.Nat.{◌-◌}
+use native.Mathlib.Omega.{arith}
+use borrow.Author.Rules.{rules}
+use Rattle.moves.specs.Moves.{Pointed}
+use Rattle.moves.proofs.Moves.{Moving, begin, numbers-length, pair_fits, one_point, all_moved}
+use Rattle.moves.proofs.move_points.Goals as goal
+
+pub loop-next-init : goal.loop-next-init
+loop-next-init c = λ h. begin c.args.net c.args.numbers.now h
+
+pub overflow_add-next : goal.overflow_add-next
+overflow_add-next c = omega (arith, pair_fits (c.loop-next.invariant c.requires.pointed.0) c.loop-next-test.true, c.requires.pointed.0.within)
+
+pub place_at-far-requires : goal.place_at-far-requires
+place_at-far-requires c = record { i_in_bounds = (omega (arith, pair_fits (c.loop-next.invariant c.requires.pointed.0) c.loop-next-test.true, c.requires.pointed.0.within), omega (arith, pair_fits (c.loop-next.invariant c.requires.pointed.0) c.loop-next-test.true, c.requires.pointed.1, numbers-length (c.loop-next.invariant c.requires.pointed.0))); near = c.requires.near }
+
+pub loop-next-smaller : goal.loop-next-smaller
+loop-next-smaller c = omega (arith, pair_fits (c.loop-next.invariant c.requires.pointed.0) c.loop-next-test.true)
+
+pub loop-next-preserved : goal.loop-next-preserved
+loop-next-preserved c = λ h. one_point (c.loop-next.invariant h) c.loop-next-test.true c.place_at-far.result _ c.place_at-far.ensures c.either-x.result c.either-y.result c.either-x.ensures c.either-y.ensures
+
+pub returns : goal.returns
+returns c = λ h. all_moved (c.loop-next.invariant h) c.loop-next-test.false

@@ -1,0 +1,14 @@
+-- `pen::put_numbers` meets its contract: the loop's invariant says how many numbers are written, and the measure how many are left.
+use Prim.Native.Nat.{◌-◌}
+use native.Mathlib.Omega.{arith}
+use lib.IntN.{pos}
+use lib.ListN.{length, get_or}
+use Rattle.digits.proofs.Signs.{lent}
+use Rattle.pen.proofs.Numbers.{Along, first-along, next-along, all_along}
+use Rattle.pen.proofs.put_numbers.Given as goal
+
+abbrev pub invariant-loop-i : goal.invariant-loop-i
+invariant-loop-i l = Along l.initial.room l.room l.start l.at l.numbers l.i
+
+abbrev pub decreases-loop-i : goal.decreases-loop-i
+decreases-loop-i l = length l.numbers - l.i

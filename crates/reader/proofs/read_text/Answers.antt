@@ -1,0 +1,10 @@
+-- `read_text` meets its contract: refusals 1 to 9 as `first_fault` finds them, and else as `flatten_passed` answers.
+use Rattle.reader.proofs.Promises.{fault-told, passes}
+use borrow.Author.Rules.{rules}
+use Rattle.reader.proofs.read_text.Goals as goal
+
+pub flatten_passed-requires : goal.flatten_passed-requires
+flatten_passed-requires c = passes c.first_fault.ensures c.in-Clear.is
+
+pub returns-in-Refused : goal.returns-in-Refused
+returns-in-Refused c = fault-told c.first_fault.ensures c.in-Refused.is c.refused_outside.ensures

@@ -1,0 +1,13 @@
+-- `warn_any` meets its contract: a text that refusals 1 to 9 meet has no warnings, and any other those that `warn` finds.
+use Rattle.warning.proofs.Any.{screened_passed, none_warned, all_warned}
+use borrow.Author.Rules.{rules}
+use Rattle.warning.proofs.warn_any.Goals as goal
+
+pub warn-requires : goal.warn-requires
+warn-requires c = (screened_passed c.first_fault.ensures c.in-Clear.is, c.requires)
+
+pub returns-in-Refused : goal.returns-in-Refused
+returns-in-Refused c = none_warned _ _ _ c.first_fault.ensures c.in-Refused.is
+
+pub returns-in-Clear : goal.returns-in-Clear
+returns-in-Clear c = all_warned (screened_passed c.first_fault.ensures c.in-Clear.is) c.warn.ensures

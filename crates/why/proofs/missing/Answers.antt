@@ -1,0 +1,7 @@
+-- `missing` meets its contract.
+use Rattle.why.proofs.Telling.{missing_made}
+use borrow.Author.Rules.{rules}
+use Rattle.why.proofs.missing.Goals as goal
+
+pub returns : goal.returns
+returns c = missing_made _ c.refused_outside-answer.ensures c.refused.ensures
