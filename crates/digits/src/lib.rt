@@ -1,6 +1,7 @@
 // Bytes and whole numbers written into a lent room (RULES 11). Nothing is stored past the room's end and the next place is exact all the same,
 // so one drawing measures, on an empty room, and writes.
 #![tactic(auto)]
+
 ghost use Rattle.std.specs.Prelude.{◌≡◌, ◌∷◌, [], ◌+◌, ◌^◌, ◌<◌, ◌≤◌, pos, nat_abs, length};
 ghost use Rattle.std.specs.Int.Signed.{lt_z};
 ghost use Rattle.definition.specs.Flat.{shortest, decimal};

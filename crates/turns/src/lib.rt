@@ -2,6 +2,7 @@
 // of a shape are held to the range, by `is_beyond`. A transformation adds a step of 32 bits, 32 of them a level and 32 levels at most 2^41,
 // so that i64 never wraps: the contracts carry the longest step along as `Near`.
 #![tactic(auto)]
+
 ghost use Rattle.std.specs.Prelude.{◌≡◌, ◌||◌, ◌∷◌, [], ◌+◌, ◌^◌, ◌<◌, ◌≤◌, pos, nat_abs, ◌+ℤ◌, length};
 ghost use Rattle.definition.specs.Words.{if◌then◌else◌, point};
 ghost use Rattle.definition.specs.Commands.{translate, rotate};

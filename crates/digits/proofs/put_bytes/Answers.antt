@@ -1,8 +1,6 @@
 -- `put_bytes` meets its contract: the loop's invariant says what is left to write, and the measure how many bytes are.
-use Prim.Native.Nat.{◌-◌, ◌≤◌}
 use native.Mathlib.Omega.{arith}
-use lib.ListN.{length, drop}
-use Rattle.digits.proofs.Writing.{WrittenSoFar, begun, goes_on, over, reaches, next-byte, no_byte}
+use Rattle.digits.proofs.Writing.{begun, goes_on, over, reaches, next-byte, no_byte}
 use Rattle.digits.proofs.put_bytes.Goals as goal
 
 pub loop-i-init : goal.loop-i-init

@@ -1,8 +1,7 @@
 -- `put_bytes` meets its contract: the loop's invariant says what is left to write, and the measure how many bytes are.
 use Prim.Native.Nat.{◌-◌, ◌≤◌}
-use native.Mathlib.Omega.{arith}
 use lib.ListN.{length, drop}
-use Rattle.digits.proofs.Writing.{WrittenSoFar, begun, goes_on, over, reaches, next-byte, no_byte}
+use Rattle.digits.proofs.Writing.{WrittenSoFar}
 use Rattle.digits.proofs.put_bytes.Given as goal
 
 abbrev pub invariant-loop-i : goal.invariant-loop-i
