@@ -9,4 +9,4 @@ pub returns-then-letter-eq80 : goal.returns-then-letter-eq80
 returns-then-letter-eq80 c = record { value = rw (eq-eqb _ _ c.if-letter-eq80.true); result_bound = omega arith }
 
 pub returns : goal.returns
-returns c = UNTURNED size-told c.args.first (omega arith) (rw (ne_eqb _ _ c.if-letter-eq80.false))
+returns c = let p = size-told c.args.first (omega arith) (rw (ne_eqb _ _ c.if-letter-eq80.false)) in record { value = p.0; result_bound = p.1 }

@@ -8,7 +8,7 @@ pub overflow_sub-result : goal.overflow_sub-result
 overflow_sub-result c = minus-fits c.args.n.value (omega arith)
 
 pub returns-then-negative : goal.returns-then-negative
-returns-then-negative c = UNTURNED value_told c.args.n (omega arith) (minus_is c.args.n (omega arith) c.if-negative.true)
+returns-then-negative c = let p = value_told c.args.n (omega arith) (minus_is c.args.n (omega arith) c.if-negative.true) in record { value = p.0; result_bound = p.1 }
 
 pub returns : goal.returns
-returns c = UNTURNED value_told c.args.n (omega arith) (plus_is c.args.n (omega arith) c.if-negative.false)
+returns c = let p = value_told c.args.n (omega arith) (plus_is c.args.n (omega arith) c.if-negative.false) in record { value = p.0; result_bound = p.1 }
