@@ -4,7 +4,6 @@ use native.Mathlib.Omega.{arith}
 use borrow.Author.Tests.{eq-eqb, ne_eqb}
 use lib.IntN.{pos}
 use Rattle.lines.proofs.Steps.{size-told, sizes-fit, sizes-told}
-use borrow.Author.Rules.{rules}
 use Rattle.lines.proofs.box_reach.Goals as goal
 
 pub returns-then-dy-eq0 : goal.returns-then-dy-eq0

@@ -1,8 +1,6 @@
 -- `lines::centre_of` meets its contract: the number of the axis.
 use mathlib.Core.Path.{◌∙◌}
-use native.Mathlib.Omega.{arith}
 use borrow.Author.Tests.{eq-eqb, ne_eqb}
-use borrow.Author.Rules.{rules}
 use Rattle.lines.proofs.Steps.{wrapped}
 use Rattle.lines.proofs.centre_of.Goals as goal
 

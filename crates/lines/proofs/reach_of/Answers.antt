@@ -1,7 +1,6 @@
 -- `lines::reach_of` meets its contract: no reach for a polygon, or else the first size.
 use native.Mathlib.Omega.{arith}
 use borrow.Author.Tests.{eq-eqb, ne_eqb}
-use borrow.Author.Rules.{rules}
 use Rattle.lines.proofs.Steps.{size-told}
 use Rattle.lines.proofs.reach_of.Goals as goal
 

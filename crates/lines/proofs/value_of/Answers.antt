@@ -1,7 +1,6 @@
 -- `lines::value_of` meets its contract: the digits' value with its sign.
 use Rattle.lines.proofs.Steps.{minus-fits, minus_is, plus_is, value_told}
 use native.Mathlib.Omega.{arith}
-use borrow.Author.Rules.{rules}
 use Rattle.lines.proofs.value_of.Goals as goal
 
 pub overflow_sub-result : goal.overflow_sub-result

@@ -1,5 +1,4 @@
 -- `lines::widen` meets its contract: the lower and the higher of each pair.
-use borrow.Author.Rules.{rules}
 use native.Mathlib.Omega.{arith}
 use Rattle.lines.proofs.Steps.{widened_by, first_stretch}
 use Rattle.lines.proofs.widen.Goals as goal
