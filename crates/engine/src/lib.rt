@@ -2,6 +2,7 @@
 // refused is asked of crate opening. Where a refusal arises the run of open calls is told how many are open (RULES 12, request 4), and what comes up from below is
 // handed on. The same code measures, on an empty part, and writes: what is stored past the room's end is dropped.
 #![tactic(auto)]
+
 ghost use Rattle.std.specs.Prelude.{◌≡◌, ℕ, ◌+◌, ◌-◌, ◌*◌, ◌^◌, ◌<◌, ◌≤◌, pos, nat_abs, length, get_or};
 ghost use Rattle.definition.specs.Limits.{deepest};
 ghost use Rattle.definition.specs.Table.{Step};
