@@ -15,7 +15,7 @@ ghost use Rattle.between.specs.Texts.{OuterComes, OuterGrows, Pausing, TextComes
 
 use keeping::{Defined, Stock};
 use opening::{Call, Opened};
-use shapes::{DrawEnd, Ink};
+use shapes::{Drawn, Ink};
 
 // Where a text goes on, outside of definitions: its next command, the layer that is set there, and what the memory holds.
 #[derive(Clone, Copy)]
@@ -84,8 +84,8 @@ fn draw_outer(
         }
     }
     match stretch::draw_shape(words, room, kind, end, still, layer, place, ink) {
-        DrawEnd::Done(shown) => Outer::Shown(shown),
-        DrawEnd::Refused(refusal) => Outer::Refused(refusal),
+        Drawn::Done(shown) => Outer::Shown(shown),
+        Drawn::Refused(refusal) => Outer::Refused(refusal),
     }
 }
 

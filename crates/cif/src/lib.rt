@@ -119,7 +119,7 @@ fn join_words(first: &[u8], second: &[u8], made: JoinAnswer) -> [u64; answer::WO
     ensures { result ≡ words_of_join first.now second.now made }
 {
     match made {
-        JoinAnswer::Joined(length) => answer::words(answer::accepted(
+        JoinAnswer::Written(length) => answer::words(answer::accepted(
             length,
             counts::no_counts(),
             0,

@@ -25,7 +25,7 @@ pub enum Piece {
     First(usize, u8),
     Second(u8),
     Number(usize, bool, usize),
-    Further(u8),
+    Word(u8),
     Stop,
 }
 

@@ -12,7 +12,7 @@ ghost use Rattle.stretch.specs.Opening.{OpensWith};
 ghost use Rattle.stretch.specs.Bodies.{Rests, Poised, BodyComes, Grows};
 
 use opening::{Call, Opened};
-use shapes::{DrawEnd, Ink};
+use shapes::{Drawn, Ink};
 
 // Where an open body goes on: its words from `at` to `end`, the layer that is set in it, and what the open calls do together.
 #[derive(Clone, Copy)]
@@ -46,7 +46,7 @@ pub fn draw_shape(
     layer: u32,
     place: usize,
     ink: Ink,
-) -> DrawEnd
+) -> Drawn
     requires { ShapedAt words.now letter end × Near (2 ^ 61) net × Reached ink }
     ensures { ShapeDraws words.now letter end net layer place ink room.old result room.new }
 {
@@ -159,10 +159,10 @@ pub fn draw_body(
                 place,
                 ink,
             ) {
-                DrawEnd::Done(shown) => {
+                Drawn::Done(shown) => {
                     ink = shown;
                 }
-                DrawEnd::Refused(refusal) => {
+                Drawn::Refused(refusal) => {
                     return Body::Stops(refusal);
                 }
             }

@@ -10,7 +10,7 @@ ghost use Rattle.definition.specs.Faults.{beyond};
 ghost use Rattle.definition.specs.Turns.{off_axes};
 ghost use Rattle.turns.specs.Words.{turn_words};
 ghost use Rattle.turns.specs.Nets.{as_point, signed, turned, apply, Carries, Near, Composed};
-ghost use Rattle.turns.specs.Nets.{Begins, TurnsBetween, IsSingle, IsListed, net, differ};
+ghost use Rattle.turns.specs.Nets.{Begins, Written, IsSingle, IsListed, net, differ};
 
 // A point or a direction.
 #[derive(Clone, Copy)]
@@ -255,8 +255,8 @@ fn single_at(words: &[i32], at: usize) -> Single
 
 // A call's list acts in written order.
 pub fn list_net(words: &[i32], from: usize, end: usize) -> Listed
-    requires { TurnsBetween words.now from end }
-    ensures { (h : TurnsBetween words.now from end) → IsListed h.turns result }
+    requires { Written words.now from end }
+    ensures { (h : Written words.now from end) → IsListed h.turns result }
 {
     let mut net = still();
     let mut askew = false;

@@ -1,7 +1,7 @@
--- `put_bytes` meets its contract: the loop's invariant says what is left to write, and the measure how many bytes are.
+-- `put_word` meets its contract: the loop's invariant says what is left to write, and the measure how many bytes are.
 use native.Mathlib.Omega.{arith}
 use Rattle.digits.proofs.Writing.{begun, goes_on, over, reaches, next-byte, no_byte}
-use Rattle.digits.proofs.put_bytes.Goals as goal
+use Rattle.digits.proofs.put_word.Goals as goal
 
 pub loop-i-init : goal.loop-i-init
 loop-i-init c = (omega arith, begun _ _ _)

@@ -10,22 +10,24 @@ use lib.Dec.{eqb}
 use lib.IntN.{ℤ, pos, nat_abs}
 use lib.ListN.{length}
 use Rattle.definition.specs.Words.{if◌then◌else◌, Placed, at}
-use Rattle.definition.specs.Commands.{Kind, box, flash, wire, polygon, Command, draw, layer, call, start, finish, delete, nothing}
+use Rattle.definition.specs.Commands.{Kind, box, flash, wire, polygon, Command, layer, finish, nothing}
 use Rattle.definition.specs.Standing.{Standing, outside, after, scaled_shape, scaled_turn}
 use Rattle.definition.specs.Table.{Step, shape, instance, setting}
 use Rattle.definition.specs.Flat.{letter_of}
 use Rattle.definition.specs.Drawing.{Deed, step_of, retained, deed_of, deeds}
+use Rattle.laws.proofs.FlatFile.Said.{length-map}
 use Rattle.laws.proofs.Lists.Joined.{retained_out}
 use Rattle.pieces.specs.Pieces.{letter_f}
 use Rattle.rules.specs.Letters.{letter_c, letter_l}
 use Rattle.rules.specs.Rules.{shapely}
-use Rattle.rules.specs.Written.{Written}
-use Rattle.commands.specs.Words.{words_of}
+use Rattle.rules.specs.Written.{Written, last_letter}
+use Rattle.commands.specs.Words.{words_of, kind_by}
+use Rattle.turns.specs.Words.{turns_words}
 use Rattle.moves.specs.Moves.{most_values}
 use Rattle.library.specs.Memory.{layer_after}
 use Rattle.library.specs.Sound.{letter_of_step, values_of, step_words, Fair}
 use Rattle.library.specs.Storing.{is_layer}
-use Rattle.keeping.specs.Words.{letter_by, values_by, Silent, Lawful, letter_in, Decodes, decodes_from, DecodesAll}
+use Rattle.keeping.specs.Voices.{Silent, Voice, a_shape, a_call, a_layer, a_start, a_finish, a_delete, a_nothing, Unsigned, Voiced, Told, none_told, one_told}
 use Rattle.keeping.specs.Growth.{steps}
 
 -- the definition stays open, with its scale and the layer that was set outside of it
@@ -39,10 +41,10 @@ pub record Stays (σ σ' : Standing) : Type 0 where
 pub record OneStep (σ : Standing) (l : ℕ) (vs : List ℤ) (d : Command) : Type 0 where
   pub step : Step
   pub are : step_of σ d ≡ step ∷ []
-  pub letter_is : letter_by d l ≡ letter_of_step step
-  pub values_are : values_by σ d vs ≡ values_of step
+  pub letter_is : l ≡ letter_of_step step
+  pub values_are : vs ≡ values_of step
   pub fair : Fair σ.layer_set step
-  pub layer_is : eqb (letter_by d l) letter_l ≡ is_layer step
+  pub layer_is : eqb l letter_l ≡ is_layer step
   pub layer_then : (after d σ).layer_set ≡ layer_after step σ.layer_set
   pub stays : Stays σ (after d σ)
   pub idle : (p : ℕ) (cs : List (Placed Command)) → deed_of σ p d cs ≡ []
@@ -92,67 +94,64 @@ silent_no l s e = go (eqb l letter_l) (eqb l letter_c) (shapely l) refl refl ref
 clash : {b : Bool} → b ≡ true → b ≡ false → ⊥
 clash e f = let z : ◌≡◌ {A = Bool} true false = sym e ∙ f in let y : ◌≡◌ {A = ℕ} 0 1 = cc in omega arith
 
-module _ (σ : Standing) (c : Written) (l : ℕ) (vs : List ℤ) (opened : σ.inside ≡ true) where
-  pub one_step : (d : Command) → Lawful σ c l d → steps (letter_by d l) ≡ true → (letter_by d l ≡ letter_f → ⊥) → OneStep σ l vs d
-  unfolding letter_by values_by Lawful step_of letter_of_step values_of scaled_shape is_layer after deed_of
-  one_step (draw k) w e f = record {
+module _ {σ : Standing} {c : Written} {l : ℕ} {vs : List ℤ} (opened : σ.inside ≡ true) where
+  pub one_step : {d : Command} → Voice σ c l vs d → Unsigned d → steps l ≡ true → (l ≡ letter_f → ⊥) → OneStep σ l vs d
+  unfolding step_of letter_of_step values_of Fair is_layer after deed_of Unsigned
+  one_step (a_shape {k} s) u e f = record {
     step = shape σ.layer_set (scaled_shape σ k);
     are = refl;
-    letter_is = refl;
-    values_are = refl;
-    fair = w;
-    layer_is = no_layer_lem k.kind;
+    letter_is = s.letter_is;
+    values_are = s.values_are;
+    fair = (refl, s.sizes, s.directions);
+    layer_is = ap (λ (n : ℕ). eqb n letter_l) s.letter_is ∙ no_layer_lem (scaled_shape σ k).kind;
     layer_then = refl;
     stays = record { opened = opened; same_a = refl; same_b = refl; same_outside = refl };
     idle = λ p cs. rw opened;
   }
-  one_step (call n ts) w e f = record {
+  one_step (a_call {n} {ts} g v h) u e f = record {
     step = instance (nat_abs n.what) (map (scaled_turn σ) ts);
     are = refl;
-    letter_is = refl;
-    values_are = refl;
-    fair = w.1;
-    layer_is = refl;
+    letter_is = g;
+    values_are = v ∙ ap (λ (z : ℤ). z ∷ turns_words (map (scaled_turn σ) ts)) u;
+    fair = omega (arith, h, length-map (scaled_turn σ) ts);
+    layer_is = ap (λ (n : ℕ). eqb n letter_l) g;
     layer_then = refl;
     stays = record { opened = opened; same_a = refl; same_b = refl; same_outside = refl };
     idle = λ p cs. rw opened;
   }
-  one_step (layer m) w e f = record {
-    step = setting m;
+  one_step (a_layer {l = k} g v h) u e f = record {
+    step = setting k;
     are = refl;
-    letter_is = refl;
-    values_are = refl;
-    fair = w;
-    layer_is = refl;
+    letter_is = g;
+    values_are = v;
+    fair = h;
+    layer_is = ap (λ (n : ℕ). eqb n letter_l) g;
     layer_then = refl;
     stays = record { opened = opened; same_a = refl; same_b = refl; same_outside = refl };
     idle = λ p cs. refl;
   }
-  one_step (start n a b) w e f = absurd (clash opened w.0)
-  one_step (delete n) w e f = absurd (clash opened w)
-  one_step finish w e f = absurd (f refl)
-  one_step nothing w e f = absurd (silent_no l w e)
+  one_step (a_start g v i b s t j) u e f = absurd (clash opened i)
+  one_step (a_delete g v i) u e f = absurd (clash opened i)
+  one_step (a_finish g i) u e f = absurd (f g)
+  one_step (a_nothing s) u e f = absurd (silent_no l s e)
 
-module _ (σ : Standing) (c : Written) (l : ℕ) (opened : σ.inside ≡ true) where
-  pub is_finish : (d : Command) → Lawful σ c l d → letter_by d l ≡ letter_f → d ≡ finish
-  unfolding letter_by Lawful
-  is_finish finish w e = refl
-  is_finish (draw k) w e = absurd (no_finish k.kind e)
-  is_finish (call n ts) w e = absurd (omega (arith, e))
-  is_finish (layer m) w e = absurd (omega (arith, e))
-  is_finish (start n a b) w e = absurd (omega (arith, e))
-  is_finish (delete n) w e = absurd (omega (arith, e))
-  is_finish nothing w e = absurd (w.no_finish e)
+  pub is_finish : {d : Command} → Voice σ c l vs d → l ≡ letter_f → d ≡ finish
+  is_finish (a_finish f o) e = refl
+  is_finish (a_shape {k} s) e = absurd (no_finish (scaled_shape σ k).kind (sym s.letter_is ∙ e))
+  is_finish (a_call f v n) e = absurd (omega (arith, e, f))
+  is_finish (a_layer f w n) e = absurd (omega (arith, e, f))
+  is_finish (a_start f v o m s t i) e = absurd (omega (arith, e, f))
+  is_finish (a_delete f v o) e = absurd (omega (arith, e, f))
+  is_finish (a_nothing s) e = absurd (s.no_finish e)
 
-  pub is_nothing : (d : Command) → Lawful σ c l d → steps (letter_by d l) ≡ false → (letter_by d l ≡ letter_f → ⊥) → d ≡ nothing
-  unfolding letter_by Lawful
-  is_nothing nothing w e f = refl
-  is_nothing (draw k) w e f = absurd (clash (a_step k.kind) e)
-  is_nothing (call n ts) w e f = absurd (clash refl e)
-  is_nothing (layer m) w e f = absurd (clash refl e)
-  is_nothing finish w e f = absurd (f refl)
-  is_nothing (start n a b) w e f = absurd (clash opened w.0)
-  is_nothing (delete n) w e f = absurd (clash opened w)
+  pub is_nothing : {d : Command} → Voice σ c l vs d → steps l ≡ false → (l ≡ letter_f → ⊥) → d ≡ nothing
+  is_nothing (a_nothing s) e f = refl
+  is_nothing (a_shape {k} s) e f = absurd (clash (ap steps s.letter_is ∙ a_step (scaled_shape σ k).kind) e)
+  is_nothing (a_call g v n) e f = absurd (clash (ap steps g) e)
+  is_nothing (a_layer g w n) e f = absurd (clash (ap steps g) e)
+  is_nothing (a_finish g o) e f = absurd (f g)
+  is_nothing (a_start g v i b s t j) e f = absurd (clash opened i)
+  is_nothing (a_delete g v i) e f = absurd (clash opened i)
 
 -- ---- the first command that is told
 
@@ -160,37 +159,25 @@ pub record First (σ : Standing) (c : Written) (cs : List Written) (ds : List (P
   pub command : Placed Command
   pub rest : List (Placed Command)
   pub are : ds ≡ command ∷ rest
-  pub decodes : Decodes σ c command
-  pub told : DecodesAll (after command.what σ) cs rest
+  pub voiced : Voiced σ c command
+  pub told : Told (after command.what σ) cs rest
 
-pub first-told : {σ : Standing} {c : Written} {cs : List Written} {ds : List (Placed Command)} → DecodesAll σ (c ∷ cs) ds → First σ c cs ds
-unfolding decodes_from
-first-told {σ} {c} {cs} {ds} v = go ds v.each
-  where
-    go : (ds : List (Placed Command)) → decodes_from σ (c ∷ cs) ds → First σ c cs ds
-    go [] h = absurd h
-    go (d ∷ ds) h = record { command = d; rest = ds; are = refl; decodes = h.0; told = record { each = h.1 } }
+pub first-told : {σ : Standing} {c : Written} {cs : List Written} {ds : List (Placed Command)} → Told σ (c ∷ cs) ds → First σ c cs ds
+first-told (one_told {d = d} {ds = ds} v r) = record { command = d; rest = ds; are = refl; voiced = v; told = r }
 
-pub none_told : {σ : Standing} → DecodesAll σ [] []
-unfolding decodes_from
-none_told = record { each = tt }
-
-pub none_told_of : {σ : Standing} {ds : List (Placed Command)} → DecodesAll σ [] ds → ds ≡ []
-unfolding decodes_from
-none_told_of {σ} {ds} v = go ds v.each
-  where
-    go : (ds : List (Placed Command)) → decodes_from σ [] ds → ds ≡ []
-    go [] h = refl
-    go (d ∷ ds) h = absurd h
+pub none_told_of : {σ : Standing} {ds : List (Placed Command)} → Told σ [] ds → ds ≡ []
+none_told_of none_told = refl
 
 -- a step: its words, and what is retained
-module _ {σ : Standing} {c : Written} {d : Placed Command} (v : Decodes σ c d) (o : OneStep σ (letter_in c) v.values d.what) where
+module _ {σ : Standing} {c : Written} {d : Placed Command} (v : Voiced σ c d) (o : OneStep σ (kind_by c.letter (last_letter c)) v.values d.what) where
   abbrev pub placed : Placed Step
   placed = at d.place o.step
 
   pub words_are : words_of σ.a σ.b c ≡ step_words placed
   words_are =
-      v.words ∙ ap₂ {C = List ℤ} (λ (k : ℕ) (vs : List ℤ). pos (k + 256 * length vs) ∷ pos d.place ∷ vs) o.letter_is o.values_are
+      v.words
+      ∙ ap₂ {C = List ℤ} (λ (k : ℕ) (p : ℕ). pos (k + 256 * length v.values) ∷ pos p ∷ v.values) o.letter_is v.place
+      ∙ ap (λ (vs : List ℤ). pos (letter_of_step o.step + 256 * length vs) ∷ pos d.place ∷ vs) o.values_are
 
   pub few-values : length (values_of o.step) ≤ most_values
   few-values = subst (λ (vs : List ℤ). length vs ≤ most_values) o.values_are v.few
