@@ -158,11 +158,11 @@ refused_by_records {t} {words} {records} {room} {p} {chain} = (there, back)
   where
     place_of : Outcome → ℕ
     place_of (rejected r x) = r.place
-    place_of (accepted cs c es) = 0
+    place_of (accepted _ _ _) = 0
 
     chain_of : Outcome → Chain
     chain_of (rejected r x) = x
-    chain_of (accepted cs c es) = []
+    chain_of (accepted _ _ _) = []
 
     by_case : WithRecords t words records room (rejected (refuse too_few_records p) chain) → TooFewLent t words records p chain
     by_case (the_same a) = absurd (never-21 a)
