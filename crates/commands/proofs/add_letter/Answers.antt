@@ -1,5 +1,4 @@
 -- `add_letter` meets its contract: the word is written if there is one, and the name grows.
-use borrow.Author.Rules.{rules}
 use Rattle.commands.proofs.Wording.{writes-letter}
 use Rattle.commands.proofs.add_letter.Goals as goal
 

@@ -1,5 +1,4 @@
 -- `add_number` meets its contract: the word is written, and the command goes on.
-use borrow.Author.Rules.{rules}
 use Rattle.commands.proofs.Wording.{writes-number}
 use Rattle.commands.proofs.add_number.Goals as goal
 
