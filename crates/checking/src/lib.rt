@@ -1,6 +1,7 @@
 // The check of a CIF text's commands by a running account: `checked` finds the first of refusals 3 to 9 in one pass. It takes any bytes: where a text
 // leaves the grammar it has no more pieces, and so no more commands. That the account is the definition's is proved in reading, above.
 #![tactic(auto)]
+
 ghost use Rattle.std.specs.Prelude.{◌≡◌, true, false, ◌+◌, ◌≤◌};
 ghost use Rattle.grammar.specs.Steps.{KindsLent, NextLent};
 ghost use Rattle.pieces.specs.Pieces.{farthest, too_large, stream, start};

@@ -19,7 +19,6 @@ use mir.Facts.{to_z-of_z, to_z_pos}
 use Rattle.grammar.specs.Notation.{skip, lead, stop, head}
 use Rattle.grammar.specs.Steps.{choose, inside, number}
 use borrow.Author.Tests.{eq-eqb, ne_eqb}
-use Rattle.definition.specs.Words.{if◌then◌else◌}
 use Rattle.pieces.specs.Pieces.{stream, behind, inside_after, begun, numeral_of, Fit, Step, Begins}
 use Rattle.pieces.specs.declared.Spot.{Spot}
 use Rattle.pieces.specs.declared.Begun.{Begun}

@@ -15,7 +15,6 @@ use Rattle.grammar.specs.declared.Verdict.{Verdict}
 use Rattle.grammar.specs.declared.Verdict.TheVariants.{InGrammar, StuckAt}
 use Rattle.grammar.proofs.Markings.{marking_is, one_marking}
 use Rattle.grammar.proofs.Verdicts.{Bytes, judged}
-use Rattle.grammar.proofs.Unique
 use Rattle.grammar.proofs.Unique.{one_length}
 use Rattle.definition.specs.Limits.{most_bytes}
 use Rattle.definition.specs.Words.{if◌then◌else◌}

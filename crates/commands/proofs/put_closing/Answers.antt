@@ -1,6 +1,5 @@
 -- `put_closing` meets its contract: one return for each kind of command.
 use borrow.Author.Tests.{eq-eqb, ne_eqb}
-use borrow.Author.Rules.{rules}
 use Rattle.commands.specs.Words.{closing}
 use Rattle.commands.proofs.Wording.{nothing, same_words}
 use Rattle.commands.proofs.put_closing.Goals as goal

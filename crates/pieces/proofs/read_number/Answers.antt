@@ -1,8 +1,6 @@
 -- `read_number` meets its contract: Digits holds at each byte, and what is left of the text falls.
 use mathlib.Core.Path.{sym, ◌∙◌, subst}
-use Prim.Native.Nat.{ℕ, ◌-◌}
-use borrow.Author.Rules.{rules}
-use lib.ListN.{length}
+use Prim.Native.Nat.{ℕ}
 use Rattle.pieces.proofs.Digits.{Digits, digits-start, digits-next, digits-ended, digits_other, numeral-ended, numeral_other}
 use Rattle.pieces.proofs.read_number.Goals as goal
 

@@ -1,7 +1,6 @@
 -- `scaled` meets its contract: equal a and b change nothing, and only distances are scaled.
 use mathlib.Core.Path.{sym, ◌∙◌}
 use Rattle.rules.proofs.Scaling.{scaled_equal, scaled_distant, scaled_other}
-use borrow.Author.Rules.{rules}
 use Rattle.rules.proofs.scaled.Goals as goal
 
 pub returns-then-a-b : goal.returns-then-a-b
