@@ -1,5 +1,6 @@
 // One shape drawn: refusals 16, 20 and 17, or its lines (RULES 8). And what every function that draws takes and gives: the pen, and the answer.
 #![tactic(auto)]
+
 ghost use Rattle.std.specs.Prelude.{◌≡◌, ◌^◌, ◌<◌, ◌≤◌, pos, nat_abs, length, get_or};
 ghost use Rattle.turns.specs.Nets.{Near};
 ghost use Rattle.moves.specs.Moves.{ShapedAt};
