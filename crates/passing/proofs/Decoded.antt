@@ -29,7 +29,7 @@ use Rattle.pieces.specs.Pieces.{start as text_start}
 use Rattle.pieces.specs.declared.Piece.{Piece}
 use Rattle.pieces.proofs.Spots.{start-pieces}
 use Rattle.rules.specs.Letters.{letter_c, letter_d, letter_l}
-use Rattle.rules.specs.Written.{Written, written, letters, last_of, last_letter, inside_behind}
+use Rattle.rules.specs.Written.{Written, written, letters, last_of, inside_behind}
 use Rattle.commands.specs.Words.{signed, words_of}
 use Rattle.checking.specs.declared.Scope.{Scope}
 use Rattle.reading.proofs.Says.{tells, Says, Idle}

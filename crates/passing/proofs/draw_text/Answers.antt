@@ -1,6 +1,5 @@
 -- `draw_text` meets its contract: `Passing` holds before each command, and what is left of the text falls.
 use mathlib.Core.Path.{sym, ◌∙◌}
-use Prim.Native.Nat.{◌-◌}
 use native.Mathlib.Omega.{arith}
 use borrow.Author.Rules.{rules}
 use Rattle.passing.proofs.Reading.{read_one}
