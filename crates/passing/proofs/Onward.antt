@@ -12,7 +12,7 @@ use Rattle.definition.specs.Limits.{most_definitions}
 use Rattle.definition.specs.Words.{Placed, at}
 use Rattle.definition.specs.Rules.{too_many_definitions, too_few_words, refuse}
 use Rattle.definition.specs.Commands.{Number, Command, layer, delete}
-use Rattle.definition.specs.Standing.{Standing, outside, after}
+use Rattle.definition.specs.Standing.{Standing, after}
 use Rattle.definition.specs.Table.{Step, Definition, Table, enter}
 use Rattle.definition.specs.Drawing.{Deed, output, define, remove, deeds, Chain, Event, entered, removed, refused, happens, table_after, story}
 use Rattle.definition.specs.Counts.{counted, shapes_of}

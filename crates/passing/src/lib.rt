@@ -1,6 +1,7 @@
 // The pass over a text: definitions are decoded once, into the words lent, by crate keeping, and all else outside them is drawn (RULES 8), by crate
 // engine, from these words.
 #![tactic(auto)]
+
 ghost use Rattle.std.specs.Prelude.{◌+◌, ◌≤◌, ◌^◌, ◌<◌, ◌≡◌, length};
 ghost use Rattle.grammar.specs.Steps.{KindsLent, NextLent};
 ghost use Rattle.moves.specs.Moves.{most_values};

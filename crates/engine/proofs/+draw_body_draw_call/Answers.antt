@@ -6,7 +6,6 @@ use Rattle.turns.proofs.Nets.{near-more}
 use Rattle.chain.proofs.Runs.{kept-both}
 use Rattle.engine.proofs.Calls.{answered_descent, row_live, call-stopped, body_there, ready-below, body-drawn, kept_here}
 use Rattle.engine.proofs.Underway.{started, reached-here, ready-here, was_all, two_more, met, layer_asked, was_layer, shape_asked, was_shape, shape-refused, call_asked, call-near, was_call, call-refused}
-use Prim.Native.Nat.{◌-◌}
 use Rattle.engine.proofs.+draw_body_draw_call.Goals as goal
 
 pub draw_body-loop-at-init : goal.draw_body-loop-at-init

@@ -2,7 +2,6 @@
 -- keeps what is left of its calls (proofs/Kept.antt).
 use mathlib.Core.Path.{refl}
 use mathlib.Core.List.{◌∷◌}
-use Prim.Native.Nat.{◌-◌}
 use native.Mathlib.Omega.{arith}
 use Rattle.heights.proofs.Nexts.{all_left}
 use Rattle.heights.proofs.Kept.{row_low, next_is, starts, all_done, ready_on, opened_on, barred, went_on, refused_says, known-says, untried, inside, ready-inside, body_refused, low-enough, finished}
