@@ -47,7 +47,7 @@ loop-s-smaller c = falls c.loop-s.invariant c.loop-s-test.true refl c.turn-s.ens
 -- src/lib.rt:44:5
 
 pub loop-s-preserved : goal.loop-s-preserved
-loop-s-preserved c = goes_on c.loop-s.invariant c.loop-s-test.true refl c.turn-s.ensures c.turn-s.auto.1.1.0 c.turn-s.auto.1.1.1.0
+loop-s-preserved c = goes_on c.loop-s.invariant c.loop-s-test.true refl c.turn-s.ensures c.turn-s.auto.bodies c.turn-s.auto.room
 
 -- src/lib.rt:30:1
 
