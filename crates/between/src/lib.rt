@@ -1,6 +1,7 @@
 // What a text draws between two executable calls, for an engine that keeps its open calls itself: from where it stands up to the next call that is opened, to its
 // end, or to a refusal (RULES 8). Definitions are decoded on the way, by crate keeping, into the words lent.
 #![tactic(auto)]
+
 ghost use Rattle.std.specs.Prelude.{◌≡◌, List, ℕ, ◌+◌, ◌≤◌, length};
 ghost use Rattle.grammar.specs.Steps.{KindsLent, NextLent};
 ghost use Rattle.definition.specs.Table.{Step};

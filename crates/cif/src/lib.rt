@@ -45,7 +45,7 @@ pub extern "C" fn cif_flatten(
     *answer = answer::words(given);
 }
 
-// What a host is told of an answer. A function of its own, since the one below is proved by hand and this is not.
+// What a host is told of an answer.
 fn tell(answer: &mut [u64; answer::WORDS], told: Answer)
     ensures { answer.new ≡ answer_words told }
 {

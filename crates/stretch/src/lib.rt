@@ -1,6 +1,7 @@
 // What a body draws between two calls, for an engine that keeps its open calls itself: from where it stands up to the next call that is opened, to its end, or to
 // a refusal (RULES 8). Nothing here calls itself. Refusal 21 (RULES 8, request 7) stands here, after 11 to 14 and before 15.
 #![tactic(auto)]
+
 ghost use Rattle.std.specs.Prelude.{◌≡◌, ℕ, ◌-◌, ◌*◌, ◌^◌, ◌<◌, ◌≤◌, pos, nat_abs, length, get_or};
 ghost use Rattle.definition.specs.Limits.{deepest};
 ghost use Rattle.turns.specs.Nets.{Near};
