@@ -18,7 +18,7 @@ use Rattle.rules.specs.Letters.{no_refusal, byte_unit, first_unit}
 use Rattle.rules.specs.Written.{Written, items_of, stops, written_at, written, Figure, figures, letters, size_at, last_of, packed_by, one, turning, turns_of}
 use Rattle.rules.specs.Rules.{shapely, distance, scaled_by, rounded_by, vital, scaleless, few, bare, many, number_refusal, whole_refusal}
 use Rattle.checking.specs.Account.{layer_of, refusal, Blame, blame, when, of_number, of_numbers, of_whole, blames, sooner, foremost, fault_by, scope_by, scope_after, rounded_of, fault_from}
-use Rattle.checking.specs.Along.{lower, blamed, kept, fresh, begun, idle, counted, with_letter, after_doing, finished, onward, runs}
+use Rattle.checking.specs.Along.{lower, blamed, kept, fresh, begun, idle, counted, worded, after_doing, finished, onward, runs}
 use Rattle.checking.specs.declared.Scope.{Scope}
 use Rattle.checking.specs.declared.Doing.{Doing}
 use Rattle.checking.specs.declared.Ended.TheVariants.{Then, Broken}
@@ -190,8 +190,8 @@ number_is s c p σ n xs cs h =
     (size_at-kept c.b n 2 xs c.word c.count (eqb n 0)) (rounded-next s c p σ n xs)
     ∙ said-number s c.place c.letter (so_far c) f ns _ _ _ _ _ _ _ cs k refl h
 
-letter_is : (s : Scope) (c : Doing) (b : ℕ) (xs : List Piece) (cs : List Written) → within s (with_letter c b) xs cs ≡ within s c (Word b ∷ xs) cs
-unfolding said_of with_letter figures letters last_of turns_of packed_by
+letter_is : (s : Scope) (c : Doing) (b : ℕ) (xs : List Piece) (cs : List Written) → within s (worded c b) xs cs ≡ within s c (Word b ∷ xs) cs
+unfolding said_of worded figures letters last_of turns_of packed_by
 letter_is s c b xs cs = rw (add_assoc c.turns (one (turning b)) (turns_of (letters xs)), add_assoc c.name (b * c.unit) (packed_by (c.unit / byte_unit) (letters xs)))
 
 -- the second letter of a D command is taken as any other
@@ -266,18 +266,18 @@ unfolding fresh
 idle-rounded s k ps = ap (λ (j : ℕ). fault_from s j (written ps)) (let e = none_rounded s 0 0 false (items_of ps) in omega arith)
 
 runs_is : (ps : List Piece) (s : Scope) (c : Doing) → c.no ≤ no_refusal → runs ps s c ≡ target ps s c
-unfolding runs items_of stops written fresh counted with_letter figures
+unfolding runs items_of stops written fresh counted worded figures
 runs_is [] s c h = closes s c (λ t. Clear c.rounded) [] h (none_left c.rounded) c.busy refl
 runs_is (First p b ∷ xs) s c h =
     closes s c (λ t. runs xs t (begun p b c.rounded)) (written_at p b xs ∷ written xs) h
     (λ t. runs_is xs t (begun p b c.rounded) (omega arith) ∙ begun_is t p b c.rounded (items_of xs) (stops xs) (written xs)) c.busy refl
 runs_is (Second b ∷ xs) s c h =
-    runs_is xs s (with_letter c b) h
+    runs_is xs s (worded c b) h
     ∙ inner c.busy _ _ _ _ (letter_is s c b (items_of xs) (written xs) ∙ second_is s c b (items_of xs) (written xs)) refl
 runs_is (Number p σ n ∷ xs) s c h =
     runs_is xs s (counted s c p n) (no_le _ c.no h)
     ∙ inner c.busy _ _ _ _ (number_is s c p σ n (items_of xs) (written xs) h) (ap (λ (k : ℕ). fault_from s k (written xs)) (rounded-next s c p σ n (items_of xs)))
-runs_is (Word b ∷ xs) s c h = runs_is xs s (with_letter c b) h ∙ inner c.busy _ _ _ _ (letter_is s c b (items_of xs) (written xs)) refl
+runs_is (Word b ∷ xs) s c h = runs_is xs s (worded c b) h ∙ inner c.busy _ _ _ _ (letter_is s c b (items_of xs) (written xs)) refl
 runs_is (Stop ∷ xs) s c h =
     closes s c (λ t. runs xs t (idle c.rounded)) (written xs) h (λ t. runs_is xs t (idle c.rounded) (omega arith) ∙ idle-rounded t c.rounded xs) c.busy refl
 
