@@ -1,6 +1,7 @@
 // Two texts joined (RULES 18, request 14): the first cut at its E, then `DD0;`, then the second. `join` writes the joined text into a lent room, or says which of the two is
 // refused and why. That two accepted texts are accepted together and draw one list after the other is proved in joining.
 #![tactic(auto)]
+
 ghost use Rattle.std.specs.Prelude.{◌≡◌, ◌+◌, ◌≤◌, length, take};
 ghost use Rattle.definition.specs.Limits.{most_bytes};
 ghost use Rattle.joining.specs.Joined.{joined};

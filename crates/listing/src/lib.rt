@@ -1,6 +1,7 @@
 // What the list program prints (RULES 13), from the answer, the flat file and, for its warnings, the text. The flat file is read once, byte by
 // byte: a shape's line is copied after its count and its layer, and its points are taken into the window, which crate lines keeps.
 #![tactic(auto)]
+
 ghost use Rattle.std.specs.Prelude.{◌≡◌, ◌∷◌, [], ◌+◌, ◌^◌, ◌≤◌, pos, length, take};
 ghost use Rattle.definition.specs.Flat.{decimal};
 ghost use Rattle.digits.specs.Writes.{Writes};

@@ -34,7 +34,7 @@ use Rattle.shapes.specs.declared.Ink.{Ink}
 use Rattle.shapes.specs.declared.Drawn.{Drawn}
 use Rattle.shapes.specs.declared.Drawn.TheVariants.{Done, Refused}
 use Rattle.shapes.specs.Painting.{inked, Painted}
-use Rattle.shapes.proofs.Painting.{Going, begun, so_far, goes_on, skips, stops, over, quiet, refusal}
+use Rattle.shapes.proofs.Painting.{PaintedSoFar, begun, so_far, goes_on, skips, stops, over, quiet, refusal}
 use Rattle.shapes.proofs.Alike.{alike_painted}
 use Rattle.library.specs.Memory.{row_numbers}
 use Rattle.library.proofs.Holding.{held-table}
@@ -52,7 +52,7 @@ use Rattle.passing.proofs.Redefinitions.{painted_same}
 pub record Onward (t : List ℕ) (w : ℕ) (all : List Event) (room₀ : List ℕ) (rows : List ℕ) (b : List ℤ) (stock : Stock) (spot : Spot) (layer : ℕ) (ink : Ink) (room : List ℕ) : Type 0 where
   pub stands : Stands t rows b stock spot
   pub layer_is : name_of layer ≡ stands.standing.layer_set
-  pub going : Going (map (held_to w) all) dry room₀ (map (held_to w) (story stands.table (to_do stands))) ink room
+  pub going : PaintedSoFar (map (held_to w) all) dry room₀ (map (held_to w) (story stands.table (to_do stands))) ink room
 
 pub start-text : {t : List ℕ} (p : Passed t) (w : ℕ) (room rows : List ℕ) (b : List ℤ) → length rows ≡ row_numbers → length b ≤ most_words
     → Onward t w (to_draw p) room rows b nothing_kept text_start 0 dry room
@@ -86,7 +86,7 @@ module _ {t : List ℕ} {w : ℕ} {all : List Event} {room₀ rows : List ℕ} {
   Next rows' b' stock' to l' ink' room' = Onward t w all room₀ rows' b' stock' to l' ink' room'
 
   abbrev After : Table → List Deed → Ink → List ℕ → Type 0
-  After table ds ink' room' = Going (map (held_to w) all) dry room₀ (map (held_to w) (story table ds)) ink' room'
+  After table ds ink' room' = PaintedSoFar (map (held_to w) all) dry room₀ (map (held_to w) (story table ds)) ink' room'
 
   -- no command is left
   pub text_out : written (stream t spot) ≡ [] → {chain : Chain} → Painted dry (map (held_to w) all) room₀ chain (Done ink) room

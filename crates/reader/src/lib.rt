@@ -1,6 +1,7 @@
 // The reader (RULES 1): `flatten` answers of any text, any words lent and any room. Refusals 1 and 18 stand here, 2 to 9 in
 // reading, 10 to 17, 20 and 25 in passing and the crates below it; crate answer makes the answer of each.
 #![tactic(auto)]
+
 ghost use Rattle.std.specs.Prelude.{◌≡◌, ◌∷◌, [], ◌^◌, ◌≤◌, length};
 ghost use Rattle.std.proofs.lemmas.List.Edits.{sets};
 ghost use Rattle.definition.specs.Rules.{flat_file_too_long, refuse};

@@ -31,7 +31,7 @@ use Rattle.counts.specs.declared.Counts.{Counts}
 use Rattle.counts.specs.Counting.{tally, zero_counts}
 use Rattle.moves.specs.Moves.{most_values}
 use Rattle.digits.specs.Writes.{Writes}
-use Rattle.digits.proofs.Writing.{Going, begun, goes_on, over, same_bytes}
+use Rattle.digits.proofs.Writing.{WrittenSoFar, begun, goes_on, over, same_bytes}
 use Rattle.library.specs.Memory.{row_numbers, needed_in}
 use Rattle.library.specs.Sound.{Stocked}
 use Rattle.library.specs.Rows.{Sorted}
@@ -131,7 +131,7 @@ pub record Along (t : List ℕ) (w : ℕ) (words₀ : List ℤ) (old : List ℕ)
   pub words_kept : length words ≡ length words₀
   pub few : counts.redefinitions ≤ spot.at
   pub searched : known ≡ true → Searched rows b stock.live found
-  pub going : Going old out from at (warned_of w passed) (warned_from w stands.table (to_do stands))
+  pub going : WrittenSoFar old out from at (warned_of w passed) (warned_from w stands.table (to_do stands))
   pub near : at + dear (to_do stands) ≤ from + dear (deeds (outside []) (commands 0 passed.letters))
 
 never : ◌≡◌ {A = Bool} false true → ⊥
@@ -201,7 +201,7 @@ module _ {t : List ℕ} {w : ℕ} {words₀ : List ℤ} {old : List ℕ} {from :
       words_kept = run_kept r ∙ u.words_kept;
       few = omega (arith, u.few, r.ahead);
       searched = u.searched;
-      going = subst (λ (l : List ℕ). Going old out from at' (warned_of w u.passed) l) (f ∙ ap (λ (x : Table). warned_from w x (to_do s')) (sym e)) u.going;
+      going = subst (λ (l : List ℕ). WrittenSoFar old out from at' (warned_of w u.passed) l) (f ∙ ap (λ (x : Table). warned_from w x (to_do s')) (sym e)) u.going;
       near = let h = u.near in omega (arith, h, g);
     }
 

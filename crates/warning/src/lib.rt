@@ -1,6 +1,7 @@
 // The warnings of a text (RULES 13, request 1), by a pass that enters and deletes as the drawing does, and draws nothing: a line for each, in the order of their
 // commands. What is live is asked of crate dangling, and not again before the table changes.
 #![tactic(auto)]
+
 ghost use Rattle.std.specs.Prelude.{◌≡◌, true, ◌+◌, ◌^◌, ◌≤◌, length};
 ghost use Rattle.grammar.specs.Steps.{KindsLent, NextLent};
 ghost use Rattle.moves.specs.Moves.{most_values};

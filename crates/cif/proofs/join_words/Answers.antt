@@ -1,11 +1,6 @@
 -- `join_words` meets its contract: the words of a success with its length, or of a refusal.
 use mathlib.Core.Path.{ap, sym, ◌∙◌}
-use Rattle.definition.specs.Answer.{success}
-use Rattle.counts.specs.declared.Counts.{Counts}
-use Rattle.counts.specs.Counting.{tally}
-use Rattle.answer.specs.Words.{answer_words}
 use Rattle.cif.specs.Told.{words_of_join}
-use borrow.Author.Rules.{rules}
 use Rattle.cif.proofs.join_words.Goals as goal
 
 pub returns-in-Written : goal.returns-in-Written

@@ -3,13 +3,7 @@ use native.Mathlib.Omega.{arith}
 use Rattle.definition.specs.Words.{bytes_of}
 use Rattle.listing.specs.Account.{heading}
 use Rattle.digits.proofs.Writing.{both}
-use borrow.Author.Rules.{rules}
 use Rattle.listing.proofs.put_heading.Goals as goal
-
--- UNTURNED: 7 needs are listed, and 6 are named
-
-slice-aggregate-put-bytes : tie.Need-slice-aggregate-put-bytes
-slice-aggregate-put-bytes c = search rules
 
 pub returns : goal.returns
 unfolding bytes_of heading

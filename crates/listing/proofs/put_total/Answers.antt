@@ -4,13 +4,7 @@ use Rattle.definition.specs.Words.{bytes_of}
 use Rattle.listing.specs.Account.{total_line}
 use Rattle.definition.specs.Listing.{fields}
 use Rattle.digits.proofs.Writing.{both}
-use borrow.Author.Rules.{rules}
 use Rattle.listing.proofs.put_total.Goals as goal
-
--- UNTURNED: 8 needs are listed, and 7 are named
-
-slice-aggregate-put-bytes : tie.Need-slice-aggregate-put-bytes
-slice-aggregate-put-bytes c = search rules
 
 pub returns : goal.returns
 unfolding bytes_of total_line fields
