@@ -45,7 +45,7 @@ pub extern "C" fn cif_flatten(
     *answer = answer::words(given);
 }
 
-// What a host is told of an answer. A function of its own, since the one below is proved by hand and this is not.
+// What a host is told of an answer.
 fn tell(answer: &mut [u64; answer::WORDS], told: Answer)
     ensures { answer.new ≡ answer_words told }
 {
@@ -119,7 +119,7 @@ fn join_words(first: &[u8], second: &[u8], made: JoinAnswer) -> [u64; answer::WO
     ensures { result ≡ words_of_join first.now second.now made }
 {
     match made {
-        JoinAnswer::Joined(length) => answer::words(answer::accepted(
+        JoinAnswer::Written(length) => answer::words(answer::accepted(
             length,
             counts::no_counts(),
             0,

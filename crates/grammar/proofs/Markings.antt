@@ -65,11 +65,9 @@ joined : (u v : List Letter) {w : List Letter} → Below 128 u → Below 128 v �
 joined u v f g e = subst (Below 128) (sym e) (go u f)
   where
     go : (u : List Letter) → Below 128 u → Below 128 (u ++ v)
-    go [] f = g
-    go (l ∷ u) f = λ i. elim i [
-      | zero ↦ f 0
-      | suc j ↦ go u (λ k. f (suc k)) j
-    ]
+    go [] f i = g i
+    go (l ∷ u) f zero = f 0
+    go (l ∷ u) f (suc j) = go u (λ k. f (suc k)) j
 
 of_letter : (ρ : Role) (c : Class) (l : Letter) → T (is ρ c l) → Below 128 (l ∷ [])
 unfolding is

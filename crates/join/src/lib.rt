@@ -24,7 +24,7 @@ const NEITHER: usize = 0;
 // What comes of two texts: how long the joined text is that now stands in the room; or a refusal, and which text it is about.
 #[derive(Clone, Copy)]
 pub enum JoinAnswer {
-    Joined(usize),
+    Written(usize),
     NotJoined(Refusal, usize),
 }
 
@@ -87,7 +87,7 @@ fn join_sound(first: &[u8], second: &[u8], room: &mut [u8]) -> JoinAnswer
     if definition::MOST_BYTES < length {
         return refused(NEITHER, 18, 0);
     }
-    JoinAnswer::Joined(write(first, end, second, room))
+    JoinAnswer::Written(write(first, end, second, room))
 }
 
 // Both texts are short enough: each is judged by the grammar.

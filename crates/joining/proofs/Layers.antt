@@ -157,14 +157,14 @@ faultless_under h [] e = refl
 faultless_under {s} {t} h (c ∷ cs) e =
     let first = nil-left (faults s c) _ e in
     ap₂ {C = List Refusal} (λ (x y : List Refusal). x ++ y) (faults-same h c (layered s c first) ∙ first)
-    (faultless_under (after_covers c.what h) cs (nil-right (faults s c) _ e))
+    (faultless_under {s = after c.what s} {t = after c.what t} (after_covers c.what h) cs (nil-right (faults s c) _ e))
 
 pub retained_under : {s t : Standing} → Covers s t → (cs : List (Placed Command)) → all_faults s cs ≡ [] → retained s cs ≡ retained t cs
 unfolding all_faults retained
 retained_under h [] e = refl
 retained_under {s} {t} h (c ∷ cs) e =
     let steps = step_same h c.what (layered s c (nil-left (faults s c) _ e)) in
-    let rest = retained_under (after_covers c.what h) cs (nil-right (faults s c) _ e) in
+    let rest = retained_under {s = after c.what s} {t = after c.what t} (after_covers c.what h) cs (nil-right (faults s c) _ e) in
     λ i. if h.same-inside i then map (at c.place) (steps i) ++ rest i else []
 
 deed_under : {s t : Standing} → Covers s t → (p : ℕ) (c : Command) (cs : List (Placed Command)) → layerless s c ≡ false → all_faults (after c s) cs ≡ []
@@ -186,11 +186,12 @@ deeds_under h [] e = refl
 deeds_under {s} {t} h (c ∷ cs) e =
     let rest = nil-right (faults s c) _ e in
     ap₂ {C = List Deed} (λ (x y : List Deed). x ++ y) (deed_under h c.place c.what cs (layered s c (nil-left (faults s c) _ e)) rest)
-    (deeds_under (after_covers c.what h) cs rest)
+    (deeds_under {s = after c.what s} {t = after c.what t} (after_covers c.what h) cs rest)
 
 -- as many of its distances are rounded
 pub rounded_under : {s t : Standing} → Covers s t → (cs : List (Placed Command)) → rounded_from s cs ≡ rounded_from t cs
 unfolding rounded_from
 rounded_under h [] = refl
-rounded_under h (c ∷ cs) =
-    ap₂ {C = ℕ} (λ (x : List Number) (y : ℕ). length x + y) (ragged-same h c.what) (rounded_under (after_covers c.what h) cs)
+rounded_under {s} {t} h (c ∷ cs) =
+    ap₂ {C = ℕ} (λ (x : List Number) (y : ℕ). length x + y) (ragged-same h c.what)
+    (rounded_under {s = after c.what s} {t = after c.what t} (after_covers c.what h) cs)

@@ -1,4 +1,4 @@
--- A body decoded command by command: `keep_body` keeps `KeptSoFar`. Where a command does not fit though the live bodies stand together, the live definitions
+-- A body decoded command by command: `keep_body` keeps `Going`. Where a command does not fit though the live bodies stand together, the live definitions
 -- need more words than are lent.
 -- Assumes nothing.
 use mathlib.Core.Path.{◌≡◌, refl, sym, ap, ◌∙◌, subst}
@@ -27,7 +27,7 @@ use Rattle.library.proofs.Holding.{stored-within}
 use Rattle.keeping.specs.declared.Stored.{Stored}
 use Rattle.keeping.specs.declared.Stored.TheVariants.{More, Last, Tight}
 use Rattle.keeping.specs.declared.Body.TheVariants.{Whole, Lacking}
-use Rattle.keeping.specs.Words.{DecodesAll}
+use Rattle.keeping.specs.Voices.{Told}
 use Rattle.keeping.specs.Growth.{with_body, Adds, Within, Ready, Keeps, KeepsMore, KeepsLast, KeepsTight, KeepsBy, KeepsCommand, KeepsBodyBy, KeepsBody}
 use Rattle.keeping.proofs.Growing.{adds_none, adds_together, adds_then, enter-more}
 use Rattle.keeping.proofs.Onward.{within_same}
@@ -45,7 +45,7 @@ pub never_again : unmoved true ≡ 0
 unfolding unmoved
 never_again = refl
 
-pub record KeptSoFar (t : List ℕ) (from : Spot) (a b : ℕ) (rows₀ : List ℕ) (words₀ : List ℤ) (live row : ℕ) (rows : List ℕ) (words : List ℤ) (spot : Spot) (used : ℕ) (layered moved : Bool) : Type 0 where
+pub record Going (t : List ℕ) (from : Spot) (a b : ℕ) (rows₀ : List ℕ) (words₀ : List ℤ) (live row : ℕ) (rows : List ℕ) (words : List ℤ) (spot : Spot) (used : ℕ) (layered moved : Bool) : Type 0 where
   pub fit : Fit t spot
   pub ahead : from.at ≤ spot.at
   pub size : length words ≡ length words₀
@@ -54,7 +54,7 @@ pub record KeptSoFar (t : List ℕ) (from : Spot) (a b : ℕ) (rows₀ : List �
   keeps : (σ : Standing) (cs : List (Placed Command)) → Within t from a b rows₀ words₀ row σ cs → Keeps t spot a b rows₀ words₀ live row σ cs rows words used layered
 
 pub going_start : {t : List ℕ} {from : Spot} {a b : ℕ} {rows : List ℕ} {words : List ℤ} {live row used : ℕ} → Ready t from a b rows words live row used false → Fit t from
-    → KeptSoFar t from a b rows words live row rows words from used false false
+    → Going t from a b rows words live row rows words from used false false
 going_start {words = words} g f = record {
   fit = f;
   ahead = omega arith;
@@ -95,10 +95,10 @@ adds_still {rows} {b} {live} {i} {ss} {rows'' = rows''} {b'' = b''} {used'' = us
     subst (λ (l : List (Placed Step)). Adds rows b live i l rows'' b'' used'' y) (append-nil ss) (adds_then f g)
 
 module _ {t : List ℕ} {from : Spot} {a b : ℕ} {rows₀ : List ℕ} {words₀ : List ℤ} {live row : ℕ} {rows : List ℕ} {words : List ℤ} {spot : Spot} {used : ℕ} {layered moved : Bool}
-    (g : KeptSoFar t from a b rows₀ words₀ live row rows words spot used layered moved) where
+    (g : Going t from a b rows₀ words₀ live row rows words spot used layered moved) where
   -- one command further
   pub going_on : {r : Stored} {rows' : List ℕ} {words' : List ℤ} → KeepsCommand t spot a b rows words live row used layered r rows' words' → {used' : ℕ} {layered' : Bool} {to : Spot}
-      → r ≡ More used' layered' to → KeptSoFar t from a b rows₀ words₀ live row rows' words' to used' layered' false
+      → r ≡ More used' layered' to → Going t from a b rows₀ words₀ live row rows' words' to used' layered' false
   going_on k e =
       let m = as_more k e in
       record {
@@ -134,8 +134,8 @@ module _ {t : List ℕ} {from : Spot} {a b : ℕ} {rows₀ : List ℕ} {words₀
         record { few = l.few; sized = l.sized; within = λ i h z. let w = l.within i h z in omega (arith, f); apart = l.apart }
 
     -- the bodies are moved together, and it is tried again
-    pub going-moved : {used'' : ℕ} {rows'' : List ℕ} {words'' : List ℤ} → Compacted rows' words' live used'' rows'' words'' → KeptSoFar t from a b rows₀ words₀ live row rows'' words'' spot used'' layered true
-    going-moved {used''} {rows''} {words''} c = record {
+    pub going_moved : {used'' : ℕ} {rows'' : List ℕ} {words'' : List ℤ} → Compacted rows' words' live used'' rows'' words'' → Going t from a b rows₀ words₀ live row rows'' words'' spot used'' layered true
+    going_moved {used''} {rows''} {words''} c = record {
       fit = g.fit;
       ahead = g.ahead;
       size = c.size ∙ (k.size ∙ g.size);
@@ -216,7 +216,7 @@ module _ {t : List ℕ} {from : Spot} {a b : ℕ} {rows₀ : List ℕ} {words₀
               let p = l.passes x.standing x.commands x.within in
               record {
                 rest = p.rest;
-                told = subst (λ (y : List ℕ). DecodesAll (outside y) (written (stream t to)) p.rest) x.same_outside p.told;
+                told = subst (λ (y : List ℕ). Told (outside y) (written (stream t to)) p.rest) x.same_outside p.told;
                 left = x.left ∙ (p.left ∙ ap (λ (y : List ℕ). deeds (outside y) p.rest) x.same_outside);
               };
         };

@@ -12,7 +12,7 @@ ghost use Rattle.reader.specs.Screened.{Screened, Rounds, Comes, held_lines};
 use checking::Fault;
 use counts::Counts;
 use definition::{Answer, Refusal};
-use shapes::DrawEnd;
+use shapes::Drawn;
 
 // How long the flat file's last line is: `E` and byte 10.
 const LAST_LINE: usize = 2;
@@ -51,8 +51,8 @@ fn flatten_passed(
 {
     let mut drawing = [0usize; chain::RUN];
     match passing::draw(text, words, &mut drawing, scrap) {
-        DrawEnd::Refused(refusal) => answer::refused(text, refusal, &drawing, counts::no_counts()),
-        DrawEnd::Done(ink) => {
+        Drawn::Refused(refusal) => answer::refused(text, refusal, &drawing, counts::no_counts()),
+        Drawn::Done(ink) => {
             let counted = ink.counts;
             let end = ink.pen.at;
             let length = end + LAST_LINE;

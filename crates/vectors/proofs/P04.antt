@@ -158,7 +158,7 @@ rows-6 =
     ∷ in_calls (33 ∷ []) (on_line 4 4 (refused_in 65536 "LQ;\r\nR1 0 0;\r\nDS4;\nLA;R1 1 1;DF;\nC4T0 16777215;DS77;\nLA;\r\nR1 1 0;DF;\n  C77T16777215 0;\n  LQ;\nE" 20 22))  -- random 32
     ∷ on_line 4 13 (refused_in 65536 "LND ; L0;(9aDF;\n DF\n\n9);DS0 7 3;DS77;\nLA;\n  R1 1 0;DF;\nC77T0 16777215;\nL ND; (9;E(DFE- )(DF));(a);LCM;\n  DF;LND ;R2535 285 -16777215;\n DS9 16777215 1 ;\n\nL0;;\n  (DF;\n9\n a\n 9\0\n;);DF;R429 0 -16777214;E" 2 33)  -- random 33
     ∷ accepted_in 65536 "L~#\u{7f}ABCD`;\nDaS9 50K2 ;\n   ~\nL ZZZZ;^_L ND; B6 82 14 -104 9 -6;\n D F;\nD@D  8;,*D S7 ;\nLNP ;\n DF;\n/C 7={\u{7f};DSxyz+ 2 2 1;LABCD;\n(;DF\nE\nE);\n\nL9Z;W9 24@-22 16 -31 ;\n\n\nDF;\r\nC7MY=T`_-14245 -8388608~\0;\nRK`\t824 9 8 ;\r\nDS0\u{7f}/\02 01;\u{1b}DF;\r\nB361,03431 0U16777214;R 66 -12935:\0233;E" 3 2 0 "LABCD;\nR824 9 8;\nB361 3431 0 16777214 1 0;\nR66 -12935 233;\nE\n"  -- random 36
-    ∷ on_line 6 1 (refused_in 4096 "\"'L,CM@#;R16762 9 0;\n\nC999;\" a_c7_m XMXMX~T:I-98 -0093\n#;R5 -227 2;C16777215R-0 0T-120 12028'\n/T -00X 10894MX;\r\n" 2 110)  -- random 37
+    ∷ on_line 6 1 (refused_in 4096 "\"'L,CM@#;R16762 9 0;\n\nC999;\" aC7M XMXMX~T:I-98 -0093\n#;R5 -227 2;C16777215R-0 0T-120 12028'\n/T -00X 10894MX;\r\n" 2 110)  -- random 37
     ∷ accepted_in 65536 "^L+ =0001\u{b}\u{7f}oo;\n. R7941\0R -2 -002553 ;\n  LNP@;\n\t;D=S05J2 001 a\r\n;\n  \"L0001*;\n  \nDF\u{1b},+;oo#\u{b}R000000000190T -16722\txyz0;\r\n,`DSU4K\u{1b} 1D001;L0;\nCX5 ;\"\u{1b}~D[F;\na(9EE9DF\0-DFDFa\n;)\n;\n E  {+" 2 0 0 "L0001;\nR7941 -2 -2553;\nLNP;\nR190 -16722 0;\nE\n"  -- random 38
     ∷ accepted_in 2 "E" 0 0 0 "E\n"  -- random 42
     ∷ refused_in 2 " LABCD;C1R1 1;E" 11 7  -- random 43
@@ -181,18 +181,18 @@ rows-7 =
     ∷ refused_in 0 "\0^L  A\"oo\t;\n\"B1FS/1 \0A-4=-7513+0Y2\t;\r\n17;DS^H  16777215oo~a1_1:+;\n\nxyz  L +Q7\u{1b}/;(\n\nDF\n\n9E-\0;\r\n-DF)a;\r\naDxyzF  \"~;20;/L+Q7#a;D\"Sa`\"9=E 00100 0000000001;\nD~F;E\u{b}" 18 0  -- random 52
     ∷ accepted_in 4096 "[LQ7 ;E" 0 0 0 "E\n"  -- random 53
     ∷ on_line 8 23 (refused_in 4096 "DS5 2 1;DF;\r\nDS0 3 2;\nLB1;\n\nW4 -48 24 24 -48;\n\nDF;\nC5 T-43 92 MY;C5R-1 0;C999;\nC5;\nC0;\nE" 12 73)  -- random 54
-    ∷ accepted_in 2 "\nDS\u{b}16777215\u{1b}16777215H1//oo;[L\00001~;_[^C7MY;#B1@T\"1U0X\u{b}{0L#0_-17a;{= D`F, a;\nD{S16777215 oo02 1_;   ,D+^\tF/:;#\"(-;()\n;;-;)  ;^L, +0a  ;a76\n;oo_=DSHT0a16777215\n16777215;L \"_9Z:_;~/D'  oo_f;E" 0 0 1 "E\n"  -- random 55
+    ∷ accepted_in 2 "\nDS\u{b}16777215\u{1b}16777215H1//oo;[L\00001~;_[^C7MY;#B1@T\"1U0X\u{b}{0L#0_-17a;{= D`F, a;\nD{S16777215 oo02 1_;   ,D+^\tF/:;#\"(-;()\n;;-;)  ;^L, +0a  ;a76\n;oo_=DSHT0a16777215\n16777215;L \"_9Z:_;~/D'  ooF;E" 0 0 1 "E\n"  -- random 55
     ∷ in_calls (758 ∷ 4 ∷ 17 ∷ 35 ∷ 54 ∷ 66 ∷ 99 ∷ 114 ∷ 133 ∷ 148 ∷ 164 ∷ 218 ∷ 251 ∷ 269 ∷ 290 ∷ 306 ∷ 322 ∷ 369 ∷ 388 ∷ 410 ∷ 429 ∷ 462 ∷ 476 ∷ []) (on_line 56 9 (refused_in 4096 "DS1;C2MX;\nDF;DS2;C3T1 0;\nDF;\n  DS3;C4T1 0;\nC5;DF;\nDS4;C5MX;DF;DS5;C6R0 1;LQ;R1 5 0;\n\nLCM;\n\nDF;DS6;\nC7T1 0;DF;\nDS7;C8R0 1;\n  DF;\r\nDS8;C9MX;\n\nDF;DS9;\nC10MX;DF;DS10;\n\nC11T1 0;LQ;\nR1 10 0;\r\nLQ;R1 10 0;LA;LCM;DF;\n\nDS11;\nLB;C12T1 0;LQ;R1 11 0;\n\nDF;\r\nDS12;\n\nC13MX;\n\nDF;DS13;\n\nC14T1 0;DF;\r\nDS14;\n  C15;\n\nDF;\n\nDS15;C16;\n  DF;DS16;\nC17MX;LA;LQ;R1 16 0;\r\nLQ;R1 16 0;\r\nLB;DF;DS17;\nC18R0 1;DF;\n  DS18;C19T1 0;\nC21;DF;\nDS19;C20MX;\r\nDF;\n\nDS20;\nC21MX;\r\nDF;\nDS21;LQ;R1 21 0;LB;\r\nC22MX;DF;DS22;C23MX;\n\nDF;DS23;C1R1 1;\n\nLB;\n\nC24T1 0;\nC24;\n  LQ;R1 23 0;\n\nDF;DS24;\nC25;\r\nDF;\n  DS25;\n\nC26T1 0;\nDF;DS26;C27MX;\n  DF;DS27;\n\nC28R0 1;DF;\nDS28;LB;C29T1 0;\n  LQ;R1 28 0;DF;\nDS29;C30R0 1;DF;\r\nDS30;C31T1 0;\nC1;DF;\nDS31;\r\nC32R0 1;\r\nDF;DS32;LQ;R1 32 0;\nLA;C33MX;DF;DS33;\n  C34MX;DF;DS34;DF;C1;\nE" 11 492))  -- random 58
     ∷ refused_in 0 "\0E" 2 1  -- random 59
-    ∷ refused_in 4096 "L0;DS16777215;LND;P0 0 -6 65 19236 2 0 8388608 6;W1 -9 8388608 7080 3 50 8388608 19157 -000 -341 298; B6 546 211 -4 0 -1;(-;Eaa\n());LCM;DF;(a_e);LND;48-DY;L0;DS0;L9Z;B1 8 8388607 -16777215 1 3;B1 1 -2 0 0 -1;DF;DS1;DF ;W 366 8 0 -0 -173;E" 2 48  -- random 61
-    ∷ refused_in 0 "xyz_dd5 ;\n  D{S114 1 16777215;\n\n;L0001#;\n\t_@DF;\r\n LZZZZ;\n\u{b}~E" 18 0  -- random 62
+    ∷ refused_in 4096 "L0;DS16777215;LND;P0 0 -6 65 19236 2 0 8388608 6;W1 -9 8388608 7080 3 50 8388608 19157 -000 -341 298; B6 546 211 -4 0 -1;(-;Eaa\n());LCM;DF;(aE);LND;48-DY;L0;DS0;L9Z;B1 8 8388607 -16777215 1 3;B1 1 -2 0 0 -1;DF;DS1;DF ;W 366 8 0 -0 -173;E" 2 48  -- random 61
+    ∷ refused_in 0 "xyzDD5 ;\n  D{S114 1 16777215;\n\n;L0001#;\n\t_@DF;\r\n LZZZZ;\n\u{b}~E" 18 0  -- random 62
     ∷ rounded_in 4096 "DS1 3 2;DF;\nC1 MX R-1 0R0 -7R0 -7;DS0 3 2;\n  LB1;\n\nDF;DS1;\nC3R0 -7 R-1 0T-37 -88MY;C3R-1 0;\nDF;\r\nDS1;C0R0 -7;LC2;C0R-1 0 R0 1;\r\nDF;C1R-1 0;\r\nC0 T-30 -41MY MY T-75 -70;DS5;LD;W3 34 48 48 34;\n\nW7 18 11 11 18;\r\nDF;\nDS1;C0;LB1;\n  P-29 -7 -29 0 0 -7;\nC0 MX;DF;DS0 1 1;\n\nLB1;W2 -23 38 38 -23;\nDF;DD16777215;\nC1;DS1;\nLB1;\n\nW1 -13 27 27 -13;\r\nC2R-1 0;DF;C0 R-1 0;\n  DD0;\nDS0 1 1;\n  (x;\n  );LC2;\nR1 -5 -31;LB1;W8 -10 45 45 -10;\nW7 34 -29 -29 34;\nLE4;\n  DF;C0 R-1 0R0 -7;\n\nDS5 5 3;\n\nLE4;\n  C0;\n\nC3 MXR0 -7;B34 37 -6 -20 -2 0;\nC2 R0 1R-1 0;\n\nDF;\r\nC0;\nE" 10 11 5 3 "LB1;\nW2 -23 38 38 -23;\nP-29 -7 -29 0 0 -7;\nW2 23 38 -38 -23;\nW2 23 -38 -38 23;\nLC2;\nR1 31 -5;\nLB1;\nW8 -45 -10 10 45;\nW7 29 34 -34 -29;\nLC2;\nR1 -5 -31;\nLB1;\nW8 -10 45 45 -10;\nW7 34 -29 -29 34;\nE\n"  -- random 63
     ∷ accepted_in 65536 "E" 0 0 0 "E\n"  -- random 64
-    ∷ accepted_in 4096 "\u{1b}/L`Q7\0#+;82DF a_df999\u{19}9999999;\r\nooE" 0 0 0 "E\n"  -- random 66
+    ∷ accepted_in 4096 "\u{1b}/L`Q7\0#+;82DF aDF999\u{19}9999999;\r\nooE" 0 0 0 "E\n"  -- random 66
     ∷ on_line 4 3 (refused_in 2 "L9Z;LCM; DS114 1 100[\t;L0:;\r\nLABCD;\n  LA ;\n@R16777216 -4100E-00000000000000000000000000000016777215;C2@ .R#50 0MX#MYMX;\nW400 16777215=RQ0_5 16777215,/;\r\n DF ;BR\u{1b}100000000 32 -007,^0000000000000000000000000000003606;C114MX  \"{R-1 0;\r\nC\u{7f}:114,MX;E " 3 45)  -- random 68
     ∷ on_line 29 11 (refused_in 65536 "DS1 3 2;LE4;\r\n\n  P24 -45 24 0 0 -45;LB1;\r\nB30 12 3 5 1 1;DF;\nDS1;\n\n\nC16777214R0 -7 R0 1;\n\n\n  C16777214MYR-1 0 R-1 0R-1 0;LD;\r\nB13 91 -29 -14;\r\n\n\nDF;\r\n\nDS16777214 5 3;LD;W4 -24 -7 -7 -24;\n\n9u C1;\n\n;B36 77 -29 -24 0 1;\n\n\n  W7 -13 -5 -5 -13;DF;\n\n\nC1 T63 -81 T-74 98 R0 -7 R0 -7;\n\nC16777214;C999;\n  C16777214;\n\nDS0 1 1;\r\n(x;\n\n  );\n\n\nDF;\n\nLE4;P10 -23 10 0 0 -23;\n  \n\nE" 12 287)  -- random 69
     ∷ in_calls (639 ∷ 323 ∷ 306 ∷ 17 ∷ 295 ∷ 52 ∷ 397 ∷ 523 ∷ 174 ∷ 576 ∷ 540 ∷ 339 ∷ 596 ∷ 630 ∷ 280 ∷ 467 ∷ 356 ∷ 130 ∷ 30 ∷ 618 ∷ []) (on_line 25 8 (refused_in 65536 "DS28;C29;\nDF;DS5;C6;DF;DS20;\n\nC21R0 1;\nC25;\r\nDF;DS7;C8T1 0;\n  DF;\r\nDS1;LQ;R1 1 0;C2MX;\nLCM;\n\nDF;\n\nDS29;C30MX;\nDF;DS19;LQ;\nR1 19 0;C20T1 0;\n  LB;DF;\n\nDS27;\nC28MX;DF;\r\nDS10;\n  C11T1 0;LA;\r\nLQ;\n  R1 10 0;\n  DF;\n  DS22;C22;\r\nC23R0 1;DF;DS77;\nLA;\r\nR1 1 0;DF;\nC77T0 16777215;\n  DS16;\n  C17MX;\r\nDF;DS6;C7;DF;\nDS4;C5MX;\r\nDF;\nDS3;\n\nC4T1 0;DF;\nDS13;C14MX;\n\nDF;\nDS18;C19;\n  DF;\nDS2;\nC3;\nDF;DS23;C24;DF;DS8;\n\nC9T1 0;LQ;\r\nR1 8 0;LB;DF;DS24;C25T1 0;\nDF;\n\nDS25;\n\nC26T1 0;\n  DF;DS17;C18;DF;DS26;\nC27MX;\nDF;\n\nDS30;\n\nC31;\r\nDF;\n  DS31;DF;DS9;C10MX;DF;\n\nDS12;\nC13;\n\nDF;\n\nDS11;\r\nLQ;R1 11 0;\n  LA;\nC12R0 1;\r\nDF;\nDS14;\nC15R0 1;\n  DF;\nDS21;\r\nC22;DF;DS15;C16;\n\nDF;C3;E" 13 215))  -- random 70
-    ∷ refused_in 0 " ; R2/OK0 423  ~ ;\n  L NP;\n#\u{b}D\0[a_s7:\u{b}[1L:16777215;L~0;\n\nDF;W1=01984 -384;\nE/+" 8 3  -- random 71
+    ∷ refused_in 0 " ; R2/OK0 423  ~ ;\n  L NP;\n#\u{b}D\0[aS7:\u{b}[1L:16777215;L~0;\n\nDF;W1=01984 -384;\nE/+" 8 3  -- random 71
     ∷ on_line 2 9 (refused_in 65536 "\r\nL\0,0001;C/@16777215 'aR`-50  -0@/R0^0000000001=*_MX;_^[C1MYM \t\u{b}YR,1\t-0a{;\nxyz@E\t" 12 10)  -- random 72
     ∷ []
 
@@ -213,14 +213,14 @@ rows-8 =
     ∷ refused_in 2 "DS2;C3R0 1;DF;DS4;C5MX;DF;DS6;LB;C7R0 1;LQ;R1 6 0;DS77;LA;R1 0 9;DF;C77R0 1T-16777215 0;DF;DS1;LB;LQ;R1 1 0;C2MX;C2;DF;DS8;LCM;C9;LQ;R1 8 0;DF;DS5;C6;DF;DS3;LB;C4MX;LQ;R1 3 0;DF;DS7;C8T1 0;LQ;R1 7 0;LCM;DF;C2;C2;E" 2 51  -- random 84
     ∷ rounded_in 4096 "DS1 2 1;LC2;\n\nP31 13 31 0 0 13;B32 45 -12 -12;\n  DF;DS8;\nLB1;B47 6 -47 35;C2MX R0 1;P20 -32 20 0 0 -32;\nC5 MXT25 -16;\r\nDF;DD16777215;\n\nDS2 2 1;\n  C1MY;\n\nLB1;\n  B77 90 -13 -42;\n\nC1MXR0 1 MXMX;\r\nDF;\n  C2;\n  DS8 1 1;\n\n(x;);\nC5;DF;DD5;\nDS2;\nC1;LE4;R7 -16 -35;\n  DF;\n\nC2 R0 1;\nC1R0 1;C1 R0 1;DS5;C1 MY;LA;P-33 -1 -33 0 0 -1;LD;LD;\nW1 -12 -1 -1 -12;W9 -1 -4 -4 -1;\nDF;\r\nDS5;LC2;\r\nW6 25 -33 -33 25;R3 -47 33;\r\nP-18 47 -18 0 0 47;DF;DS1 5 3;DF;DS5 3 2;\nLA;\n  B42 89 -40 -18;LA;B16 31 40 12 1 1;W5 17 50 50 17;\r\nDF;C2;\nDS5;\nC1 MXMY;C999;DF;\n\nDS5 2 1;\nLB1;\n\nP4 20 4 0 0 20;C1 R-1 0;R5 21 -32;\r\nC2R-1 0;\n  DF;\n\nLE4;R1 -29 -31;C5;\n  C1;C2;C5;E" 21 20 7 5 "LC2;\nP62 -26 62 0 0 -26;\nB64 90 -24 24 1 0;\nLB1;\nB154 180 -26 -84 1 0;\nLC2;\nP-26 -62 0 -62 -26 0;\nB64 90 24 24 0 -1;\nP-26 62 0 62 -26 0;\nB64 90 24 -24 0 1;\nLE4;\nR7 35 -16;\nLC2;\nP-26 62 0 62 -26 0;\nB64 90 24 -24 0 1;\nP-26 62 0 62 -26 0;\nB64 90 24 -24 0 1;\nLE4;\nR7 -16 -35;\nR1 -29 -31;\nLB1;\nP8 40 8 0 0 40;\nR10 42 -64;\nLE4;\nR7 16 35;\nR7 -16 -35;\nLB1;\nP8 40 8 0 0 40;\nR10 42 -64;\nLE4;\nR7 16 35;\nE\n"  -- random 85
     ∷ refused_in 2 "DS1;LQ;R1 1 0;C6;LB;C2MX;DF;DS3;C8;C8;C4R0 1;DF;DS6;C7MX;DF;DS4;LB;C5T1 0;C5;LQ;R1 4 0;DF;DS8;DF;DS5;C6T1 0;DF;DS7;C8R0 1;DF;DS2;C3;DF;C1;C3;E" 18 0  -- random 87
-    ∷ on_line 5 7 (refused_in 65536 "=L@^CM\";a\r\n\r\n_dxyz_d100^;C\r\nN9,,,Ma\0xyzXa;=,a_d@/S5\"_; L0:;\u{7f}L/{\"ABCD;{\tL Q7@;R\u{1b}0000000000000000000000000000001\r\n00[0;DS77;LA;R1 0 9;DF;C77R0 1T-16777215 0;_B000000000000000000000000000000304 2883`000000000000000000000000000000479AO0\r\n#-1\"0\";\nC0;  +[D@F[;xyz_cd5  #\t;_D\0{Dxyz8 {\"; @*E" 2 115)  -- random 88
+    ∷ on_line 5 7 (refused_in 65536 "=L@^CM\";a\r\n\r\nDxyzD100^;C\r\nN9,,,Ma\0xyzXa;=,aD@/S5\"_; L0:;\u{7f}L/{\"ABCD;{\tL Q7@;R\u{1b}0000000000000000000000000000001\r\n00[0;DS77;LA;R1 0 9;DF;C77R0 1T-16777215 0;_B000000000000000000000000000000304 2883`000000000000000000000000000000479AO0\r\n#-1\"0\";\nC0;  +[D@F[;xyzCD5  #\t;_D\0{Dxyz8 {\"; @*E" 2 115)  -- random 88
     ∷ refused_in 4096 "DF;E" 2 1  -- random 89
     ∷ on_line 43 2 (refused_in 65536 "DS1;\n\nC2;\n  DF;\r\nDS2;C3R0 1;\nDF;\nDS3;\r\nC4T1 0;DF;DS4;LB;\n  LQ;R1 4 0;\nLCM;\n\nC5MX;\nLQ;R1 4 0;\nDF;DS5;\nC6;\r\nDF;DS6;C7MX;\r\nDF;\n\nDS7;LA;\n\nC8R0 1;\nLQ;\r\nR1 7 0;\nDF;\n  DS8;\nC9;\n  DF;DS9;\n  LQ;\nR1 9 0;\r\nC10MX;\nLA;\nDF;DS10;\r\nC11MX;DF;\nDS11;LQ;R1 11 0;\n\nC12T1 0;LA;\nDF;DS12;\nC13MX;DF;\r\nDS13;\r\nC14T1 0;DF;DS14;\nC15T1 0;DF;DS15;\r\nC16;\r\nDS77;LA;\nR1 0 9;DF;C77R0 1T-16777215 0;\nDF;DS16;C17T1 0;DF;\nDS17;\n  C18R0 1;\n\nDF;DS18;C19;DF;DS19;C20R0 1;DF;\r\nDS20;\nC21MX;DF;DS21;\n\nC22R0 1;\r\nDF;DS22;\n  C23;DF;DS23;C24T1 0;DF;\nDS24;\n\nC25MX;DF;\nDS25;\nLCM;LQ;\nR1 25 0;\n\nLQ;\nR1 25 0;\n\nLA;C26;DF;DS26;\nC27T1 0;\nDF;DS27;C28;\nDF;\nDS28;\n  C29R0 1;DF;\nDS29;DF;\nE" 2 325)  -- random 90
     ∷ on_line 5 2 (refused_in 65536 "DS5 100 1;\n\nL ABCD;\nP-55 -7 -4 54 -34 -19 -3 51;\nDS77;C77;DF;C77;W41 31 -3 10 30;R46 -18 16;D F;\n  Dr5 ;\n  LQ7;\r\nDF;\n\nLNP;E" 2 50)  -- random 93
     ∷ refused_in 0 "DS3;C4R0 1;\n  DF;DS5;C6;\n  DF;DS1;\n  LQ;R1 1 0;LQ;\n\nR1 1 0;C1R1 1;C2;LCM;LA;\n\nDF;\nDS7;C7;\n\nC8MX;\n  DF;DS4;C5R0 1;C9;DF;DS8;\n  DF;\nDS2;\n  C3R0 1;DF;DS6;C7R0 1;DF;\nE" 18 0  -- random 94
     ∷ refused_in 0 "LNM;\n E" 18 0  -- random 95
-    ∷ refused_in 0 ";*2EaEDF--;LND;W5 12135 0 -2W-11654 -109 0\"16777214 -00000000000000000000000000000018389 0 -0; ( a-E E \0-E);L ABCD,;\n  xyz(;\n\n-\0\n( ;\n  C999;-));\nD S2~\"~; L  :ND;\n[DF ;DS:3 16777215 1;\n+L#0;a_w1 00xyz :0;\n  L NM;C2R16777215 0 MYooooT0^0ooR0xyz-50 ,[;C+Z 2M YR[2 0MXT0 0; L CM;[D*_F;\n  W13507 -4 18444,^=-5 0oo3621 -081;\nB301 1 -62 -7 0F-1\u{b};\nL9Z;\n\nDS57 7 3 ;L NP;\r\nC:@  2MX;\n  (E\0 \0);B180 00000000000000000000000000000093,168 -162 ;\r\n@  DF;E" 18 0  -- random 97
-    ∷ on_line 2 170 (refused_in 0 "LND;L NP ;C0T:0 0;\r\nD S4; L ZZZZ ; P-2 -418.-00000000000000000000000000000016257 -424 -2 -00000000000000000000000000000018858;xyz_df;C1R1 1;DD5; C4;[\u{1b}C4MY T-0I-140[T-8 -12428;BZ\u{b}`1 1 39N~0; R0 0 8;DS114 7 3;LND;xyz ~LA; +LNM;D F;E" 7 189)  -- random 98
+    ∷ refused_in 0 ";*2EaEDF--;LND;W5 12135 0 -2W-11654 -109 0\"16777214 -00000000000000000000000000000018389 0 -0; ( a-E E \0-E);L ABCD,;\n  xyz(;\n\n-\0\n( ;\n  C999;-));\nD S2~\"~; L  :ND;\n[DF ;DS:3 16777215 1;\n+L#0;aW1 00xyz :0;\n  L NM;C2R16777215 0 MYooooT0^0ooR0xyz-50 ,[;C+Z 2M YR[2 0MXT0 0; L CM;[D*_F;\n  W13507 -4 18444,^=-5 0oo3621 -081;\nB301 1 -62 -7 0F-1\u{b};\nL9Z;\n\nDS57 7 3 ;L NP;\r\nC:@  2MX;\n  (E\0 \0);B180 00000000000000000000000000000093,168 -162 ;\r\n@  DF;E" 18 0  -- random 97
+    ∷ on_line 2 170 (refused_in 0 "LND;L NP ;C0T:0 0;\r\nD S4; L ZZZZ ; P-2 -418.-00000000000000000000000000000016257 -424 -2 -00000000000000000000000000000018858;xyzDF;C1R1 1;DD5; C4;[\u{1b}C4MY T-0I-140[T-8 -12428;BZ\u{b}`1 1 39N~0; R0 0 8;DS114 7 3;LND;xyz ~LA; +LNM;D F;E" 7 189)  -- random 98
     ∷ []
 
 pub hold-8 : Each Holds rows-8

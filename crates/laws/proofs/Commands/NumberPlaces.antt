@@ -111,6 +111,7 @@ module _ (Idle : ℤ → Type 0) {high : ℕ} where
       → ((low' : ℕ) → Rising Never low' high (drop (suc i) ns) → Rising Idle low' high rest) → Rising Idle low high (get_or ns i d ∷ rest)
   nth_rises zero [] d z r k = idle z (k _ done)
   nth_rises zero (x ∷ ns) d z (stands a b r) k = stands a b (k (suc x.place) r)
+  nth_rises zero (x ∷ ns) d z (idle never _) k = elim never [ ]
   nth_rises (suc i) [] d z r k = idle z (k _ done)
   nth_rises (suc i) (x ∷ ns) d z r k = nth_rises i ns d z r k
 
@@ -119,6 +120,8 @@ module _ (Idle : ℤ → Type 0) {high : ℕ} where
   pairs_rise [] r = done
   pairs_rise (x ∷ []) r = done
   pairs_rise (x ∷ y ∷ ns) (stands a b (stands c d r)) = stands a b (stands c d (pairs_rise ns r))
+  pairs_rise (x ∷ y ∷ ns) (idle never _) = elim never [ ]
+  pairs_rise (x ∷ y ∷ ns) (stands a b (idle never _)) = elim never [ ]
 
 -- what holds of both of two things, or of the first where the test passes, holds of the one that the test picks
 pub either_by : {A : Type 0} (P : A → Type 0) (b : Bool) (x y : A) → (b ≡ true → P x) → P y → P (if b then x else y)

@@ -14,8 +14,8 @@ slice-aggregate-put-bytes : tie.Need-slice-aggregate-put-bytes
 slice-aggregate-put-bytes c = search rules
 
 pub put_places-last-requires : goal.put_places-last-requires
-put_places-last-requires c = let many = as_many c.args.answer.chain UNTURNED.c.before.before.before.before.before.before.before.before.before.before.before.before.before.before.before.before.before.before.before.before.before.before.before.before.before.well-formed.1.0.1.1.1.1.1.1.1.1.1.1.1.1.0.1.0.1 in (omega (arith, c.put_bytes-first.ensures.ends, c.put_field-second.ensures.upper_bound, c.put_field-third.ensures.upper_bound, c.put_field-fourth.ensures.upper_bound, c.put_field-fifth.ensures.upper_bound), omega (arith, many))
+put_places-last-requires c = let many = as_many c.args.answer.chain UNTURNED.c.before.before.before.before.before.before.before.before.before.before.before.before.before.before.before.before.before.before.before.before.before.before.before.before.before.well-formed.1.0.1.1.1.1.1.1.1.1.1.1.1.1.0.1.0.1 in (omega (arith, c.put_word-first.ensures.ends, c.put_field-second.ensures.upper_bound, c.put_field-third.ensures.upper_bound, c.put_field-fourth.ensures.upper_bound, c.put_field-fifth.ensures.upper_bound), omega (arith, many))
 
 pub returns : goal.returns
 unfolding bytes_of refused_line tabbed
-returns c = record { writes = both c.put_bytes-first.ensures (both (both c.put_field-second.ensures.writes (both c.put_field-third.ensures.writes (both c.put_field-fourth.ensures.writes (both c.put_field-fifth.ensures.writes c.put_places-last.ensures.writes)))) c.put.ensures); upper_bound = omega (arith, c.put_bytes-first.ensures.ends, c.put_field-second.ensures.upper_bound, c.put_field-third.ensures.upper_bound, c.put_field-fourth.ensures.upper_bound, c.put_field-fifth.ensures.upper_bound, c.put_places-last.ensures.upper_bound, c.put.ensures.ends) }
+returns c = record { writes = both c.put_word-first.ensures (both (both c.put_field-second.ensures.writes (both c.put_field-third.ensures.writes (both c.put_field-fourth.ensures.writes (both c.put_field-fifth.ensures.writes c.put_places-last.ensures.writes)))) c.put.ensures); upper_bound = omega (arith, c.put_word-first.ensures.ends, c.put_field-second.ensures.upper_bound, c.put_field-third.ensures.upper_bound, c.put_field-fourth.ensures.upper_bound, c.put_field-fifth.ensures.upper_bound, c.put_places-last.ensures.upper_bound, c.put.ensures.ends) }
