@@ -2,6 +2,7 @@
 // definition that is entered has its numbers made once, from its body's words, and the others move with their rows; DD cuts the columns with the rows. So
 // the columns are always those that would be made afresh from the bodies.
 #![tactic(auto)]
+
 ghost use Rattle.std.specs.Prelude.{◌≡◌, ℕ, ◌+◌, ◌<◌, ◌≤◌, length};
 ghost use Rattle.definition.specs.Limits.{most_layers};
 ghost use Rattle.library.specs.Memory.{most, most_words, symbol_at};

@@ -1,6 +1,7 @@
 // The layer names of a text (RULES 19, request 3): each distinct name of its L commands has one mark of 64, by first appearance, in and outside definitions. A name is
 // kept as the one number that an L command of a body has in its words, so a body's layers are told from them.
 #![tactic(auto)]
+
 ghost use Rattle.std.specs.Prelude.{◌≡◌, List, ◌≤◌, length};
 ghost use Rattle.grammar.specs.Notation.{Letter};
 ghost use Rattle.grammar.specs.Viable.{Marked};

@@ -1,6 +1,7 @@
 // What is in a symbol (RULES 19, request 3): the text is read and its table kept, with the summary beside it, and nothing is drawn. Then a symbol is asked for, in the table
 // left at the end of the text.
 #![tactic(auto)]
+
 ghost use Rattle.std.specs.Prelude.{◌≡◌, ◌+◌, ◌<◌, ◌≤◌, length};
 ghost use Rattle.std.specs.Int.Count.{ones, count_trailing_zeros};
 ghost use Rattle.grammar.specs.Viable.{Grammatical};

@@ -6,4 +6,4 @@ use borrow.Author.Rules.{rules}
 use Rattle.summary.proofs.summarise.Goals as goal
 
 pub returns : goal.returns
-returns c = record { summarises = c.sum_up-summary.ensures; cleared = c.clear.ensures ∙ ap (λ k. replicate k (pos 0)) c.sum_up-summary.auto.1.0 }
+returns c = record { summarises = c.sum_up-summary.ensures; cleared = c.clear.ensures ∙ ap (λ k. replicate k (pos 0)) c.sum_up-summary.auto.bodies }
