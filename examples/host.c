@@ -1,5 +1,5 @@
 /* A small host of the proved reader: writes the flat file of the CIF text on standard input to standard output.
-   On x86-64: cc -Iinclude examples/host.c target/staticlib/libcif.a -o host. `tool/build` builds it anywhere, and `tool/test` runs it. */
+   cc -Iinclude examples/host.c target/tool/libcif.a -o host, on x86-64 Linux. `tool/build` builds it, and `tool/test` runs it. */
 #include <stdio.h>
 #include <stdlib.h>
 

@@ -1,4 +1,4 @@
-/* The proved CIF 2.0 reader, for programs in C and C++: all that the archive target/staticlib/libcif.a offers, which `rt staticlib cif` writes, and the
+/* The proved CIF 2.0 reader, for programs in C and C++: all that the archive libcif.a offers, which `tool/archive` makes, and the
    shared library libcif.so, which `tool/build` makes of it. Both are x86-64. What each function answers is settled, word for word and byte for byte, by its
    contract and proved; docs/BELIEVE.md leads through the definitions.
 

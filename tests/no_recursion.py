@@ -1,8 +1,8 @@
 #!/usr/bin/env python3
-"""Whether a function of the archive can come to call itself: tests/no_recursion.py [ARCHIVE], at the top of the repository, after `rt staticlib cif`.
+"""Whether a function of the archive can come to call itself: tests/no_recursion.py [ARCHIVE], at the top of the repository, after `tool/archive`.
 
 Request 7 asks for an engine that does not recurse, and a controller may be held to what it runs rather than to what was written. So the calls are read from
-the machine code of target/staticlib/libcif.a: no function that can be reached from the exports in FLAT may reach itself. For each export it prints how many
+the machine code of crates/cif_c/out/libcif_c.a: no function that can be reached from the exports in FLAT may reach itself. For each export it prints how many
 functions those are, and the deepest line of calls. Exit status 1 if one recurses, or if the check is blind: the engine of RECURSIVE draws a call by calling
 itself, and has to be found out.
 
@@ -13,7 +13,7 @@ is called through a pointer; that is looked at too. Data may hold addresses of c
 import struct
 import sys
 
-ARCHIVE = "target/staticlib/libcif.a"
+ARCHIVE = "crates/cif_c/out/libcif_c.a"
 FLAT = ("cif_flatten_stacked", "cif_recognise", "cif_refusal", "cif_join")
 RECURSIVE = "cif_flatten"
 OUTSIDE = ("memcpy", "memset", "memmove")  # of the C library, which call nothing of ours

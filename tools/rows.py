@@ -12,6 +12,8 @@ CRATE = "crates/definition/"
 ROWS = CRATE + "proofs/Rows.antt"
 FIRST, LAST = "-- the names that rows compute through, written by tools/rows.py", "-- the end of what tools/rows.py writes here"
 TEST = "unfolding row-holds print_holds every small "
+# What is promised of these, rows compute by the quick forms that stand beside them.
+NOT_COMPUTED = {"Computed": ["verdict", "answer_of", "summary_verdict", "summary_for"]}
 
 
 def read(path):
@@ -21,13 +23,14 @@ def read(path):
 
 def unfoldable(folder, module):
     """The definitions of a module that have to be unfolded by name."""
-    return re.findall(r"^unfoldable pub (\S+)", read(f"{folder}specs/{module}.antt"), re.M)
+    found = re.findall(r"^unfoldable pub (\S+)", read(f"{folder}specs/{module}.antt"), re.M)
+    return [name for name in found if name not in NOT_COMPUTED.get(module, [])]
 
 
 def grammar():
     """The grammar's part: what marks a text and judges it, but not what only its own proofs unfold."""
     return [("Notation", ["has", "dec"]), ("Tables", ["kinds", "table"]),
-            ("Steps", ["kindOf"])]
+            ("Steps", ["kind_of"])]
 
 
 def definition():
@@ -36,8 +39,8 @@ def definition():
 
 
 def main():
-    uses, names = [], ["flatMap"]
-    for root, modules in (("Rattle·grammar.specs", grammar()), ("Rattle·definition·specs.specs", definition())):
+    uses, names = [], ["flat_map"]
+    for root, modules in (("Rattle.grammar.specs", grammar()), ("Rattle.definition.specs", definition())):
         for module, found in modules:
             if found:
                 uses.append(f"use {root}.{module}.{{{', '.join(found)}}}")

@@ -12,6 +12,7 @@ import sys
 
 TOP = sys.argv[1] if len(sys.argv) > 1 else "."
 TOKEN = re.compile(r"[^\s(){}\[\].;,@«»\"`]+")
+QUOTED = re.compile(r'"(?:\\.|[^"\\])*"')
 HUMP = re.compile(r"(?<=[a-z0-9])(?=[A-Z])")
 WORDS = r"(?:(?:unfoldable|abbrev|pub|data|record|module|ruleset)\s+)*"
 DECLARED = re.compile(r"^\s*%s([^\s(){}\[\].;,@«»\"`:]+)\s*(?:[({].*)?:(?:\s|$)" % WORDS)
@@ -35,7 +36,8 @@ def read(path):
 
 
 def code(line):
-    return re.split(r"(?:^|\s)-- ", line)[0]
+    """A line without its comment and what stands in quotes."""
+    return QUOTED.sub('""', re.split(r"(?:^|\s)-- ", line)[0])
 
 
 CRATES = sorted(os.listdir(os.path.join(TOP, "crates")))
@@ -135,6 +137,12 @@ def turned(text):
     return TOKEN.sub(lambda it: wanted.get(it[0], it[0]), text)
 
 
+def turned_code(text):
+    """Texts in quotes stay as they are."""
+    kept = QUOTED.findall(text) + [""]
+    return "".join(turned(part) + quoted for part, quoted in zip(QUOTED.split(text), kept))
+
+
 def turned_in_ticks(text):
     return re.sub(r"`[^`\n]+`", lambda it: turned(it[0]), text)
 
@@ -145,7 +153,7 @@ def turned_antt(text):
     for line in text.split("\n"):
         cut = re.search(r"(?:^|(?<=\s))-- ", line)
         at = cut.start() if cut else len(line)
-        lines.append(turned(line[:at]) + turned_in_ticks(line[at:]))
+        lines.append(turned_code(line[:at]) + turned_in_ticks(line[at:]))
     return "\n".join(lines)
 
 
@@ -154,7 +162,7 @@ def turned_rt(text):
     for line in text.split("\n"):
         cut = re.search(r"(?:^|(?<=\s))//", line)
         at = cut.start() if cut else len(line)
-        lines.append(turned(line[:at]) + turned_in_ticks(line[at:]))
+        lines.append(turned_code(line[:at]) + turned_in_ticks(line[at:]))
     return "\n".join(lines)
 
 
@@ -174,7 +182,7 @@ for where in ("crates", os.path.join("tests", "wrong")):
         for name in files:
             if name.endswith(".edit"):
                 old = read(os.path.join(folder, name))
-                write(os.path.join(folder, name), "\n".join(turned(it) if it.startswith(("old:", "new:")) else turned_in_ticks(it) for it in old.split("\n")), old)
+                write(os.path.join(folder, name), "\n".join(turned_code(it) if it.startswith(("old:", "new:")) else turned_in_ticks(it) for it in old.split("\n")), old)
 for where in (".", "docs", os.path.join("docs", "landings"), "second", "wip"):
     for name in sorted(os.listdir(os.path.join(TOP, where))) if os.path.isdir(os.path.join(TOP, where)) else []:
         if name.endswith(".md"):

@@ -246,10 +246,8 @@ def main():
             "-- The recogniser's tables, made by tools/tables.py. Nothing here is believed: proofs/Fitting.antt tests each entry against the grammar.",
             "-- They stand in specs/ because contracts of functions that are lent the tables name them.",
             "-- Assumes nothing.",
-            "use mathlib.Core.Bool.{Bool, true, false}",
-            "use mathlib.Core.List.{List, [], _∷_}",
-            "use Prim.Native.Nat.{ℕ, _*_}",
-            "use Rattle·grammar·specs.specs.Notation.{Role, Letter, " + ", ".join(ROLES) + "}",
+            "use Rattle.std.specs.Prelude.{Bool, true, false, List, [], ◌∷◌, ℕ, ◌*◌}",
+            "use Rattle.grammar.specs.Notation.{Role, Letter, " + ", ".join(ROLES) + "}",
             "",
         ]
         + [f"-- {what}\nabbrev pub {name} : ℕ\n{name} = {value}\n" for name, value, what in constants]

@@ -7,7 +7,7 @@ records of `batch`, those of task 0 are taken, and of those that ask what is in 
 into a symbol at every call of it. Of p07.tsv those are taken that ask the engine that is lent records (task 1), if 21 or nothing refuses them or a call or a
 shape does, and short ones: the others compute what rows of other files do. Of p11.tsv those are taken that ask why a shape is there (task 7), and short ones. This writes crates/vectors/proofs/Base.antt (P02.antt of p02.tsv, and so on), where each is
 a row that is proved by computing: the definitions are held to answers that were worked out apart from them. A text with rounded distances
-is a row `rounded_in`, with their number before the flat file; all others have none. A refusal on a later line is `on-line`, one under calls
+is a row `rounded_in`, with their number before the flat file; all others have none. A refusal on a later line is `on_line`, one under calls
 `in_calls`, one where so many records are lent `with`. A symbol that is told of is a row `tells`, a text refused there `refuses`; a shape
 that is told of is a row `shown`, a text refused there `not_shown`, and `none_there` where it has no shape with that count. `rt fmt` after it.
 """
@@ -21,34 +21,34 @@ import summary  # noqa: E402
 
 SOURCE = sys.argv[1] if len(sys.argv) > 1 else "tests/base.tsv"
 OUT = "crates/vectors/proofs/%s.antt" % os.path.basename(SOURCE)[:-len(".tsv")].capitalize()
-ROW_KINDS = ("accepted_in", "rounded_in", "refused_in", "on-line", "in_calls")
+ROW_KINDS = ("accepted_in", "rounded_in", "refused_in", "on_line", "in_calls")
 BATCH = 20  # rows of one proof: where one does not compute, its batch is named
 HEAD = f"""-- The vectors of {SOURCE}, made into rows by tools/vectors.py: answers that were worked out apart from the definitions.
 -- A trailing comment is the vector's name. They stand in batches, so that a row that does not compute is found.
 -- Assumes nothing.
-use mathlib.Core.List.{{List, [], _∷_}}
-use Rattle·definition.proofs.Rows.{{Row, %s, Holds, Each, all-hold, each}}
+use mathlib.Core.List.{{List, [], ◌∷◌}}
+use Rattle.definition.proofs.Rows.{{Row, %s, Holds, Each, all_hold, each}}
 """
 TOLD_HEAD = f"""-- The vectors of {SOURCE} that ask what is in a symbol, made into rows by tools/vectors.py: answers that were worked out apart from the definitions.
 -- A trailing comment is the vector's name. They stand in batches, so that a row that does not compute is found.
 -- Assumes nothing.
-use mathlib.Core.List.{{List, [], _∷_}}
-use Rattle·definition.proofs.Rows.{{Each}}
-use Rattle·definition.proofs.Summaries.{{Asked, tells, refuses, AsSaid, all-told, each_told}}
+use mathlib.Core.List.{{List, [], ◌∷◌}}
+use Rattle.definition.proofs.Rows.{{Each}}
+use Rattle.definition.proofs.Summaries.{{Asked, tells, refuses, AsSaid, all_told, each_told}}
 """
 RECORDED_HEAD = f"""-- The vectors of {SOURCE} that lend records, made into rows by tools/vectors.py: answers that were worked out apart from the definitions.
 -- A trailing comment is the vector's name. They stand in batches, so that a row that does not compute is found.
 -- Assumes nothing.
-use mathlib.Core.List.{{List, [], _∷_}}
-use Rattle·definition.proofs.Rows.{{Each, %s}}
-use Rattle·definition.proofs.Recorded.{{Recorded, with, HoldsWith, all_recorded, each_recorded}}
+use mathlib.Core.List.{{List, [], ◌∷◌}}
+use Rattle.definition.proofs.Rows.{{Each, %s}}
+use Rattle.definition.proofs.Recorded.{{Recorded, with, HoldsWith, all_recorded, each_recorded}}
 """
 SHOWN_HEAD = f"""-- The vectors of {SOURCE} that ask why a shape is there, made into rows by tools/vectors.py: answers that were worked out apart from the definitions.
 -- A trailing comment is the vector's name. They stand in batches, so that a row that does not compute is found.
 -- Assumes nothing.
-use mathlib.Core.List.{{List, [], _∷_}}
-use Rattle·definition.proofs.Rows.{{Each}}
-use Rattle·definition.proofs.Whys.{{Pointed, shown, not_shown, none_there, Shown, all-shown, each_shown}}
+use mathlib.Core.List.{{List, [], ◌∷◌}}
+use Rattle.definition.proofs.Rows.{{Each}}
+use Rattle.definition.proofs.Whys.{{Pointed, shown, not_shown, none_there, Shown, all_shown, each_shown}}
 """
 MOST_RECORDED = 300  # bytes of a text with records
 MOST_POINTED = 300  # bytes of a text whose shapes are asked about
@@ -83,7 +83,7 @@ def refused(room, text, number, place, line, column, chain):
     """A refusal stands on line 1 and in no call, unless it is said otherwise."""
     said = f"refused_in {room} {quoted(text)} {number} {place}"
     if (line, column) != ("1", str(int(place) + 1)):
-        said = f"on-line {line} {column} ({said})"
+        said = f"on_line {line} {column} ({said})"
     return f"in_calls {listed_places(chain.split(' '))} ({said})" if chain else said
 
 
@@ -155,7 +155,7 @@ def write_asked():
     for n, k in enumerate(range(0, len(rows), BATCH), 1):
         listed = "\n    ∷ ".join(f"{text}  -- {name}" for text, name in rows[k:k + BATCH])
         out += f"\npub rows-{n} : List Asked\nrows-{n} =\n    {listed}\n    ∷ []\n"
-        out += f"\npub told-{n} : Each AsSaid rows-{n}\nunfolding all-told rows-{n}\ntold-{n} = each_told rows-{n} tt\n"
+        out += f"\npub told-{n} : Each AsSaid rows-{n}\nunfolding all_told rows-{n}\ntold-{n} = each_told rows-{n} tt\n"
     with open(OUT, "w", encoding="utf-8") as file:
         file.write(out)
     print(f"{OUT}: {len(rows)} rows, {left} left out")
@@ -206,7 +206,7 @@ def write_pointed():
     for n, k in enumerate(range(0, len(rows), BATCH), 1):
         listed = "\n    ∷ ".join(f"{text}  -- {name}" for text, name in rows[k:k + BATCH])
         out += f"\npub rows-{n} : List Pointed\nrows-{n} =\n    {listed}\n    ∷ []\n"
-        out += f"\npub told-{n} : Each Shown rows-{n}\nunfolding all-shown rows-{n}\ntold-{n} = each_shown rows-{n} tt\n"
+        out += f"\npub told-{n} : Each Shown rows-{n}\nunfolding all_shown rows-{n}\ntold-{n} = each_shown rows-{n} tt\n"
     with open(OUT, "w", encoding="utf-8") as file:
         file.write(out)
     print(f"{OUT}: {len(rows)} rows, {len(asked_for) - len(rows)} left out")
@@ -226,7 +226,7 @@ def main():
     for n, k in enumerate(range(0, len(rows), BATCH), 1):
         listed = "\n    ∷ ".join(f"{text}  -- {name}" for text, name in rows[k:k + BATCH])
         out += f"\npub rows-{n} : List Row\nrows-{n} =\n    {listed}\n    ∷ []\n"
-        out += f"\npub hold-{n} : Each Holds rows-{n}\nunfolding all-hold rows-{n}\nhold-{n} = each rows-{n} tt\n"
+        out += f"\npub hold-{n} : Each Holds rows-{n}\nunfolding all_hold rows-{n}\nhold-{n} = each rows-{n} tt\n"
     with open(OUT, "w", encoding="utf-8") as file:
         file.write(out)
     print(f"{OUT}: {len(rows)} rows")

@@ -1,9 +1,7 @@
 """The build: in a folder with an odd name, by a compiler of several words, with the user's own flags. What it makes beside the tool: the shared library and
 hosts over it. What is installed, and where."""
 import os
-import platform
 import re
-import shlex
 import shutil
 import stat
 import struct
@@ -69,15 +67,9 @@ def test_shared_library():
 
 
 def test_python_host():
-    """Over the proved code, by this Python or by one for x86-64 that $PYTHON_X86_64 runs, which may be several words: an emulator's and its own."""
+    """Over the proved code, by this Python."""
     script, library = os.path.join(TOP, "examples", "host.py"), os.path.join(Run.built, "libcif.so")
-    python = shlex.split(os.environ.get("PYTHON_X86_64", "")) or ([sys.executable] if platform.machine() == "x86_64" else [])
-    if python:
-        expect_host([*python, script, library], b"host.py")
-    else:
-        print(f"not tried on {platform.machine()}: examples/host.py over the proved code, for which $PYTHON_X86_64 has to run an x86-64 Python (host_shared runs that library)")
-        done = ran(sys.executable, script, library, input=EXAMPLE)
-        expect(done.returncode == 1 and b"x86-64, and this Python is" in done.stdout, "a library for another machine", done)
+    expect_host([sys.executable, script, library], b"host.py")
     done = ran(sys.executable, script, scratch("none.so"), input=EXAMPLE)
     expect(done.returncode == 1 and done.stdout.startswith(b"host.py: the shared library cannot be loaded: "), "a library that is not there", done)
     expect(content(script).count(b"\n") <= 45, "the example host has at most forty-five lines")
@@ -85,32 +77,15 @@ def test_python_host():
 
 # ---- built and installed elsewhere
 
-def stand_in(folder):
-    """An archive for this machine, and an environment in which tool/build takes this machine for x86-64."""
-    made, archive = os.path.join(folder, "stand_in.o"), os.path.join(folder, "libcif.a")
-    for words in (["cc", "-fPIC", "-I" + os.path.join(TOP, "include"), "-c", os.path.join(TOP, "tool", "tests", "stand_in.c"), "-o", made], ["ar", "rcs", archive, made]):
-        done = ran(*words)
-        expect(done.returncode == 0, "the stand-in for the archive", done)
-    with open(os.path.join(folder, "uname"), "w") as f:
-        f.write("#!/bin/sh\necho x86_64\n")
-    os.chmod(f.name, 0o755)
-    return archive, {"PATH": folder + os.pathsep + os.environ["PATH"]}
-
-
 def own_archive():
-    """What this machine's own compiler can link: the proved archive, or on another machine than x86-64 a stand-in. None where there is no compiler."""
-    if not shutil.which("cc") or not shutil.which("ar"):
-        print("not tried, since there is no cc or no ar: a build by this machine's own compiler, what it installs, and examples/host.py")
+    """The proved archive, where there are the tools to link it; else None."""
+    if not shutil.which("cc"):
+        print("not tried, since there is no cc: a build in another folder, what it installs, and examples/host.py over that")
         return None
-    if platform.machine() == "x86_64" and not os.path.exists(Run.archive):
-        print("not tried, since there is no archive: a build by this machine's own compiler, what it installs, and examples/host.py over that")
+    if not os.path.exists(Run.archive):
+        print("not tried, since there is no archive: a build in another folder, what it installs, and examples/host.py over that")
         return None
-    if platform.machine() == "x86_64":
-        return Run.archive, {}
-    print(f"tried on {platform.machine()} over a stand-in for the archive, which is x86-64: a build by this machine's own compiler, what it installs, examples/host.py")
-    folder = scratch("stand-in")
-    os.mkdir(folder)
-    return stand_in(folder)
+    return Run.archive
 
 
 def copied(place):
@@ -120,15 +95,14 @@ def copied(place):
 
 
 def test_build_elsewhere():
-    found = own_archive()
-    if found is None:
+    archive = own_archive()
+    if archive is None:
         return
-    archive, more = found
     place = scratch("it's a \"folder\"")
     copied(place)
     log, compiler = scratch("log.txt", b""), scratch("compiler", b'#!/bin/sh\necho "$@" >>"$LOG"\nshift\nexec cc "$@"\n')
     os.chmod(compiler, 0o755)
-    env = {**os.environ, **more, "LOG": log, "CC": compiler + " first", "CFLAGS": "-DSOME_FLAG -DOTHER_FLAG", "LDFLAGS": "-Wl,-O1 -Wl,-O2"}
+    env = {**os.environ, "LOG": log, "CC": compiler + " first", "CFLAGS": "-DSOME_FLAG -DOTHER_FLAG", "LDFLAGS": "-Wl,-O1 -Wl,-O2"}
     done = ran(os.path.join(place, "tool", "build"), archive, env=env)
     if not expect(done.returncode == 0 and done.stdout.endswith(BUILT), "a build in a folder with quotes in its name", done):
         return
@@ -141,21 +115,6 @@ def test_build_elsewhere():
     expect_host([os.path.join(place, "target", "tool", "host_shared")], b"host")
     expect_host([sys.executable, os.path.join(place, "examples", "host.py")], b"host.py")
     expect_package(place)
-
-
-def test_build_by_the_kit():
-    """On other machines than x86-64 the kit builds, in such a folder too; what it makes can be moved."""
-    if platform.machine() == "x86_64" or not os.path.exists(Run.archive):
-        print("not tried: a build by the kit's compiler, which is for other machines than x86-64 and needs the archive")
-        return
-    place, other = scratch("kit's \"folder\""), scratch("the kit's other folder")
-    copied(place)
-    done = ran(os.path.join(place, "tool", "build"), Run.archive)
-    expect(done.returncode == 0 and done.stdout == BUILT, "a build by the kit in a folder with quotes in its name", done)
-    os.rename(place, other)
-    built = ran(os.path.join(other, "target", "tool", "cif"), "flat", "-", input=EXAMPLE)
-    expect(built.stdout == EXAMPLE_FLAT, "what was built there works in another place", built)
-    expect_host([os.path.join(other, "target", "tool", "host_shared")], b"host")
 
 
 def expect_package(place):
@@ -196,8 +155,6 @@ def test_install():
     shutil.copytree(Run.built, os.path.join(place, "target", "tool"), symlinks=True)
     files = {"bin/cif": 0o755, "share/man/man1/cif.1": 0o644, "share/bash-completion/completions/cif": 0o644, "include/cif.h": 0o644, "lib/libcif.a": 0o644, "lib/libcif.so.4": 0o755,
              "lib/libcif.so": "libcif.so.4", "lib/pkgconfig/cif.pc": 0o644}
-    if os.path.exists(os.path.join(Run.built, "cif.x86-64")):
-        files["bin/cif.x86-64"] = 0o755
     env = {**os.environ, "PREFIX": prefix}
     done = ran(install, env=env)
     expect(done.returncode == 0 and done.stdout == f"installed under {prefix}: try {prefix}/bin/cif --help\n".encode(), "an install says what was done", done)

@@ -1,6 +1,5 @@
 """What cannot be read or written, and the file that appears whole or not at all."""
 import os
-import platform
 import pty
 import resource
 import signal
@@ -206,9 +205,6 @@ def test_interrupted():
 
 
 def test_memory():
-    if platform.machine() != "x86_64":
-        print("not tried under an emulator: too little memory, of which the emulator needs more than it leaves to the tool")
-        return
     for megabytes in (12, 30):
         done = cif("check", "-", text=EXAMPLE, preexec_fn=lambda: resource.setrlimit(resource.RLIMIT_AS, (megabytes << 20, megabytes << 20)))
         expect_trouble(done, b"emory")

@@ -1,7 +1,7 @@
 #!/usr/bin/env python3
-"""How fast the two engines are, side by side: tools/speed/engines.py [--times N] FILE.., at the top of the repository, after `rt staticlib cif`.
+"""How fast the two engines are, side by side: tools/speed/engines.py [--times N] FILE.., at the top of the repository, after `tool/archive`.
 
-Links tools/speed/engines.c with target/staticlib/libcif.a and prints for each text its answer, its flat file's length, shapes and calls, the least processor
+Links tools/speed/engines.c with the archive and prints for each text its answer, its flat file's length, shapes and calls, the least processor
 time of N calls of `cif_flatten` and of `cif_flatten_stacked` with 32 records, by turns in one run, and how many times as long the second takes. Both have to
 tell the same, in all words of the answer and all bytes of the room, or the exit status is 1.
 """
@@ -12,19 +12,7 @@ import subprocess
 import sys
 import tempfile
 
-from speed import ON, TARGET, TOOLS, archive
-
-HERE = os.path.dirname(os.path.abspath(__file__))
-
-
-def build(work):
-    obj, out = os.path.join(work, "engines.o"), os.path.join(work, "engines")
-    subprocess.run([os.path.join(TOOLS, "bin", "clang"), "--target=" + TARGET, "-O3", "-c", os.path.join(HERE, "engines.c"), "-o", obj], check=True)
-    subprocess.run([os.path.join(ON, "bin", "rattle-link"), "--target", TARGET, "--toolchain", TOOLS, "-o", out, obj, archive()],
-                   check=True, stderr=subprocess.DEVNULL)
-    emulator = os.path.join(TOOLS, "bin", "qemu-x86_64")
-    loader = [os.path.join(TOOLS, "lib", "ld-linux-x86-64.so.2"), "--library-path", os.path.join(TOOLS, "lib")]
-    return ([emulator] if os.path.exists(emulator) else []) + loader + [out]
+from speed import linked
 
 
 def main():
@@ -32,11 +20,9 @@ def main():
     a.add_argument("--times", type=int, default=5)
     a.add_argument("files", nargs="+")
     given = a.parse_args()
-    if not os.path.exists(archive()):
-        sys.exit(f"no {archive()} here: run `rt staticlib cif` at the top of the repository")
     work, differ = tempfile.mkdtemp(), 0
     try:
-        command = build(work)
+        command = linked(work, "engines", "-O3")
         print(f"{'text':16} {'bytes':>9} {'answer':>10} {'flat':>9} {'shapes':>8} {'calls':>8} {'calls, ms':>10} {'records, ms':>11} {'times':>6}")
         for path in given.files:
             got = subprocess.run([*command, path, str(given.times)], capture_output=True, text=True, check=True).stdout.split()

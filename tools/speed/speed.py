@@ -2,13 +2,12 @@
 """How fast the proved code is, and what memory it takes: tools/speed/speed.py [--of PART] [--times N] [FILE..], at the top of the repository.
 
 PART is grammar (cif_recognise: refusal 2; the default) or reading (cif_refusal: refusals 2 to 9). Links tools/speed/driver.c with the archive that
-`rt staticlib cif` writes under target/staticlib, by the kit's own compiler, and prints for each text
+tool/archive makes, by the kit's own compiler, and prints for each text
 its length, the answer, the least processor time of N calls, ns a byte, and how many pages of memory the calls touched beyond those of the text and
 of a call on an empty text. Without FILE it makes texts of 16 MiB, and one of 1 MiB for comparison.
 """
 import argparse
 import os
-import platform
 import shutil
 import subprocess
 import sys
@@ -16,8 +15,7 @@ import tempfile
 
 MOST = 16 * 1024 * 1024
 KIT = os.path.dirname(os.path.dirname(os.path.realpath(shutil.which("rt"))))
-ON = os.path.join(KIT, "on", platform.machine())
-TOOLS = os.path.join(ON, "toolchain")
+TOOLS = os.path.join(KIT, "toolchain")
 TARGET = "x86_64-unknown-linux-gnu"
 CALLS = {"grammar": "cif_recognise", "reading": "cif_refusal"}
 
@@ -56,19 +54,19 @@ def made(work):
 
 
 def archive():
-    return "target/staticlib/libcif.a"
+    return "crates/cif_c/out/libcif_c.a"
 
 
-def build(work, part):
-    """The command that runs the driver: under the kit's loader and C library, and on Arm its emulator."""
-    obj, out = os.path.join(work, "driver.o"), os.path.join(work, "driver")
-    here = os.path.dirname(os.path.abspath(__file__))
-    subprocess.run([os.path.join(TOOLS, "bin", "clang"), "--target=" + TARGET, "-O3", "-DCALL=" + CALLS[part], "-c", os.path.join(here, "driver.c"), "-o", obj], check=True)
-    subprocess.run([os.path.join(ON, "bin", "rattle-link"), "--target", TARGET, "--toolchain", TOOLS, "-o", out, obj, archive()],
+def linked(work, name, *flags):
+    """The program of NAME.c and the archive. Where there is no archive, that ends the run."""
+    if not os.path.exists(archive()):
+        sys.exit(f"no {archive()} here: run `tool/archive` at the top of the repository")
+    obj, out = os.path.join(work, name + ".o"), os.path.join(work, name)
+    source = os.path.join(os.path.dirname(os.path.abspath(__file__)), name + ".c")
+    subprocess.run([os.path.join(TOOLS, "bin", "clang"), "--target=" + TARGET, *flags, "-c", source, "-o", obj], check=True)
+    subprocess.run([os.path.join(KIT, "bin", "rattle-link"), "--target", TARGET, "--toolchain", TOOLS, "-o", out, obj, archive()],
                    check=True, stderr=subprocess.DEVNULL)
-    emulator = os.path.join(TOOLS, "bin", "qemu-x86_64")
-    loader = [os.path.join(TOOLS, "lib", "ld-linux-x86-64.so.2"), "--library-path", os.path.join(TOOLS, "lib")]
-    return ([emulator] if os.path.exists(emulator) else []) + loader + [out]
+    return [out]
 
 
 def main():
@@ -77,11 +75,9 @@ def main():
     a.add_argument("--times", type=int, default=7)
     a.add_argument("files", nargs="*")
     given = a.parse_args()
-    if not os.path.exists(archive()):
-        sys.exit(f"no {archive()} here: run `rt staticlib cif` at the top of the repository")
     work = tempfile.mkdtemp()
     try:
-        command = build(work, given.of)
+        command = linked(work, "driver", "-O3", "-DCALL=" + CALLS[given.of])
         print(f"{'text':24} {'bytes':>9}  {'answer':>12} {'ms':>9} {'ns/byte':>8} {'pages':>6}")
         for name, path in [(f, f) for f in given.files] or made(work):
             got = subprocess.run([*command, path, str(given.times)], capture_output=True, text=True, check=True).stdout.split()

@@ -1,7 +1,7 @@
 #!/usr/bin/env python3
-"""How much of the machine's stack the proved reader takes: tools/speed/stack.py [FILE..], at the top of the repository, after `rt staticlib cif`.
+"""How much of the machine's stack the proved reader takes: tools/speed/stack.py [FILE..], at the top of the repository, after `tool/archive`.
 
-Links tools/speed/stack.c with target/staticlib/libcif.a and prints for each text its answer, its calls and the bytes of stack that were touched
+Links tools/speed/stack.c with the archive and prints for each text its answer, its calls and the bytes of stack that were touched
 below the caller's frame, by the engine that calls itself and by the one that keeps the open calls in records (request 7). Without FILE it makes texts of 0 to
 33 levels of calls; then the second engine has to take the same for each number of levels from 1 on, and no more than for none, or the exit status is 1.
 """
@@ -11,19 +11,7 @@ import subprocess
 import sys
 import tempfile
 
-from speed import ON, TARGET, TOOLS, archive
-
-HERE = os.path.dirname(os.path.abspath(__file__))
-
-
-def build(work):
-    obj, out = os.path.join(work, "stack.o"), os.path.join(work, "stack")
-    subprocess.run([os.path.join(TOOLS, "bin", "clang"), "--target=" + TARGET, "-O1", "-c", os.path.join(HERE, "stack.c"), "-o", obj], check=True)
-    subprocess.run([os.path.join(ON, "bin", "rattle-link"), "--target", TARGET, "--toolchain", TOOLS, "-o", out, obj, archive()],
-                   check=True, stderr=subprocess.DEVNULL)
-    emulator = os.path.join(TOOLS, "bin", "qemu-x86_64")
-    loader = [os.path.join(TOOLS, "lib", "ld-linux-x86-64.so.2"), "--library-path", os.path.join(TOOLS, "lib")]
-    return ([emulator] if os.path.exists(emulator) else []) + loader + [out]
+from speed import linked
 
 
 def levels(k):
@@ -43,7 +31,7 @@ def made(work):
 def main():
     work = tempfile.mkdtemp()
     try:
-        command = build(work)
+        command = linked(work, "stack", "-O1")
         taken = {"calls": [], "records": []}
         print(f"{'text':24} {'engine':>8} {'answer':>12} {'calls':>8} {'stack':>8}")
         for path in sys.argv[1:] or made(work):

@@ -1,10 +1,10 @@
 -- The places of the open calls, copied among an answer's words one after the other and read back from them.
 -- Assumes nothing.
-use mathlib.Core.Path.{◌≡◌, refl, ap, sym, ◌∙◌, subst}
-use mathlib.Core.List.{List, ◌++◌, map, append-nil}
+use mathlib.Core.Path.{◌≡◌, refl, ap, ◌∙◌, subst}
+use mathlib.Core.List.{List, ◌++◌, append-nil}
 use Prim.Native.Nat.{ℕ, zero, suc, ◌+◌, ◌≤◌, ◌<◌}
 use native.Mathlib.Omega.{arith}
-use lib.ListN.{length, get_or, set, take, length-map}
+use lib.ListN.{length, get_or, set, take}
 use lib.Seq.{paste, paste-zero, paste-suc, take_all}
 use Rattle.definition.specs.declared.Answer.{Answer}
 use Rattle.answer.specs.Words.{zeros, first_words, answer_words, words_from, chain_by}
@@ -35,9 +35,6 @@ all_copied {base} {at} {from} {i} {now} g h =
     g.is ∙ ap (paste base at from) all
 
 -- ---- into the words
-
-pub as_many : (l : List ℕ) → length (map (λ (n : ℕ). n) l) ≡ 32 → length l ≡ 32
-as_many l e = sym (length-map l (λ (n : ℕ). n)) ∙ e
 
 pub all_told : {a : Answer} {i : ℕ} {told now : List ℕ} → told ≡ first_words a ++ zeros 54 → Copied told 16 a.chain i now → 32 ≤ i → length a.chain ≡ 32 → now ≡ answer_words a
 all_told {a} {i} {told} {now} e g h many =

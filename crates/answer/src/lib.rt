@@ -1,6 +1,7 @@
 // What a reader answers: made in two ways only, of a refusal and of a success, so that whatever an answer holds is set in one place for each. And the
 // answer's words for hosts, each at a position that is fixed for good (specs/Words.antt names them all).
 #![tactic(auto)]
+
 ghost use Rattle.std.specs.Prelude.{◌≡◌, [], ◌++◌, length};
 ghost use Rattle.definition.specs.Answer.{success, failure};
 ghost use Rattle.counts.specs.Counting.{tally};

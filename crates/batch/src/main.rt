@@ -4,11 +4,15 @@
 //   cut short        the input ends within a record
 //   too long         a number of a record is over its limit
 #![tactic(auto)]
-ghost use Rattle.std.specs.Prelude.{◌≤◌, ◌<◌, ◌≡◌, length};
+
+ghost use Rattle.std.specs.Prelude.{◌≤◌, ◌<◌, ◌≡◌, IfOk, length, vec_len};
 ghost use Rattle.printout.specs.Prints.{listing_length};
 
 use definition::{Answer, Summary, Why};
-use streams::Input;
+use std::alloc::{AllocError, Global};
+use std::io;
+use std::io::{Read, Write};
+use streams::Failure;
 
 // The limits of a record: the bytes of a text or a room, or the words lent for bodies; and the records lent for open calls.
 const MOST: usize = 1048576;
@@ -23,189 +27,150 @@ const EXPLAIN: usize = 7;
 // A packed name has 32 bits: all are below this.
 const NAMES: usize = 4294967296;
 
-// The contracts of these two spare callers the zeros.
-fn bytes() -> [u8; MOST]
-    ensures { 1048576 ≡ length result }
+fn bytes(alloc: Global) -> Result<Vec<u8>, AllocError>
+    ensures { IfOk result (λ v. 1048576 ≡ vec_len v) }
 {
-    [0; MOST]
+    vec![in alloc; 0; MOST]
 }
 
-fn body_words() -> [i32; MOST]
-    ensures { 1048576 ≡ length result }
+fn body_words(alloc: Global) -> Result<Vec<i32>, AllocError>
+    ensures { IfOk result (λ v. 1048576 ≡ vec_len v) }
 {
-    [0; MOST]
+    vec![in alloc; 0; MOST]
 }
 
-// A field of a line that is followed by others. Like all that writes, it says whether it could.
-fn put_field(n: usize) -> bool {
-    streams::write_number(n, b"\t")
+// A field of a line that is followed by others.
+fn put_field<W: Write>(output: &mut W, n: usize) -> Result<(), Failure> {
+    streams::write_number(output, n, b"\t")
 }
 
-fn put_counts(r: Answer) -> bool {
-    if !put_field(r.shapes) {
-        return false;
-    }
-    if !put_field(r.calls) {
-        return false;
-    }
-    if !put_field(r.redefinitions) {
-        return false;
-    }
-    put_field(r.rounded)
+fn put_counts<W: Write>(output: &mut W, r: Answer) -> Result<(), Failure> {
+    put_field(output, r.shapes)?;
+    put_field(output, r.calls)?;
+    put_field(output, r.redefinitions)?;
+    put_field(output, r.rounded)
 }
 
 // A place of the chain stands after a tab, so that nothing stands where no call is open.
-fn put_place(place: usize) -> bool {
-    if !streams::write(b"\t") {
-        return false;
-    }
-    streams::write_number(place, b"")
+fn put_place<W: Write>(output: &mut W, place: usize) -> Result<(), Failure> {
+    streams::write(output, b"\t")?;
+    streams::write_number(output, place, b"")
 }
 
 // The places of the open calls, the outermost first.
-fn put_chain(chain: &[usize], opened: usize) -> bool {
-    let mut i = 0;
-    while i < chain.len() {
-        if i == opened {
-            return true;
-        }
-        if !put_place(chain[i]) {
-            return false;
-        }
-        i += 1;
+fn put_chain<W: Write>(output: &mut W, chain: &[usize], opened: usize) -> Result<(), Failure> {
+    for place in chain.iter().take(opened) {
+        put_place(output, *place)?;
     }
-    true
+    Ok(())
 }
 
 // Line, column, and the chain, with which the line ends.
-fn put_where(line: usize, column: usize, chain: &[usize], opened: usize) -> bool {
-    if !put_field(line) {
-        return false;
-    }
-    if !streams::write_number(column, b"") {
-        return false;
-    }
-    if !put_chain(chain, opened) {
-        return false;
-    }
-    streams::write(b"\n")
+fn put_where<W: Write>(
+    output: &mut W,
+    line: usize,
+    column: usize,
+    chain: &[usize],
+    opened: usize,
+) -> Result<(), Failure> {
+    put_field(output, line)?;
+    streams::write_number(output, column, b"")?;
+    put_chain(output, chain, opened)?;
+    streams::write(output, b"\n")
 }
 
 // Where the text is refused.
-fn put_position(r: Answer) -> bool {
+fn put_position<W: Write>(output: &mut W, r: Answer) -> Result<(), Failure> {
     let chain = r.chain;
-    put_where(r.line, r.column, &chain, r.opened)
+    put_where(output, r.line, r.column, &chain, r.opened)
 }
 
 // The line of an answer.
-fn put_answer(r: Answer) -> bool {
-    if !put_field(r.number) {
-        return false;
-    }
-    if !put_field(r.place) {
-        return false;
-    }
-    if !put_field(r.length) {
-        return false;
-    }
-    if !put_counts(r) {
-        return false;
-    }
-    put_position(r)
+fn put_answer<W: Write>(output: &mut W, r: Answer) -> Result<(), Failure> {
+    put_field(output, r.number)?;
+    put_field(output, r.place)?;
+    put_field(output, r.length)?;
+    put_counts(output, r)?;
+    put_position(output, r)
 }
 
 // The line of an answer, and the flat file that stands in the room.
-fn put_flat(answer: Answer, room: &[u8]) -> bool
+fn put_flat<W: Write>(output: &mut W, answer: Answer, room: &[u8]) -> Result<(), Failure>
     requires { answer.length ≤ length room.now }
 {
     let length = answer.length;
-    if !put_answer(answer) {
-        return false;
-    }
-    streams::write(&room[..length])
+    put_answer(output, answer)?;
+    streams::write(output, &room[..length])
 }
 
 // Task 0: the flat file.
-fn flatten(text: &[u8], words: &mut [i32], room: &mut [u8]) -> bool {
+fn flatten<W: Write>(
+    output: &mut W,
+    text: &[u8],
+    words: &mut [i32],
+    room: &mut [u8],
+) -> Result<(), Failure> {
     let answer = reader::flatten(text, words, room);
-    put_flat(answer, room)
+    put_flat(output, answer, room)
 }
 
 // Task 1: the same by the engine without deep calls, with so many records.
-fn flatten_stacked(text: &[u8], words: &mut [i32], room: &mut [u8], records: usize) -> bool
+fn flatten_stacked<W: Write>(
+    output: &mut W,
+    text: &[u8],
+    words: &mut [i32],
+    room: &mut [u8],
+    records: usize,
+) -> Result<(), Failure>
     requires { records ≤ 64 }
 {
     let answer = local::flatten(text, words, room, records);
-    put_flat(answer, room)
+    put_flat(output, answer, room)
 }
 
 // Task 2: what the list program prints.
-fn list(text: &[u8], room: &mut [u8]) -> bool
+fn list<W: Write>(output: &mut W, text: &[u8], room: &mut [u8]) -> Result<(), Failure>
     requires { length room.old ≡ listing_length }
 {
     let length = printout::print_text(text, room);
-    if !streams::write(b"0\t0\t") {
-        return false;
-    }
-    if !streams::write_number(length, b"\n") {
-        return false;
-    }
-    streams::write(&room[..length])
+    streams::write(output, b"0\t0\t")?;
+    streams::write_number(output, length, b"\n")?;
+    streams::write(output, &room[..length])
 }
 
 // As much of the room as the longest listing has.
-fn list_within(text: &[u8], room: &mut [u8]) -> bool
+fn list_within<W: Write>(output: &mut W, text: &[u8], room: &mut [u8]) -> Result<(), Failure>
     requires { 1048576 ≡ length room.old }
 {
-    list(text, &mut room[..printout::LONGEST_LISTING])
+    list(output, text, &mut room[..printout::LONGEST_LISTING])
 }
 
-fn put_drawn(told: Summary) -> bool {
-    if !put_field(told.gives) {
-        return false;
-    }
-    if !put_field(told.drawn) {
-        return false;
-    }
-    put_field(told.height)
+fn put_drawn<W: Write>(output: &mut W, told: Summary) -> Result<(), Failure> {
+    put_field(output, told.gives)?;
+    put_field(output, told.drawn)?;
+    put_field(output, told.height)
 }
 
-fn put_own(told: Summary) -> bool {
-    if !put_field(told.shapes) {
-        return false;
-    }
-    if !put_field(told.calls) {
-        return false;
-    }
-    put_field(told.layers)
+fn put_own<W: Write>(output: &mut W, told: Summary) -> Result<(), Failure> {
+    put_field(output, told.shapes)?;
+    put_field(output, told.calls)?;
+    put_field(output, told.layers)
 }
 
 // Line and column, with which the line ends.
-fn put_end(told: Summary) -> bool {
-    if !put_field(told.line) {
-        return false;
-    }
-    streams::write_number(told.column, b"\n")
+fn put_end<W: Write>(output: &mut W, told: Summary) -> Result<(), Failure> {
+    put_field(output, told.line)?;
+    streams::write_number(output, told.column, b"\n")
 }
 
 // The line of a summary, whose first layer has a name of this length.
-fn put_summary(told: Summary, length: usize) -> bool {
-    if !put_field(told.number) {
-        return false;
-    }
-    if !put_field(told.place) {
-        return false;
-    }
-    if !put_field(length) {
-        return false;
-    }
-    if !put_drawn(told) {
-        return false;
-    }
-    if !put_own(told) {
-        return false;
-    }
-    put_end(told)
+fn put_summary<W: Write>(output: &mut W, told: Summary, length: usize) -> Result<(), Failure> {
+    put_field(output, told.number)?;
+    put_field(output, told.place)?;
+    put_field(output, length)?;
+    put_drawn(output, told)?;
+    put_own(output, told)?;
+    put_end(output, told)
 }
 
 // The letters of a packed name, which are at most four, and how many they are.
@@ -216,14 +181,17 @@ fn put_letters(name: &mut [u8], packed: u32) -> usize
 }
 
 // Task 3: what is in a symbol, and the name of its first layer.
-fn summarise(text: &[u8], words: &mut [i32], symbol: usize) -> bool {
+fn summarise<W: Write>(
+    output: &mut W,
+    text: &[u8],
+    words: &mut [i32],
+    symbol: usize,
+) -> Result<(), Failure> {
     let told = summary::summarise(text, words, symbol);
     let mut name = [0u8; 4];
     let length = put_letters(&mut name, (told.first % NAMES) as u32);
-    if !put_summary(told, length) {
-        return false;
-    }
-    streams::write(&name[..length])
+    put_summary(output, told, length)?;
+    streams::write(output, &name[..length])
 }
 
 // A number as the flat file has it, with a minus sign where it is negative, and how many bytes that takes.
@@ -235,73 +203,56 @@ fn put_decimal(digits: &mut [u8], z: i64) -> usize
 }
 
 // A field that may be negative.
-fn put_signed(z: i64) -> bool {
+fn put_signed<W: Write>(output: &mut W, z: i64) -> Result<(), Failure> {
     let mut digits = [0u8; 21];
     let length = put_decimal(&mut digits, z);
-    if !streams::write(&digits[..length]) {
-        return false;
-    }
-    streams::write(b"\t")
+    streams::write(output, &digits[..length])?;
+    streams::write(output, b"\t")
 }
 
-fn put_matrix(told: Why) -> bool {
-    if !put_signed(told.a) {
-        return false;
-    }
-    if !put_signed(told.b) {
-        return false;
-    }
-    if !put_signed(told.c) {
-        return false;
-    }
-    put_signed(told.d)
+fn put_matrix<W: Write>(output: &mut W, told: Why) -> Result<(), Failure> {
+    put_signed(output, told.a)?;
+    put_signed(output, told.b)?;
+    put_signed(output, told.c)?;
+    put_signed(output, told.d)
 }
 
-fn put_translation(told: Why) -> bool {
-    if !put_signed(told.tx) {
-        return false;
-    }
-    put_signed(told.ty)
+fn put_translation<W: Write>(output: &mut W, told: Why) -> Result<(), Failure> {
+    put_signed(output, told.tx)?;
+    put_signed(output, told.ty)
 }
 
 // Where the shape stands, and its transformation.
-fn put_shape(told: Why) -> bool {
-    if !put_field(told.shape) {
-        return false;
-    }
-    if !put_matrix(told) {
-        return false;
-    }
-    put_translation(told)
+fn put_shape<W: Write>(output: &mut W, told: Why) -> Result<(), Failure> {
+    put_field(output, told.shape)?;
+    put_matrix(output, told)?;
+    put_translation(output, told)
 }
 
 // The chain is that of the shape or of the refusal, line and column are the refusal's.
-fn put_calls(told: Why) -> bool {
+fn put_calls<W: Write>(output: &mut W, told: Why) -> Result<(), Failure> {
     let chain = told.chain;
-    put_where(told.line, told.column, &chain, told.opened)
+    put_where(output, told.line, told.column, &chain, told.opened)
 }
 
 // The line of a shape, which no bytes follow.
-fn put_why(told: Why) -> bool {
-    if !put_field(told.number) {
-        return false;
-    }
-    if !put_field(told.place) {
-        return false;
-    }
-    if !put_field(0) {
-        return false;
-    }
-    if !put_shape(told) {
-        return false;
-    }
-    put_calls(told)
+fn put_why<W: Write>(output: &mut W, told: Why) -> Result<(), Failure> {
+    put_field(output, told.number)?;
+    put_field(output, told.place)?;
+    put_field(output, 0)?;
+    put_shape(output, told)?;
+    put_calls(output, told)
 }
 
 // Task 7: why the shape with this count is there.
-fn explain(text: &[u8], words: &mut [i32], count: usize) -> bool {
+fn explain<W: Write>(
+    output: &mut W,
+    text: &[u8],
+    words: &mut [i32],
+    count: usize,
+) -> Result<(), Failure> {
     let told = why::why(text, words, count);
-    put_why(told)
+    put_why(output, told)
 }
 
 // What a record begins with, as far as a task needs it: the task, the lengths of its two texts and of its room, the words lent for bodies, the records
@@ -345,7 +296,7 @@ fn head_of(numbers: &[u8; 28]) -> Head {
     }
 }
 
-// What comes next: a record, or the input is at its end or could not be read, or it ends within the head.
+// What comes next: a record, or the input is at its end, or it ends within the head.
 #[derive(Clone, Copy)]
 enum Next {
     Record(Head),
@@ -353,55 +304,58 @@ enum Next {
     CutShort,
 }
 
-fn read_head() -> Next {
+fn read_head<R: Read>(input: &mut R) -> Result<Next, Failure> {
     let mut head: [u8; 28] = [0; 28];
-    match streams::read(&mut head) {
-        Input::Failed => Next::End,
-        Input::Bytes(n) => {
-            if n == 0 {
-                return Next::End;
-            }
-            if n < 28 {
-                return Next::CutShort;
-            }
-            Next::Record(head_of(&head))
-        }
+    let n = streams::read(input, &mut head)?;
+    if n == 0 {
+        return Ok(Next::End);
     }
+    if n < 28 {
+        return Ok(Next::CutShort);
+    }
+    Ok(Next::Record(head_of(&head)))
 }
 
 // A line of words ends the run.
-fn stop(words: &[u8]) -> bool {
-    streams::write(words);
-    false
+fn stop<W: Write>(output: &mut W, words: &[u8]) -> Result<bool, Failure> {
+    streams::write(output, words)?;
+    Ok(false)
 }
 
-// Reads a whole text, and says whether it could.
-fn read_text(text: &mut [u8]) -> bool {
+// Reads a whole text, and says whether the run goes on: it ends where the input is cut short.
+fn read_text<R: Read, W: Write>(
+    input: &mut R,
+    output: &mut W,
+    text: &mut [u8],
+) -> Result<bool, Failure> {
     let n = text.len();
-    match streams::read(text) {
-        Input::Failed => false,
-        Input::Bytes(read) => {
-            if read < n {
-                return stop(b"cut short\n");
-            }
-            true
-        }
+    let read = streams::read(input, text)?;
+    if read < n {
+        return stop(output, b"cut short\n");
     }
+    Ok(true)
 }
 
 // The tasks that need no room. One that is still to come gives a line and no bytes.
-fn answer_without_room(task: usize, text: &[u8], words: &mut [i32], argument: usize) -> bool {
+fn answer_without_room<W: Write>(
+    output: &mut W,
+    task: usize,
+    text: &[u8],
+    words: &mut [i32],
+    argument: usize,
+) -> Result<(), Failure> {
     if task == SUMMARISE {
-        return summarise(text, words, argument);
+        return summarise(output, text, words, argument);
     }
     if task == EXPLAIN {
-        return explain(text, words, argument);
+        return explain(output, text, words, argument);
     }
-    streams::write(b"0\t0\t0\n")
+    streams::write(output, b"0\t0\t0\n")
 }
 
 // Answers a record by its task.
-fn answer(
+fn answer<W: Write>(
+    output: &mut W,
     task: usize,
     text: &[u8],
     words: &mut [i32],
@@ -409,18 +363,20 @@ fn answer(
     size: usize,
     room: &mut [u8],
     argument: usize,
-) -> bool
+) -> Result<(), Failure>
     requires { (records ≤ 64) × (size ≤ length room.old) × (1048576 ≡ length room.old) }
 {
     match task {
-        0 => flatten(text, words, &mut room[..size]),
-        1 => flatten_stacked(text, words, &mut room[..size], records),
-        2 => list_within(text, room),
-        _ => answer_without_room(task, text, words, argument),
+        0 => flatten(output, text, words, &mut room[..size]),
+        1 => flatten_stacked(output, text, words, &mut room[..size], records),
+        2 => list_within(output, text, room),
+        _ => answer_without_room(output, task, text, words, argument),
     }
 }
 
-fn answer_texts(
+fn answer_texts<R: Read, W: Write>(
+    input: &mut R,
+    output: &mut W,
     task: usize,
     text: &mut [u8],
     second: &mut [u8],
@@ -429,16 +385,17 @@ fn answer_texts(
     size: usize,
     room: &mut [u8],
     argument: usize,
-) -> bool
+) -> Result<bool, Failure>
     requires { (records ≤ 64) × (size ≤ length room.old) × (1048576 ≡ length room.old) }
 {
-    if !read_text(text) {
-        return false;
+    if !read_text(input, output, text)? {
+        return Ok(false);
     }
-    if !read_text(second) {
-        return false;
+    if !read_text(input, output, second)? {
+        return Ok(false);
     }
-    answer(task, text, words, records, size, room, argument)
+    answer(output, task, text, words, records, size, room, argument)?;
+    Ok(true)
 }
 
 // Whether so many words may be asked for.
@@ -489,32 +446,41 @@ fn over(head: Head) -> bool {
 }
 
 // Answers the next record, and says whether the run goes on.
-fn answer_next(text: &mut [u8], second: &mut [u8], words: &mut [i32], room: &mut [u8]) -> bool
+fn answer_next<R: Read, W: Write>(
+    input: &mut R,
+    output: &mut W,
+    text: &mut [u8],
+    second: &mut [u8],
+    words: &mut [i32],
+    room: &mut [u8],
+) -> Result<bool, Failure>
     requires value { (1048576 ≡ length text.old) × (1048576 ≡ length second.old) }
     requires value_2 { (1048576 ≡ length words.old) × (1048576 ≡ length room.old) }
 {
-    match read_head() {
-        Next::End => false,
-        Next::CutShort => stop(b"cut short\n"),
+    match read_head(input)? {
+        Next::End => Ok(false),
+        Next::CutShort => stop(output, b"cut short\n"),
         Next::Record(head) => {
             let n = head.text;
             let m = head.second;
             let size = head.room;
             if n > text.len() {
-                return stop(b"too long\n");
+                return stop(output, b"too long\n");
             }
             if m > second.len() {
-                return stop(b"too long\n");
+                return stop(output, b"too long\n");
             }
             if size > room.len() {
-                return stop(b"too long\n");
+                return stop(output, b"too long\n");
             }
             if over(head) {
-                return stop(b"too long\n");
+                return stop(output, b"too long\n");
             }
             let records = held(head.open);
             let k = lent(asked(head.task, head.words), n + m);
             answer_texts(
+                input,
+                output,
                 head.task,
                 &mut text[..n],
                 &mut second[..m],
@@ -528,24 +494,39 @@ fn answer_next(text: &mut [u8], second: &mut [u8], words: &mut [i32], room: &mut
     }
 }
 
-// A proved loop has to end, and nothing says that the input does: it counts its turns down from a number that no run uses up.
-fn answer_all(text: &mut [u8], second: &mut [u8], words: &mut [i32], room: &mut [u8])
+// A proved loop has to end, and nothing says that the input does: it takes more turns than a run can use up.
+fn answer_all<R: Read, W: Write>(
+    input: &mut R,
+    output: &mut W,
+    text: &mut [u8],
+    second: &mut [u8],
+    words: &mut [i32],
+    room: &mut [u8],
+) -> Result<(), Failure>
     requires value { (1048576 ≡ length text.old) × (1048576 ≡ length second.old) }
     requires value_2 { (1048576 ≡ length words.old) × (1048576 ≡ length room.old) }
 {
-    let mut turns = u64::MAX;
-    while turns > 0 {
-        if !answer_next(text, second, words, room) {
-            return;
+    for _ in 0..u64::MAX {
+        if !answer_next(input, output, text, second, words, room)? {
+            break;
         }
-        turns -= 1;
     }
+    Ok(())
 }
 
-fn main() {
-    let mut text = bytes();
-    let mut second = bytes();
-    let mut words = body_words();
-    let mut room = bytes();
-    answer_all(&mut text, &mut second, &mut words, &mut room);
+fn main(rt: HostRuntime) -> anyhow::Result<()> {
+    let alloc = rt.alloc();
+    let mut text = bytes(alloc)?;
+    let mut second = bytes(alloc)?;
+    let mut words = body_words(alloc)?;
+    let mut room = bytes(alloc)?;
+    answer_all(
+        &mut rt.reader(),
+        &mut io::writer(&rt),
+        &mut text,
+        &mut second,
+        &mut words,
+        &mut room,
+    )?;
+    Ok(())
 }

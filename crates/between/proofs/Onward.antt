@@ -39,8 +39,8 @@ use Rattle.counts.specs.declared.Counts.{Counts}
 use Rattle.counts.specs.Counting.{tally}
 use Rattle.moves.specs.Moves.{most_values}
 use Rattle.shapes.specs.declared.Ink.{Ink}
-use Rattle.shapes.specs.declared.DrawEnd.{DrawEnd}
-use Rattle.shapes.specs.declared.DrawEnd.TheVariants as drawn
+use Rattle.shapes.specs.declared.Drawn.{Drawn}
+use Rattle.shapes.specs.declared.Drawn.TheVariants as drawn
 use Rattle.shapes.specs.Painting.{inked, Reached, Goes, Answered, Painted}
 use Rattle.shapes.proofs.Painting.{PaintedSoFar, so_far, goes_on, skips, stops, over, quiet, refusal}
 use Rattle.shapes.proofs.Alike.{alike_painted}
@@ -175,7 +175,7 @@ module _ {t : List ℕ} {w n : ℕ} {all : List Event} {from : Origin} {rows : L
         → Next rows b stock' to stand.layer ink room
     unfolding table_after counted shapes_of
     text-delete k {symbol} {stock'} q f =
-        let i = is_delete it_met.read_as k in
+        let i = is_delete it_met.voice k in
         let x = at place (nat_abs i.0.what) in
         let f' : Deletes rows stand.stock (nat_abs i.0.what) stock' = subst (λ (y : ℕ). Deletes rows stand.stock y stock') (q ∙ ap nat_abs (third_word it_met i.2)) f in
         record {
@@ -256,7 +256,7 @@ module _ {t : List ℕ} {w n : ℕ} {all : List Event} {from : Origin} {rows : L
     module _ (no_l : kind ≡ letter_l → ⊥) (no_d : kind ≡ letter_d → ⊥) (no_s : kind ≡ letter_s → ⊥) where
       pub text-idle : outputs kind ≡ false → Next rows b stand.stock to stand.layer ink room
       text-idle k =
-          let i = is_idle g.stands.closed place it_met.rest it_met.read_as k no_l no_d no_s in
+          let i = is_idle g.stands.closed place it_met.rest it_met.voice k no_l no_d no_s in
           record {
             stands = past_other g.stands it_met i.stays;
             layer_is = g.layer_is;
@@ -269,32 +269,32 @@ module _ {t : List ℕ} {w n : ℕ} {all : List Event} {from : Origin} {rows : L
 
       module _ (k : outputs kind ≡ true) (long : most_values + 2 ≤ length words') where
         abbrev shown : Step
-        shown = (is_output g.stands.closed place it_met.rest it_met.read_as k no_l no_d no_s).step
+        shown = (is_output g.stands.closed place it_met.rest it_met.voice k no_l no_d no_s).step
 
         pub text_says : Says words' kind e (name_of stand.layer) shown
         text_says =
             subst (λ (x : List ℕ). Says words' kind e x shown) (sym g.layer_is)
-            ((is_output g.stands.closed place it_met.rest it_met.read_as k no_l no_d no_s).said words' it_met.behind_it e it_met.laid it_met.ends it_met.few long)
+            ((is_output g.stands.closed place it_met.rest it_met.voice k no_l no_d no_s).said words' it_met.behind_it e it_met.laid it_met.ends it_met.few long)
 
         deed_shown : to_do g.stands ≡ output (at place shown) ∷ deeds σ it_met.rest
-        deed_shown = deeds_are g.stands it_met refl ∙ (is_output g.stands.closed place it_met.rest it_met.read_as k no_l no_d no_s).deed
+        deed_shown = deeds_are g.stands it_met refl ∙ (is_output g.stands.closed place it_met.rest it_met.voice k no_l no_d no_s).deed
 
         abbrev its_events : List Event
         its_events = shown_by n rows b stand.stock.live place shown
 
         -- drawn from the lean table, it is drawn as from the whole
-        shown_painted : {chain : Chain} {y : DrawEnd} {room' : List ℕ} → Painted ink its_events room chain y room' → Painted ink (map (stacked_to n) (happens table (output (at place shown)))) room chain y room'
+        shown_painted : {chain : Chain} {y : Drawn} {room' : List ℕ} → Painted ink its_events room chain y room' → Painted ink (map (stacked_to n) (happens table (output (at place shown)))) room chain y room'
         shown_painted {chain} {y} {room'} x =
             alike_painted (alike_stacked n (alike_output table (at place shown))) ink
             (subst (λ (u : Table). Painted ink (map (stacked_to n) (happens u (output (at place shown)))) room chain y room') (held-table g.stands.kept.holds) x)
 
-        deed_painted : {chain : Chain} {y : DrawEnd} {room' : List ℕ} → Painted ink its_events room chain y room' → Painted ink (held_deed n w table (output (at place shown))) room chain y room'
+        deed_painted : {chain : Chain} {y : Drawn} {room' : List ℕ} → Painted ink its_events room chain y room' → Painted ink (held_deed n w table (output (at place shown))) room chain y room'
         deed_painted {chain} {y} {room'} x = subst (λ (es : List Event). Painted ink es room chain y room') (sym (output_is n w table (at place shown))) (shown_painted x)
 
         text-goes : {chain : Chain} {ink' : Ink} {room' : List ℕ} → Painted ink its_events room chain (drawn.Done ink') room' → Next rows b stand.stock to stand.layer ink' room'
         unfolding table_after
         text-goes x = record {
-          stands = past_other g.stands it_met (is_output g.stands.closed place it_met.rest it_met.read_as k no_l no_d no_s).stays;
+          stands = past_other g.stands it_met (is_output g.stands.closed place it_met.rest it_met.voice k no_l no_d no_s).stays;
           layer_is = g.layer_is;
           going = does (output (at place shown)) (deeds σ it_met.rest) deed_shown (deed_painted x);
           short = g.short;

@@ -18,7 +18,7 @@ use Rattle.laws.proofs.Story.Outputs.{Outputs, output-events}
 use Rattle.laws.proofs.Story.Lean.{Alike, no_more, same, same-call}
 use Rattle.counts.specs.Counting.{tally}
 use Rattle.shapes.specs.declared.Ink.{Ink}
-use Rattle.shapes.specs.declared.DrawEnd.TheVariants.{Done}
+use Rattle.shapes.specs.declared.Drawn.TheVariants.{Done}
 use Rattle.shapes.specs.Painting.{Goes, Answered, Painted}
 
 module _ (n : ℕ) where

@@ -20,8 +20,8 @@ use Rattle.turns.proofs.Nets.{near-more}
 use Rattle.moves.specs.Moves.{ShapedAt}
 use Rattle.counts.specs.declared.Counts.{Counts}
 use Rattle.shapes.specs.declared.Ink.{Ink}
-use Rattle.shapes.specs.declared.DrawEnd.{DrawEnd}
-use Rattle.shapes.specs.declared.DrawEnd.TheVariants as drawn
+use Rattle.shapes.specs.declared.Drawn.{Drawn}
+use Rattle.shapes.specs.declared.Drawn.TheVariants as drawn
 use Rattle.shapes.specs.Painting.{inked, Reached, Painted, ShapeDraws}
 use Rattle.shapes.proofs.Painting.{PaintedSoFar, begun, skips}
 use Rattle.library.specs.Memory.{call_letter, table_of}
@@ -122,11 +122,11 @@ module _ {words : List ℤ} {kind end : ℕ} where
         unfolding OuterGrows
         opens-grows q = let k = call-counts n rows live drawing 32 call ink x q in omega (arith, k)
 
-    module _ (e : kind ≡ call_letter → ⊥) {d : DrawEnd} {room' : List ℕ} (x : ShapeDraws words kind end still layer place ink room d room') where
-      shape-painted : {y : DrawEnd} → d ≡ y → (h : ShapedAt words kind end) (b : List ℤ) → Painted ink (shown_by n rows b live place (shape (name_of layer) h.shape)) room [] y room'
+    module _ (e : kind ≡ call_letter → ⊥) {d : Drawn} {room' : List ℕ} (x : ShapeDraws words kind end still layer place ink room d room') where
+      shape-painted : {y : Drawn} → d ≡ y → (h : ShapedAt words kind end) (b : List ℤ) → Painted ink (shown_by n rows b live place (shape (name_of layer) h.shape)) room [] y room'
       shape-painted {y} q h b =
           subst (λ (es : List Event). Painted ink es room [] y room') (sym (shown_shape n rows b live place (name_of layer) h.shape))
-          (subst (λ (y : DrawEnd). Painted ink (drawn_shape [] [] place (name_of layer) h.shape ∷ []) room [] y room') q (x h [] [] fixed))
+          (subst (λ (y : Drawn). Painted ink (drawn_shape [] [] place (name_of layer) h.shape ∷ []) room [] y room') q (x h [] [] fixed))
 
       pub outer_shown : {ink' : Ink} → d ≡ drawn.Done ink' → OuterComes n rows live words kind place end layer ink room (Shown ink') room'
       unfolding OuterCase

@@ -14,7 +14,7 @@ use Rattle.names.specs.Names.{name_of}
 use Rattle.pieces.specs.Pieces.{Fit}
 use Rattle.counts.specs.Counting.{tally}
 use Rattle.shapes.specs.declared.Ink.{Ink}
-use Rattle.shapes.specs.declared.DrawEnd.TheVariants as drawn
+use Rattle.shapes.specs.declared.Drawn.TheVariants as drawn
 use Rattle.shapes.specs.Painting.{Painted}
 use Rattle.shapes.proofs.Painting.{PaintedSoFar}
 use Rattle.library.specs.Memory.{table_of, most_words, row_numbers}

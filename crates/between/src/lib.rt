@@ -1,6 +1,7 @@
 // What a text draws between two executable calls, for an engine that keeps its open calls itself: from where it stands up to the next call that is opened, to its
 // end, or to a refusal (RULES 8). Definitions are decoded on the way, by crate keeping, into the words lent.
 #![tactic(auto)]
+
 ghost use Rattle.std.specs.Prelude.{◌≡◌, List, ℕ, ◌+◌, ◌≤◌, length};
 ghost use Rattle.grammar.specs.Steps.{KindsLent, NextLent};
 ghost use Rattle.definition.specs.Table.{Step};
@@ -15,7 +16,7 @@ ghost use Rattle.between.specs.Texts.{OuterComes, OuterGrows, Pausing, TextComes
 
 use keeping::{Defined, Stock};
 use opening::{Call, Opened};
-use shapes::{DrawEnd, Ink};
+use shapes::{Drawn, Ink};
 
 // Where a text goes on, outside of definitions: its next command, the layer that is set there, and what the memory holds.
 #[derive(Clone, Copy)]
@@ -84,8 +85,8 @@ fn draw_outer(
         }
     }
     match stretch::draw_shape(words, room, kind, end, still, layer, place, ink) {
-        DrawEnd::Done(shown) => Outer::Shown(shown),
-        DrawEnd::Refused(refusal) => Outer::Refused(refusal),
+        Drawn::Done(shown) => Outer::Shown(shown),
+        Drawn::Refused(refusal) => Outer::Refused(refusal),
     }
 }
 

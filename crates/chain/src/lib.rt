@@ -1,6 +1,7 @@
 // The calls that are open while a body is drawn: the place and the symbol of each, the outermost first, in a run that is lent. Refusal 13 asks it, and where
 // a drawing is refused it tells the chain (RULES 12, request 4).
 #![tactic(auto)]
+
 ghost use Rattle.std.specs.Prelude.{◌≡◌, ◌≤◌, ◌<◌, eqb, length};
 ghost use Rattle.definition.specs.Words.{any};
 ghost use Rattle.definition.specs.Limits.{deepest};

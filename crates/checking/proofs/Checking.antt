@@ -14,7 +14,7 @@ use Rattle.grammar.specs.Steps.{choose, number}
 use Rattle.pieces.specs.Pieces.{too_large, stream, start, Fit, Step}
 use Rattle.pieces.specs.declared.Spot.{Spot}
 use Rattle.pieces.specs.declared.Piece.{Piece}
-use Rattle.pieces.specs.declared.Piece.TheVariants.{First, Second, Number, Further, Stop}
+use Rattle.pieces.specs.declared.Piece.TheVariants.{First, Second, Number, Word, Stop}
 use Rattle.rules.specs.Letters.{letter_d, letter_l, no_refusal, byte_unit}
 use Rattle.pieces.specs.Pieces.{letter_s, letter_f}
 use Rattle.rules.specs.Written.{one, turning}
@@ -22,7 +22,7 @@ use Rattle.rules.specs.Rules.{distance, scaleless, few, bare, many, scaled_by, r
 use Rattle.rules.specs.declared.AtScale.{AtScale}
 use Rattle.definition.specs.declared.Refusal.{Refusal}
 use Rattle.checking.specs.Account.{layer_of, refusal, scope, at_start}
-use Rattle.checking.specs.Along.{lower, blamed, kept, fresh, begun, idle, counted, with_letter, after_doing, finished, onward, runs, Fair, Sane}
+use Rattle.checking.specs.Along.{lower, blamed, kept, fresh, begun, idle, counted, worded, after_doing, finished, onward, runs, Fair, Sane}
 use Rattle.checking.specs.declared.Scope.{Scope}
 use Rattle.checking.specs.declared.Doing.{Doing}
 use Rattle.checking.specs.declared.Ended.{Ended}
@@ -33,9 +33,9 @@ use Rattle.pieces.proofs.Finds.{Finds, none, some}
 use Rattle.names.proofs.Naming.{name-room}
 
 -- the end of a command
-module _ (s : Scope) (c : Doing) (hb : c.busy ≡ true) (y : ℕ) (ey : y ≡ layer_of s) (k : ℕ) (ek : k ≡ whole_refusal c.letter c.latest c.count c.turns c.a c.b y) where
-  ek' : k ≡ whole_refusal c.letter c.latest c.count c.turns c.a c.b (layer_of s)
-  ek' = ek ∙ ap (λ (x : ℕ). whole_refusal c.letter c.latest c.count c.turns c.a c.b x) ey
+module _ (s : Scope) (c : Doing) (hb : c.busy ≡ true) (y : ℕ) (ey : y ≡ layer_of s) (k : ℕ) (ek : k ≡ whole_refusal c.letter c.word c.count c.turns c.a c.b y) where
+  ek' : k ≡ whole_refusal c.letter c.word c.count c.turns c.a c.b (layer_of s)
+  ek' = ek ∙ ap (λ (x : ℕ). whole_refusal c.letter c.word c.count c.turns c.a c.b x) ey
 
   pub finish-whole : k < c.no → Broken (refusal k c.place) ≡ finished s c
   unfolding finished
@@ -54,16 +54,16 @@ unfolding finished
 finish_none s c hb = rw hb
 
 pub counted_is : (s : Scope) (c : Doing) (p n : ℕ) (v : AtScale) (k a b no' at : ℕ)
-    → v ≡ scaled_to (scaled_by s.a s.b c.letter c.latest c.count n) (rounded_by s.a s.b c.letter c.latest c.count n)
-    → k ≡ number_refusal c.letter c.latest c.count c.zero n v.value
+    → v ≡ scaled_to (scaled_by s.a s.b c.letter c.word c.count n) (rounded_by s.a s.b c.letter c.word c.count n)
+    → k ≡ number_refusal c.letter c.word c.count c.zero n v.value
     → a ≡ kept c.count 1 n c.a → b ≡ kept c.count 2 n c.b → no' ≡ lower k c.no → at ≡ blamed k c.no p c.place c.at
-    → record { busy = c.busy; place = c.place; letter = c.letter; latest = c.latest; count = c.count + 1; zero = eqb n 0; turns = c.turns; unit = c.unit; a = a; b = b; name = c.name; no = no'; at = at; rounded = c.rounded + v.rounded } ≡ counted s c p n
+    → record { busy = c.busy; place = c.place; letter = c.letter; word = c.word; count = c.count + 1; zero = eqb n 0; turns = c.turns; unit = c.unit; a = a; b = b; name = c.name; no = no'; at = at; rounded = c.rounded + v.rounded } ≡ counted s c p n
 unfolding counted
 counted_is s c p n v k a b no' at ev ek ea eb en et = rw (ea, eb, en, et, ek, ev)
 
 pub with_letter_is : (c : Doing) (w t v : ℕ) → t ≡ c.turns + one (turning w) → v ≡ c.name + w * c.unit
-    → record { busy = c.busy; place = c.place; letter = c.letter; latest = w; count = c.count; zero = c.zero; turns = t; unit = c.unit / byte_unit; a = c.a; b = c.b; name = v; no = c.no; at = c.at; rounded = c.rounded } ≡ with_letter c w
-unfolding with_letter
+    → record { busy = c.busy; place = c.place; letter = c.letter; word = w; count = c.count; zero = c.zero; turns = t; unit = c.unit / byte_unit; a = c.a; b = c.b; name = v; no = c.no; at = c.at; rounded = c.rounded } ≡ worded c w
+unfolding worded
 with_letter_is c w t v et ev = rw (et, ev)
 
 -- what the code needs is kept
@@ -71,9 +71,9 @@ abbrev FairEnd : Ended → Type 0
 FairEnd (Then s) = Fair s
 FairEnd (Broken r) = 0 ≤ 0
 
-fair_after : (s : Scope) (c : Doing) → Fair s → c.a ≤ too_large → scaleless c.letter c.latest c.a c.b ≡ false → Fair (after_doing s c)
+fair_after : (s : Scope) (c : Doing) → Fair s → c.a ≤ too_large → scaleless c.letter c.word c.a c.b ≡ false → Fair (after_doing s c)
 unfolding scaleless
-fair_after s c f ha h = go (eqb c.letter letter_d) (eqb c.latest letter_s) (eqb c.latest letter_f) (eqb c.letter letter_l) s.inside (eqb c.a 0) (eqb c.b 0) refl h
+fair_after s c f ha h = go (eqb c.letter letter_d) (eqb c.word letter_s) (eqb c.word letter_f) (eqb c.letter letter_l) s.inside (eqb c.a 0) (eqb c.b 0) refl h
   where
     go : (l w v n i z y : Bool) → eqb c.b 0 ≡ y → (l && (w && (z || y))) ≡ false
         → Fair
@@ -98,7 +98,7 @@ fair_finished s c f ha =
     go c.busy (ltb k c.no) (ltb c.no no_refusal) refl refl
   where
     k : ℕ
-    k = choose (scaleless c.letter c.latest c.a c.b) 4 (choose (few c.letter c.count) 7 (choose (bare c.letter (layer_of s)) 8 (choose (many c.letter c.count c.turns) 9 no_refusal)))
+    k = choose (scaleless c.letter c.word c.a c.b) 4 (choose (few c.letter c.count) 7 (choose (bare c.letter (layer_of s)) 8 (choose (many c.letter c.count c.turns) 9 no_refusal)))
 
     go : (x y z : Bool) → ltb k c.no ≡ y → ltb c.no no_refusal ≡ z → FairEnd (choose x (choose y (Broken (refusal k c.place)) (choose z (Broken (refusal c.no c.at)) (Then (after_doing s c)))) (Then s))
     go false y z ey ez = f
@@ -107,7 +107,7 @@ fair_finished s c f ha =
     go true false false ey ez =
         let h₁ = ltb-false k c.no ey in
         let h₂ = ltb-false c.no no_refusal ez in
-        fair_after s c f ha (no_scaleless (scaleless c.letter c.latest c.a c.b) (choose (few c.letter c.count) 7 (choose (bare c.letter (layer_of s)) 8 (choose (many c.letter c.count c.turns) 9 no_refusal))) (omega arith))
+        fair_after s c f ha (no_scaleless (scaleless c.letter c.word c.a c.b) (choose (few c.letter c.count) 7 (choose (bare c.letter (layer_of s)) 8 (choose (many c.letter c.count c.turns) 9 no_refusal))) (omega arith))
 
 sane_fresh : (n : ℕ) (z : Bool) (p l k : ℕ) → k ≤ n → Sane n (fresh z p l k)
 unfolding fresh
@@ -122,22 +122,22 @@ one_le true = omega arith
 one_le false = omega arith
 
 pub one_le_rounded : (s : Scope) (c : Doing) (n : ℕ) (v : AtScale)
-    → v ≡ scaled_to (scaled_by s.a s.b c.letter c.latest c.count n) (rounded_by s.a s.b c.letter c.latest c.count n) → v.rounded ≤ 1
+    → v ≡ scaled_to (scaled_by s.a s.b c.letter c.word c.count n) (rounded_by s.a s.b c.letter c.word c.count n) → v.rounded ≤ 1
 one_le_rounded s c n v e =
-    subst (λ (k : ℕ). k ≤ 1) (sym (ap (λ (x : AtScale). x.rounded) e)) (one_le (distance c.letter c.latest c.count && not (eqb (s.a * n % s.b) 0)))
+    subst (λ (k : ℕ). k ≤ 1) (sym (ap (λ (x : AtScale). x.rounded) e)) (one_le (distance c.letter c.word c.count && not (eqb (s.a * n % s.b) 0)))
 
 sane_counted : (m : ℕ) (s : Scope) (c : Doing) (p n : ℕ) → n ≤ too_large → Sane m c → Sane (m + 1) (counted s c p n)
 unfolding counted
 sane_counted m s c p n h k = record {
   count = let i = k.count in omega arith;
-  rounded = let i = k.rounded in let j = one_le (distance c.letter c.latest c.count && not (eqb (s.a * n % s.b) 0)) in omega arith;
+  rounded = let i = k.rounded in let j = one_le (distance c.letter c.word c.count && not (eqb (s.a * n % s.b) 0)) in omega arith;
   turns = let i = k.turns in omega arith;
   a = kept_le (eqb c.count 1) n c.a h k.a;
   name = k.name;
 }
 
-sane_with_letter : (m : ℕ) (c : Doing) (w : ℕ) → w < 256 → Sane m c → Sane (m + 1) (with_letter c w)
-unfolding with_letter
+sane_with_letter : (m : ℕ) (c : Doing) (w : ℕ) → w < 256 → Sane m c → Sane (m + 1) (worded c w)
+unfolding worded
 sane_with_letter m c w h k = record {
   count = let i = k.count in omega arith;
   rounded = let i = k.rounded in omega arith;
@@ -193,15 +193,15 @@ module _ {t : List ℕ} {spot : Spot} {s : Scope} {c : Doing} (g : Checking t sp
       next (Number p σ n) st s d g.fair (subst (Sane (spot.at + 1)) (sym e) (sane_counted spot.at s c p n st.small g.sane))
       (ap (λ (k : Doing). runs (stream t to) s k) e)
 
-  pub checking_letter : {to : Spot} {w : ℕ} {d : Doing} → Step t spot (Second w) to ⊎ Step t spot (Further w) to → d ≡ with_letter c w → Checking t to s d
+  pub checking_letter : {to : Spot} {w : ℕ} {d : Doing} → Step t spot (Second w) to ⊎ Step t spot (Word w) to → d ≡ worded c w → Checking t to s d
   unfolding runs
   checking_letter {to} {w} {d} l e =
-      ⊎_elim (λ st. next (Second w) st s d g.fair (sane st.small) is) (λ st. next (Further w) st s d g.fair (sane st.small) is) l
+      ⊎_elim (λ st. next (Second w) st s d g.fair (sane st.small) is) (λ st. next (Word w) st s d g.fair (sane st.small) is) l
     where
       sane : w < 256 → Sane (spot.at + 1) d
       sane h = subst (Sane (spot.at + 1)) (sym e) (sane_with_letter spot.at c w h g.sane)
 
-      is : runs (stream t to) s d ≡ runs (stream t to) s (with_letter c w)
+      is : runs (stream t to) s d ≡ runs (stream t to) s (worded c w)
       is = ap (λ (k : Doing). runs (stream t to) s k) e
 
   -- a piece that ends a command, or the end of the pieces
@@ -215,7 +215,7 @@ module _ {t : List ℕ} {spot : Spot} {s : Scope} {c : Doing} (g : Checking t sp
     checking_bad {to} (some (First p b) z st) l a eu = ends (λ v. runs (stream t to) v (begun p b c.rounded)) eu ∙ before (First p b) st
     checking_bad (some (Second b) z st) l a eu = absurd (omega arith)
     checking_bad (some (Number p σ n) z st) l a eu = absurd (l z)
-    checking_bad (some (Further b) z st) l a eu = absurd (omega arith)
+    checking_bad (some (Word b) z st) l a eu = absurd (omega arith)
     checking_bad {to} (some Stop z st) l a eu = ends (λ v. runs (stream t to) v (idle c.rounded)) eu ∙ before Stop st
 
     module _ {u : Scope} (eu : e ≡ Then u) where

@@ -35,10 +35,10 @@ when b n p r = if b then blame n p ∷ r else r
 -- against a number of the command at place p with the first letter l
 abbrev pub of_number : Scope → ℕ → ℕ → Figure → List Blame → List Blame
 of_number s p l f r =
-    let v = scaled_by s.a s.b l f.latest f.index f.size in
+    let v = scaled_by s.a s.b l f.word f.index f.size in
     when (ltb largest f.size) 3 f.place
     (when (ltb largest v) 6 f.place
-    (when (eqb v 0 && vital l f.latest f.index f.zero) 7 p r))
+    (when (eqb v 0 && vital l f.word f.index f.zero) 7 p r))
 
 unfoldable pub of_numbers : Scope → ℕ → ℕ → List Figure → List Blame → List Blame
 of_numbers s p l [] r = r
@@ -89,7 +89,7 @@ scope_after s c =
 -- RULES 6, request 2: how many numbers of a command with the first letter l are rounded
 unfoldable pub rounded_of : Scope → ℕ → List Figure → ℕ
 rounded_of s l [] = 0
-rounded_of s l (f ∷ fs) = rounded_by s.a s.b l f.latest f.index f.size + rounded_of s l fs
+rounded_of s l (f ∷ fs) = rounded_by s.a s.b l f.word f.index f.size + rounded_of s l fs
 
 -- RULES 12: for all commands in text order; where there is no fault, how many numbers are rounded, after k of them
 unfoldable pub fault_from : Scope → ℕ → List Written → Fault

@@ -5,7 +5,7 @@ use Rattle.std.specs.Prelude.{Bool, true, false, List, [], ◌∷◌, ℕ, ◌+�
 use Rattle.definition.specs.Words.{if◌then◌else◌}
 use Rattle.pieces.specs.Pieces.{too_large}
 use Rattle.pieces.specs.declared.Piece.{Piece}
-use Rattle.pieces.specs.declared.Piece.TheVariants.{First, Second, Number, Further, Stop}
+use Rattle.pieces.specs.declared.Piece.TheVariants.{First, Second, Number, Word, Stop}
 use Rattle.rules.specs.Letters.{no_refusal, byte_unit, first_unit}
 use Rattle.rules.specs.Written.{turning, one}
 use Rattle.rules.specs.Rules.{scaled_by, rounded_by, number_refusal, whole_refusal}
@@ -34,7 +34,7 @@ fresh z p l k = record {
   busy = z;
   place = p;
   letter = l;
-  latest = 0;
+  word = 0;
   count = 0;
   zero = false;
   turns = 0;
@@ -56,12 +56,12 @@ idle k = fresh false 0 0 k
 -- with a number at place p of size n; with a letter w
 unfoldable pub counted : Scope → Doing → ℕ → ℕ → Doing
 counted s c p n =
-    let k = number_refusal c.letter c.latest c.count c.zero n (scaled_by s.a s.b c.letter c.latest c.count n) in
+    let k = number_refusal c.letter c.word c.count c.zero n (scaled_by s.a s.b c.letter c.word c.count n) in
     record {
       busy = c.busy;
       place = c.place;
       letter = c.letter;
-      latest = c.latest;
+      word = c.word;
       count = c.count + 1;
       zero = eqb n 0;
       turns = c.turns;
@@ -71,15 +71,15 @@ counted s c p n =
       name = c.name;
       no = lower k c.no;
       at = blamed k c.no p c.place c.at;
-      rounded = c.rounded + rounded_by s.a s.b c.letter c.latest c.count n;
+      rounded = c.rounded + rounded_by s.a s.b c.letter c.word c.count n;
     }
 
-unfoldable pub with_letter : Doing → ℕ → Doing
-with_letter c w = record {
+unfoldable pub worded : Doing → ℕ → Doing
+worded c w = record {
   busy = c.busy;
   place = c.place;
   letter = c.letter;
-  latest = w;
+  word = w;
   count = c.count;
   zero = c.zero;
   turns = c.turns + one (turning w);
@@ -94,11 +94,11 @@ with_letter c w = record {
 
 -- at the end of a command: what stands then, or the refusal
 abbrev pub after_doing : Scope → Doing → Scope
-after_doing s c = scope_by s c.letter c.latest c.a c.b c.name
+after_doing s c = scope_by s c.letter c.word c.a c.b c.name
 
 unfoldable pub finished : Scope → Doing → Ended
 finished s c =
-    let k = whole_refusal c.letter c.latest c.count c.turns c.a c.b (layer_of s) in
+    let k = whole_refusal c.letter c.word c.count c.turns c.a c.b (layer_of s) in
     if c.busy then
     (if ltb k c.no then Broken (refusal k c.place)
     else if ltb c.no no_refusal then Broken (refusal c.no c.at)
@@ -113,9 +113,9 @@ onward f (Broken r) = Refused r
 unfoldable pub runs : List Piece → Scope → Doing → Fault
 runs [] s c = onward (λ t. Clear c.rounded) (finished s c)
 runs (First p b ∷ xs) s c = onward (λ t. runs xs t (begun p b c.rounded)) (finished s c)
-runs (Second b ∷ xs) s c = runs xs s (with_letter c b)
+runs (Second b ∷ xs) s c = runs xs s (worded c b)
 runs (Number p σ n ∷ xs) s c = runs xs s (counted s c p n)
-runs (Further b ∷ xs) s c = runs xs s (with_letter c b)
+runs (Word b ∷ xs) s c = runs xs s (worded c b)
 runs (Stop ∷ xs) s c = onward (λ t. runs xs t (idle c.rounded)) (finished s c)
 
 -- what the code needs so that nothing wraps: a scale that can be divided by, and counts within the bytes read

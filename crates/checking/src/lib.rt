@@ -1,12 +1,13 @@
 // The check of a CIF text's commands by a running account: `checked` finds the first of refusals 3 to 9 in one pass. It takes any bytes: where a text
 // leaves the grammar it has no more pieces, and so no more commands. That the account is the definition's is proved in reading, above.
 #![tactic(auto)]
+
 ghost use Rattle.std.specs.Prelude.{◌≡◌, true, false, ◌+◌, ◌≤◌};
 ghost use Rattle.grammar.specs.Steps.{KindsLent, NextLent};
 ghost use Rattle.pieces.specs.Pieces.{farthest, too_large, stream, start};
 ghost use Rattle.rules.specs.Written.{turning, one};
 ghost use Rattle.checking.specs.Account.{layer_of, scope, at_start};
-ghost use Rattle.checking.specs.Along.{lower, blamed, kept, fresh, idle, counted, with_letter, after_doing, finished, runs, Fair, Sane};
+ghost use Rattle.checking.specs.Along.{lower, blamed, kept, fresh, idle, counted, worded, after_doing, finished, runs, Fair, Sane};
 
 use definition::Refusal;
 
@@ -35,7 +36,7 @@ pub struct Doing {
     pub busy: bool,
     pub place: usize,
     pub letter: u8,
-    pub latest: u8,
+    pub word: u8,
     pub count: usize,
     pub zero: bool,
     pub turns: usize,
@@ -116,7 +117,7 @@ fn new_command(busy: bool, place: usize, letter: u8, rounded: usize) -> Doing
         busy,
         place,
         letter,
-        latest: 0,
+        word: 0,
         count: 0,
         zero: false,
         turns: 0,
@@ -134,8 +135,8 @@ fn add_number(s: Scope, c: Doing, p: usize, n: usize) -> Doing
     requires { Fair s × Sane farthest c × (n ≤ too_large) }
     ensures { result ≡ counted s c p n }
 {
-    let v = rules::scaled(s.a, s.b, c.letter, c.latest, c.count, n);
-    let k = rules::number_no(c.letter, c.latest, c.count, c.zero, n, v.value);
+    let v = rules::scaled(s.a, s.b, c.letter, c.word, c.count, n);
+    let k = rules::number_no(c.letter, c.word, c.count, c.zero, n, v.value);
     let a = keep(c.count, 1, n, c.a);
     let b = keep(c.count, 2, n, c.b);
     let no = lower_of(k, c.no);
@@ -144,7 +145,7 @@ fn add_number(s: Scope, c: Doing, p: usize, n: usize) -> Doing
         busy: c.busy,
         place: c.place,
         letter: c.letter,
-        latest: c.latest,
+        word: c.word,
         count: c.count + 1,
         zero: n == 0,
         turns: c.turns,
@@ -160,7 +161,7 @@ fn add_number(s: Scope, c: Doing, p: usize, n: usize) -> Doing
 
 fn add_letter(c: Doing, w: u8) -> Doing
     requires { Sane farthest c }
-    ensures { result ≡ with_letter c w }
+    ensures { result ≡ worded c w }
 {
     let turns = more_turns(c.turns, w);
     let name = names::longer_name(c.name, c.unit, w);
@@ -168,7 +169,7 @@ fn add_letter(c: Doing, w: u8) -> Doing
         busy: c.busy,
         place: c.place,
         letter: c.letter,
-        latest: w,
+        word: w,
         count: c.count,
         zero: c.zero,
         turns,
@@ -222,7 +223,7 @@ fn after_command(s: Scope, c: Doing) -> Scope
     ensures { result ≡ after_doing s c }
 {
     let l = c.letter;
-    let w = c.latest;
+    let w = c.word;
     let i = s.inside;
     if l == b'D' {
         if w == b'S' {
@@ -254,7 +255,7 @@ fn finish(s: Scope, c: Doing) -> Ended
     let busy = c.busy;
     if busy {
         let layer = layer_now(s);
-        let k = rules::whole_no(c.letter, c.latest, c.count, c.turns, c.a, c.b, layer);
+        let k = rules::whole_no(c.letter, c.word, c.count, c.turns, c.a, c.b, layer);
         let no = c.no;
         if k < no {
             return Ended::Broken(Refusal {

@@ -22,7 +22,7 @@ use Rattle.machine.specs.States.{no_frame}
 use Rattle.machine.specs.declared.Frame.{Frame}
 use Rattle.listing.specs.Listed.{Listed}
 use Rattle.join.specs.declared.JoinAnswer.{JoinAnswer}
-use Rattle.join.specs.declared.JoinAnswer.TheVariants.{Joined, NotJoined}
+use Rattle.join.specs.declared.JoinAnswer.TheVariants.{Written, NotJoined}
 use Rattle.join.specs.Made.{Made}
 
 -- where nothing is drawn there is no length, no counts, no rounded distances, and no call is open
@@ -75,7 +75,7 @@ abbrev pub refused_in : (first second : List ℕ) → Refusal → (text : ℕ) �
 refused_in first second r text = words_about (failure (if eqb text 2 then second else first) r []) text
 
 abbrev pub words_of_join : (first second : List ℕ) → JoinAnswer → List ℕ
-words_of_join first second (Joined length) = answer_words (success length (counts 0 0 0) 0)
+words_of_join first second (Written length) = answer_words (success length (counts 0 0 0) 0)
 words_of_join first second (NotJoined r text) = refused_in first second r text
 
 pub record JoinTold (first second room words left : List ℕ) : Type 0 where  -- `cif_join`: the joined text in the room, and its length; or a refusal

@@ -1,6 +1,7 @@
-// All that a host calls, in the one archive that `rt staticlib cif` makes; include/cif.h declares it for C. Every answer is told in the same 64 words, whose
+// All that a host calls; crate cif_c exports it, under the same names, in the archive for programs in C. Every answer is told in the same 64 words, whose
 // positions are fixed for good (crates/answer, specs/Words.antt). No function asks anything of its caller: any bytes and any words may come.
 #![tactic(auto)]
+
 ghost use Rattle.std.specs.Prelude.{◌≡◌};
 ghost use Rattle.answer.specs.Words.{answer_words};
 ghost use Rattle.cif.specs.Told.{FlattenTold, StackedTold, ListTold, RefusalTold, VerdictTold, JoinTold, SummaryTold, WhyTold, answer_of_fault, answer_of_verdict, refused_in, words_of_join};
@@ -32,8 +33,7 @@ fn verdict_answer(text: &[u8], verdict: Verdict) -> Answer
 
 // The whole reader: the flat file comes to stand in the room, the answer in its words, and the words lent for bodies are all zero. All is settled:
 // `flatten_told_once` of proofs/Once.antt.
-#[unsafe(no_mangle)]
-pub extern "C" fn cif_flatten(
+pub fn cif_flatten(
     text: &[u8],
     words: &mut [i32],
     room: &mut [u8],
@@ -45,7 +45,7 @@ pub extern "C" fn cif_flatten(
     *answer = answer::words(given);
 }
 
-// What a host is told of an answer. A function of its own, since the one below is proved by hand and this is not.
+// What a host is told of an answer.
 fn tell(answer: &mut [u64; answer::WORDS], told: Answer)
     ensures { answer.new ≡ answer_words told }
 {
@@ -54,8 +54,7 @@ fn tell(answer: &mut [u64; answer::WORDS], told: Answer)
 
 // The whole reader without deep calls (RULES 8, request 7): the open calls stand in records that the host lends, one for each level, which are all zero afterwards. All is
 // settled: `stacked_told_once`; and with at least 32 records it is what `cif_flatten` tells: `both_engines`.
-#[unsafe(no_mangle)]
-pub extern "C" fn cif_flatten_stacked(
+pub fn cif_flatten_stacked(
     text: &[u8],
     words: &mut [i32],
     room: &mut [u8],
@@ -70,8 +69,7 @@ pub extern "C" fn cif_flatten_stacked(
 
 // The lines of the list program, of a text, an answer's words and its flat file: as far as `out` reaches, and how many bytes they are whatever its length.
 // The words lent for the definitions are all zero afterwards. Two outcomes that are allowed are equal: `list_told_once`.
-#[unsafe(no_mangle)]
-pub extern "C" fn cif_list(
+pub fn cif_list(
     text: &[u8],
     words: &mut [i32],
     flat: &[u8],
@@ -86,8 +84,7 @@ pub extern "C" fn cif_list(
 }
 
 // The first of refusals 2 to 9 of a text, with no drawing. One answer is allowed: `refusal-told_once`.
-#[unsafe(no_mangle)]
-pub extern "C" fn cif_refusal(text: &[u8], answer: &mut [u64; answer::WORDS])
+pub fn cif_refusal(text: &[u8], answer: &mut [u64; answer::WORDS])
     ensures { RefusalTold text.now answer.new }
 {
     let given = fault_answer(text, reading::refusal(text));
@@ -95,8 +92,7 @@ pub extern "C" fn cif_refusal(text: &[u8], answer: &mut [u64; answer::WORDS])
 }
 
 // Refusal 2 alone: whether a text is in the grammar. One answer is allowed: `verdict-told_once`.
-#[unsafe(no_mangle)]
-pub extern "C" fn cif_recognise(text: &[u8], answer: &mut [u64; answer::WORDS])
+pub fn cif_recognise(text: &[u8], answer: &mut [u64; answer::WORDS])
     ensures { VerdictTold text.now answer.new }
 {
     let given = verdict_answer(text, grammar::recognise(text));
@@ -119,7 +115,7 @@ fn join_words(first: &[u8], second: &[u8], made: JoinAnswer) -> [u64; answer::WO
     ensures { result ≡ words_of_join first.now second.now made }
 {
     match made {
-        JoinAnswer::Joined(length) => answer::words(answer::accepted(
+        JoinAnswer::Written(length) => answer::words(answer::accepted(
             length,
             counts::no_counts(),
             0,
@@ -129,13 +125,7 @@ fn join_words(first: &[u8], second: &[u8], made: JoinAnswer) -> [u64; answer::WO
 }
 
 // Two texts joined into the room, or which of them is refused and why. All is settled: `join-told_once`.
-#[unsafe(no_mangle)]
-pub extern "C" fn cif_join(
-    first: &[u8],
-    second: &[u8],
-    room: &mut [u8],
-    answer: &mut [u64; answer::WORDS],
-)
+pub fn cif_join(first: &[u8], second: &[u8], room: &mut [u8], answer: &mut [u64; answer::WORDS])
     ensures { JoinTold first.now second.now room.old answer.new room.new }
 {
     let made = join::join(first, second, room);
@@ -143,13 +133,7 @@ pub extern "C" fn cif_join(
 }
 
 // What is in a symbol, in the table left at the end of a text: the words lent for the definitions are all zero afterwards. All is settled: `summary_told_once`.
-#[unsafe(no_mangle)]
-pub extern "C" fn cif_summary(
-    text: &[u8],
-    words: &mut [i32],
-    symbol: usize,
-    answer: &mut [u64; answer::WORDS],
-)
+pub fn cif_summary(text: &[u8], words: &mut [i32], symbol: usize, answer: &mut [u64; answer::WORDS])
     ensures { SummaryTold text.now words.old symbol answer.new words.new }
 {
     let given = summary::summarise(text, words, symbol);
@@ -157,13 +141,7 @@ pub extern "C" fn cif_summary(
 }
 
 // Why a shape is here (RULES 20, request 11): the shape with a count, from 1. The words lent for the definitions are all zero afterwards. All is settled: `why_told_once`.
-#[unsafe(no_mangle)]
-pub extern "C" fn cif_why(
-    text: &[u8],
-    words: &mut [i32],
-    count: usize,
-    answer: &mut [u64; answer::WORDS],
-)
+pub fn cif_why(text: &[u8], words: &mut [i32], count: usize, answer: &mut [u64; answer::WORDS])
     ensures { WhyTold text.now words.old count answer.new words.new }
 {
     let given = why::why(text, words, count);

@@ -19,19 +19,18 @@ use mir.Facts.{to_z-of_z, to_z_pos}
 use Rattle.grammar.specs.Notation.{skip, lead, stop, head}
 use Rattle.grammar.specs.Steps.{choose, inside, number}
 use borrow.Author.Tests.{eq-eqb, ne_eqb}
-use Rattle.definition.specs.Words.{if◌then◌else◌}
 use Rattle.pieces.specs.Pieces.{stream, behind, inside_after, begun, numeral_of, Fit, Step, Begins}
 use Rattle.pieces.specs.declared.Spot.{Spot}
 use Rattle.pieces.specs.declared.Begun.{Begun}
 use Rattle.pieces.specs.declared.Numeral.{Numeral}
 use Rattle.pieces.specs.declared.Piece.{Piece}
-use Rattle.pieces.specs.declared.Piece.TheVariants.{First, Second, Number, Further, Stop}
+use Rattle.pieces.specs.declared.Piece.TheVariants.{First, Second, Number, Word, Stop}
 use Rattle.rules.specs.Letters.{letter_c, letter_m, byte_unit, first_unit}
 use Rattle.rules.specs.Written.{Written, items_of, stops, written, written_at, letters, last_of, packed_by, one, inside_behind}
 use Rattle.rules.specs.Rules.{scaled_by, rounded_by, scaled_to}
 use Rattle.rules.specs.declared.AtScale.{AtScale}
-use Rattle.commands.specs.Words.{widest, held, signed, word, value_of, letter_words, body_of, tally, kind_by, framed, words_of, Writes, with_number, with_letter, WritesOn, closed, Closed, Tells, inside_first, preceding, letters_on, piece_end, pieces_on, ReadsCommand, ReadsItems}
-use Rattle.commands.specs.declared.Decoding.{Decoding}
+use Rattle.commands.specs.Words.{widest, held, signed, word, value_of, letter_words, body_of, tally, kind_by, framed, words_of, Writes, line_number, line_letter, Lined, closed, Closed, Tells, inside_first, preceding, letters_on, piece_end, pieces_on, ReadsCommand, ReadsItems}
+use Rattle.commands.specs.declared.Line.{Line}
 use Rattle.commands.specs.declared.Read.{Read}
 use Rattle.commands.specs.declared.Read.TheVariants.{Decoded, Nothing}
 use Rattle.pieces.proofs.Finds.{Finds, none, some}
@@ -98,22 +97,22 @@ put_in l at v r h e = record { next = refl; laid = ap (λ (z : ℤ). set l at z)
 pub put_out : (l : List ℤ) (at : ℕ) (v : ℤ) → length l ≤ at → Writes l at (v ∷ []) (at + 1) l
 put_out l at v h = record { next = refl; laid = sym (set_out l at v h) }
 
-pub writes-number : (ws ws' : List ℤ) (c : Decoding) (a b l : ℕ) (σ : Bool) (n : ℕ) (v : AtScale) (at : ℕ) → v ≡ scaled_to (scaled_by a b l c.latest c.count n) (rounded_by a b l c.latest c.count n)
+pub lined_number : (ws ws' : List ℤ) (c : Line) (a b l : ℕ) (σ : Bool) (n : ℕ) (v : AtScale) (at : ℕ) → v ≡ scaled_to (scaled_by a b l c.word c.count n) (rounded_by a b l c.word c.count n)
     → Writes ws c.at (word σ v.value ∷ []) at ws'
-    → WritesOn ws c.at (value_of a b l c.latest c.count σ n ∷ []) (with_number c) (record { at = at; latest = c.latest; count = c.count + 1; unit = c.unit; name = c.name }) ws'
-writes-number ws ws' c a b l σ n v at ev w = record {
-  is = ap (λ (k : ℕ). record { at = k; latest = c.latest; count = c.count + 1; unit = c.unit; name = c.name }) w.next;
+    → Lined ws c.at (value_of a b l c.word c.count σ n ∷ []) (line_number c) (record { at = at; word = c.word; count = c.count + 1; unit = c.unit; name = c.name }) ws'
+lined_number ws ws' c a b l σ n v at ev w = record {
+  line = ap (λ (k : ℕ). record { at = k; word = c.word; count = c.count + 1; unit = c.unit; name = c.name }) w.next;
   laid = w.laid ∙ ap (λ (k : AtScale). sets ws c.at (word σ k.value ∷ [])) ev;
 }
 
-pub writes-letter : (ws ws' : List ℤ) (c : Decoding) (l x y at : ℕ) → y ≡ c.name + x * c.unit → Writes ws c.at (letter_words l x) at ws'
-    → WritesOn ws c.at (letter_words l x) (with_letter l c x) (record { at = at; latest = x; count = c.count; unit = c.unit / byte_unit; name = y }) ws'
-writes-letter ws ws' c l x y at ey w = record {
-  is = rw (w.next, ey);
+pub lined_letter : (ws ws' : List ℤ) (c : Line) (l x y at : ℕ) → y ≡ c.name + x * c.unit → Writes ws c.at (letter_words l x) at ws'
+    → Lined ws c.at (letter_words l x) (line_letter l c x) (record { at = at; word = x; count = c.count; unit = c.unit / byte_unit; name = y }) ws'
+lined_letter ws ws' c l x y at ey w = record {
+  line = rw (w.next, ey);
   laid = w.laid;
 }
 
-pub closed_is : (ws ws₁ ws₂ : List ℤ) (l p : ℕ) (c : Decoding) (to : Spot) (end n k r : ℕ) → Writes ws c.at (closed l c) end ws₁ → n ≡ held (end - 2) → k ≡ kind_by l c.latest → (y : ℕ) → y ≡ k
+pub closed_is : (ws ws₁ ws₂ : List ℤ) (l p : ℕ) (c : Line) (to : Spot) (end n k r : ℕ) → Writes ws c.at (closed l c) end ws₁ → n ≡ held (end - 2) → k ≡ kind_by l c.word → (y : ℕ) → y ≡ k
     → Writes ws₁ 0 (word false (y + byte_unit * n) ∷ word false p ∷ []) r ws₂ → Closed ws l p c to (Decoded k p end to) ws₂
 closed_is ws ws₁ ws₂ l p c to end n k r w en ek y ey v = record {
   is = rw (ek, w.next);
@@ -145,7 +144,7 @@ unfolding letters_on
 letter_on t s to n m k e x = ap (λ (z : Spot). letters_on t (n + k) z) x ∙ sym (ap (λ (j : ℕ). letters_on t j s) (ap (λ (i : ℕ). i + k) e ∙ suc-add n k))
 
 -- between the pieces of a command that began at s₀: `drawn` is what has been written of its body
-pub record Wording (t : List ℕ) (s₀ : Spot) (l a b : ℕ) (ws₀ : List ℤ) (s : Spot) (c : Decoding) (ws : List ℤ) : Type 0 where
+pub record Wording (t : List ℕ) (s₀ : Spot) (l a b : ℕ) (ws₀ : List ℤ) (s : Spot) (c : Line) (ws : List ℤ) : Type 0 where
   pub fit : Fit t s
   pub from : s₀.at ≤ s.at
   pub drawn : List ℤ
@@ -154,16 +153,16 @@ pub record Wording (t : List ℕ) (s₀ : Spot) (l a b : ℕ) (ws₀ : List ℤ)
   pub count_le : c.count ≤ s.at
   pub roomy : c.name + byte_unit * c.unit ≤ byte_unit * first_unit
   pub room : ws ≡ sets ws₀ 2 drawn
-  pub body : drawn ++ body_of a b l c.latest c.count (items_of (stream t s)) ≡ body_of a b l 0 0 (items_of (stream t s₀))
+  pub body : drawn ++ body_of a b l c.word c.count (items_of (stream t s)) ≡ body_of a b l 0 0 (items_of (stream t s₀))
   pub rest : written (stream t s) ≡ written (stream t s₀)
-  pub last : last_of c.latest (letters (items_of (stream t s))) ≡ last_of 0 (letters (items_of (stream t s₀)))
+  pub last : last_of c.word (letters (items_of (stream t s))) ≡ last_of 0 (letters (items_of (stream t s₀)))
   pub count : c.count + tally (items_of (stream t s)) ≡ tally (items_of (stream t s₀))
   pub name : c.name + packed_by c.unit (letters (items_of (stream t s))) ≡ packed_by first_unit (letters (items_of (stream t s₀)))
   pub stopping : stops (stream t s) ≡ stops (stream t s₀)
   pub onward : (k : ℕ) → pieces_on t (length (items_of (stream t s)) + k) s ≡ pieces_on t (length (items_of (stream t s₀)) + k) s₀
   pub opened : inside_behind (inside s.state) (items_of (stream t s)) ≡ inside_behind (inside s₀.state) (items_of (stream t s₀))
 
-pub wording_start : (t : List ℕ) (s : Spot) (l a b : ℕ) (ws : List ℤ) → Fit t s → Wording t s l a b ws s (record { at = 2; latest = 0; count = 0; unit = first_unit; name = 0 }) ws
+pub wording_start : (t : List ℕ) (s : Spot) (l a b : ℕ) (ws : List ℤ) → Fit t s → Wording t s l a b ws s (record { at = 2; word = 0; count = 0; unit = first_unit; name = 0 }) ws
 wording_start t s l a b ws f = record {
   fit = f;
   from = omega arith;
@@ -183,12 +182,12 @@ wording_start t s l a b ws f = record {
   opened = refl;
 }
 
--- what a piece of a command that writes the words vs does to the command under way: nothing is lost or told twice
-record Turns (l a b : ℕ) (x : Piece) (xs : List Piece) (c c' : Decoding) (vs : List ℤ) : Type 0 where
-  body : body_of a b l c.latest c.count (items_of (x ∷ xs)) ≡ vs ++ body_of a b l c'.latest c'.count (items_of xs)
+-- what a piece of a command that writes the words vs does to the line: nothing is lost or told twice
+record Turns (l a b : ℕ) (x : Piece) (xs : List Piece) (c c' : Line) (vs : List ℤ) : Type 0 where
+  body : body_of a b l c.word c.count (items_of (x ∷ xs)) ≡ vs ++ body_of a b l c'.word c'.count (items_of xs)
   rest : written (x ∷ xs) ≡ written xs
   listed : length (items_of (x ∷ xs)) ≡ suc (length (items_of xs))
-  last : last_of c.latest (letters (items_of (x ∷ xs))) ≡ last_of c'.latest (letters (items_of xs))
+  last : last_of c.word (letters (items_of (x ∷ xs))) ≡ last_of c'.word (letters (items_of xs))
   count : c.count + tally (items_of (x ∷ xs)) ≡ c'.count + tally (items_of xs)
   name : c.name + packed_by c.unit (letters (items_of (x ∷ xs))) ≡ c'.name + packed_by c'.unit (letters (items_of xs))
   stopping : stops (x ∷ xs) ≡ stops xs
@@ -198,8 +197,8 @@ record Turns (l a b : ℕ) (x : Piece) (xs : List Piece) (c c' : Decoding) (vs :
   counted : c'.count ≤ c.count + 1
   roomy : c'.name + byte_unit * c'.unit ≤ byte_unit * first_unit
 
-number-turns : (l a b p : ℕ) (σ : Bool) (n : ℕ) (xs : List Piece) (c : Decoding) → c.name + byte_unit * c.unit ≤ byte_unit * first_unit
-    → Turns l a b (Number p σ n) xs c (with_number c) (value_of a b l c.latest c.count σ n ∷ [])
+number-turns : (l a b p : ℕ) (σ : Bool) (n : ℕ) (xs : List Piece) (c : Line) → c.name + byte_unit * c.unit ≤ byte_unit * first_unit
+    → Turns l a b (Number p σ n) xs c (line_number c) (value_of a b l c.word c.count σ n ∷ [])
 unfolding body_of items_of letters written tally stops inside_behind
 number-turns l a b p σ n xs c h = record {
   listed = refl;
@@ -225,10 +224,10 @@ short l x = go (eqb l letter_c) (eqb x letter_m)
     go true false = omega arith
     go false z = omega arith
 
-further_turns : (l a b x : ℕ) (xs : List Piece) (c : Decoding) → x < 256 → c.name + byte_unit * c.unit ≤ byte_unit * first_unit
-    → Turns l a b (Further x) xs c (with_letter l c x) (letter_words l x)
+word_turns : (l a b x : ℕ) (xs : List Piece) (c : Line) → x < 256 → c.name + byte_unit * c.unit ≤ byte_unit * first_unit
+    → Turns l a b (Word x) xs c (line_letter l c x) (letter_words l x)
 unfolding body_of items_of letters written tally stops inside_behind last_of packed_by
-further_turns l a b x xs c hx h = record {
+word_turns l a b x xs c hx h = record {
   listed = refl;
   body = refl;
   rest = refl;
@@ -244,11 +243,11 @@ further_turns l a b x xs c hx h = record {
 }
 
 -- the second letter of a D command as any other, but that it opens or closes a definition
-second_turns : (l a b x : ℕ) (xs : List Piece) (c : Decoding) → x < 256 → c.name + byte_unit * c.unit ≤ byte_unit * first_unit
-    → Turns l a b (Second x) xs c (with_letter l c x) (letter_words l x)
+second_turns : (l a b x : ℕ) (xs : List Piece) (c : Line) → x < 256 → c.name + byte_unit * c.unit ≤ byte_unit * first_unit
+    → Turns l a b (Second x) xs c (line_letter l c x) (letter_words l x)
 unfolding body_of items_of letters written tally stops inside_behind
 second_turns l a b x xs c hx h =
-    let w = further_turns l a b x xs c hx h in
+    let w = word_turns l a b x xs c hx h in
     record {
       listed = w.listed;
       body = w.body;
@@ -264,11 +263,11 @@ second_turns l a b x xs c hx h =
       roomy = w.roomy;
     }
 
-module _ {t : List ℕ} {s₀ : Spot} {l a b : ℕ} {ws₀ : List ℤ} {s : Spot} {c : Decoding} {ws : List ℤ} (g : Wording t s₀ l a b ws₀ s c ws) where
+module _ {t : List ℕ} {s₀ : Spot} {l a b : ℕ} {ws₀ : List ℤ} {s : Spot} {c : Line} {ws : List ℤ} (g : Wording t s₀ l a b ws₀ s c ws) where
   pub words_length : length ws ≡ length ws₀
   words_length = ap (λ (z : List ℤ). length z) g.room ∙ length-sets ws₀ 2 g.drawn
 
-  stepped : {to : Spot} {c' : Decoding} {ws' : List ℤ} {x : Piece} {d : Decoding} {vs : List ℤ} → Step t s x to → to ≡ piece_end t (begun t s) → Turns l a b x (stream t to) c d vs → WritesOn ws c.at vs d c' ws' → Wording t s₀ l a b ws₀ to c' ws'
+  stepped : {to : Spot} {c' : Line} {ws' : List ℤ} {x : Piece} {d : Line} {vs : List ℤ} → Step t s x to → to ≡ piece_end t (begun t s) → Turns l a b x (stream t to) c d vs → Lined ws c.at vs d c' ws' → Wording t s₀ l a b ws₀ to c' ws'
   stepped {to} {c'} {ws'} {x} {d} {vs} st end u w =
       let i : items_of (stream t s) ≡ items_of (x ∷ stream t to) = ap (λ (k : List Piece). items_of k) st.is in
       let h₁ = st.ahead in
@@ -279,7 +278,7 @@ module _ {t : List ℕ} {s₀ : Spot} {l a b : ℕ} {ws₀ : List ℤ} {s : Spot
       let h₆ = u.next in
       let h₇ = u.few in
       let h₈ = u.counted in
-      subst (λ (e : Decoding). Wording t s₀ l a b ws₀ to e ws') (sym w.is)
+      subst (λ (e : Line). Wording t s₀ l a b ws₀ to e ws') (sym w.line)
       (record {
         fit = st.fit;
         from = omega arith;
@@ -294,11 +293,11 @@ module _ {t : List ℕ} {s₀ : Spot} {l a b : ℕ} {ws₀ : List ℤ} {s : Spot
             ∙ ap (λ (z : List ℤ). sets z (2 + length g.drawn) vs) g.room
             ∙ sets_append g.drawn vs ws₀ 2;
         body =
-            append_assoc g.drawn vs (body_of a b l d.latest d.count (items_of (stream t to)))
-            ∙ ap (λ (z : List ℤ). g.drawn ++ z) (sym u.body ∙ ap (λ (k : List Piece). body_of a b l c.latest c.count k) (sym i))
+            append_assoc g.drawn vs (body_of a b l d.word d.count (items_of (stream t to)))
+            ∙ ap (λ (z : List ℤ). g.drawn ++ z) (sym u.body ∙ ap (λ (k : List Piece). body_of a b l c.word c.count k) (sym i))
             ∙ g.body;
         rest = sym u.rest ∙ ap (λ (k : List Piece). written k) (sym st.is) ∙ g.rest;
-        last = sym u.last ∙ ap (λ (k : List Piece). last_of c.latest (letters k)) (sym i) ∙ g.last;
+        last = sym u.last ∙ ap (λ (k : List Piece). last_of c.word (letters k)) (sym i) ∙ g.last;
         count = sym u.count ∙ ap (λ (k : List Piece). c.count + tally k) (sym i) ∙ g.count;
         name = sym u.name ∙ ap (λ (k : List Piece). c.name + packed_by c.unit (letters k)) (sym i) ∙ g.name;
         onward = λ k. piece_on t s to (length (items_of (stream t to))) (length (items_of (stream t s))) k (ap (λ (z : List Piece). length z) i ∙ u.listed) end ∙ g.onward k;
@@ -310,18 +309,18 @@ module _ {t : List ℕ} {s₀ : Spot} {l a b : ℕ} {ws₀ : List ℤ} {s : Spot
             ∙ g.opened;
       })
 
-  pub wording_number : {to : Spot} {c' : Decoding} {ws' : List ℤ} {p : ℕ} {σ : Bool} {n : ℕ} → Step t s (Number p σ n) to → to ≡ piece_end t (begun t s) → WritesOn ws c.at (value_of a b l c.latest c.count σ n ∷ []) (with_number c) c' ws' → Wording t s₀ l a b ws₀ to c' ws'
+  pub wording_number : {to : Spot} {c' : Line} {ws' : List ℤ} {p : ℕ} {σ : Bool} {n : ℕ} → Step t s (Number p σ n) to → to ≡ piece_end t (begun t s) → Lined ws c.at (value_of a b l c.word c.count σ n ∷ []) (line_number c) c' ws' → Wording t s₀ l a b ws₀ to c' ws'
   wording_number {to} {p} {σ} {n} st end w = stepped st end (number-turns l a b p σ n (stream t to) c g.roomy) w
 
-  pub wording_letter : {to : Spot} {c' : Decoding} {ws' : List ℤ} {x : ℕ} → Step t s (Second x) to ⊎ Step t s (Further x) to → to ≡ piece_end t (begun t s) → WritesOn ws c.at (letter_words l x) (with_letter l c x) c' ws' → Wording t s₀ l a b ws₀ to c' ws'
+  pub wording_letter : {to : Spot} {c' : Line} {ws' : List ℤ} {x : ℕ} → Step t s (Second x) to ⊎ Step t s (Word x) to → to ≡ piece_end t (begun t s) → Lined ws c.at (letter_words l x) (line_letter l c x) c' ws' → Wording t s₀ l a b ws₀ to c' ws'
   wording_letter {to} {x} (inl st) end w = stepped st end (second_turns l a b x (stream t to) c st.small g.roomy) w
-  wording_letter {to} {x} (inr st) end w = stepped st end (further_turns l a b x (stream t to) c st.small g.roomy) w
+  wording_letter {to} {x} (inr st) end w = stepped st end (word_turns l a b x (stream t to) c st.small g.roomy) w
 
   -- the end of the command
   module _ (no_items : items_of (stream t s) ≡ []) (p : ℕ) where
-    last_is : last_of 0 (letters (items_of (stream t s₀))) ≡ c.latest
+    last_is : last_of 0 (letters (items_of (stream t s₀))) ≡ c.word
     unfolding letters last_of
-    last_is = sym g.last ∙ ap (λ (k : List Piece). last_of c.latest (letters k)) no_items
+    last_is = sym g.last ∙ ap (λ (k : List Piece). last_of c.word (letters k)) no_items
 
     count_is : tally (items_of (stream t s₀)) ≡ c.count
     unfolding tally
@@ -333,13 +332,13 @@ module _ {t : List ℕ} {s₀ : Spot} {l a b : ℕ} {ws₀ : List ℤ} {s : Spot
 
     body_is : body_of a b l 0 0 (items_of (stream t s₀)) ≡ g.drawn
     unfolding body_of
-    body_is = sym g.body ∙ ap (λ (k : List Piece). g.drawn ++ body_of a b l c.latest c.count k) no_items ∙ append-nil g.drawn
+    body_is = sym g.body ∙ ap (λ (k : List Piece). g.drawn ++ body_of a b l c.word c.count k) no_items ∙ append-nil g.drawn
 
     inside_is : inside s.state ≡ inside_behind (inside s₀.state) (items_of (stream t s₀))
     unfolding inside_behind
     inside_is = sym (ap (λ (k : List Piece). inside_behind (inside s.state) k) no_items) ∙ g.opened
 
-    words_are : words_of a b (written_at p l (stream t s₀)) ≡ framed (kind_by l c.latest) p (g.drawn ++ closed l c)
+    words_are : words_of a b (written_at p l (stream t s₀)) ≡ framed (kind_by l c.word) p (g.drawn ++ closed l c)
     unfolding words_of
     words_are = rw (last_is, count_is, name_is, body_is)
 
@@ -354,8 +353,8 @@ module _ {t : List ℕ} {s₀ : Spot} {l a b : ℕ} {ws₀ : List ℤ} {s : Spot
         let h₂ = g.from in
         let m : c.at + length cl ≡ suc (suc (length (D ++ cl))) = let e = length-append D cl in let i = g.at_is in omega arith in
         let m₂ : c.at + length cl - 2 ≡ length (D ++ cl) = omega arith in
-        let front : ℕ → List ℤ = λ n. word false (kind_by l c.latest + byte_unit * held n) ∷ word false p ∷ [] in
-        let out : ReadsItems t s₀ p l a b ws₀ (Decoded (kind_by l c.latest) p (c.at + length cl) to) ws' = record {
+        let front : ℕ → List ℤ = λ n. word false (kind_by l c.word + byte_unit * held n) ∷ word false p ∷ [] in
+        let out : ReadsItems t s₀ p l a b ws₀ (Decoded (kind_by l c.word) p (c.at + length cl) to) ws' = record {
           is = sym g.rest ∙ ec;
           exact = end ∙ sym (left_over (one (stops (stream t s)))) ∙ g.onward (one (stops (stream t s))) ∙ ap (λ (z : Bool). pieces_on t (length (items_of (stream t s₀)) + one z) s₀) g.stopping;
           tells = record {
@@ -367,7 +366,7 @@ module _ {t : List ℕ} {s₀ : Spot} {l a b : ℕ} {ws₀ : List ℤ} {s : Spot
                 ∙ ap (λ (n : ℕ). sets (sets ws c.at cl) 0 (front n)) m₂
                 ∙ ap (λ (z : List ℤ). sets z 0 (front (length (D ++ cl))))
                 (ap (λ (j : ℕ). sets ws j cl) g.at_is ∙ ap (λ (z : List ℤ). sets z (2 + length D) cl) g.room ∙ sets_append D cl ws₀ 2)
-                ∙ framing ws₀ (D ++ cl) (word false (kind_by l c.latest + byte_unit * held (length (D ++ cl)))) (word false p)
+                ∙ framing ws₀ (D ++ cl) (word false (kind_by l c.word + byte_unit * held (length (D ++ cl)))) (word false p)
                 ∙ ap (λ (z : List ℤ). sets ws₀ 0 z) (sym words_are);
             ends = λ e. st (g.stopping ∙ e) ∙ ap (λ (j : Bool). behind j to.at) inside_is;
           };
@@ -389,7 +388,7 @@ module _ {t : List ℕ} {s₀ : Spot} {l a b : ℕ} {ws₀ : List ℤ} {s : Spot
   wording_ended {to} (some (First q y) z st) d u e k = ended (First q y ∷ stream t to) st.is refl refl k
   wording_ended (some (Second y) z st) d u e k = absurd (omega arith)
   wording_ended (some (Number q σ v) z st) d u e k = absurd (d z)
-  wording_ended (some (Further y) z st) d u e k = absurd (omega arith)
+  wording_ended (some (Word y) z st) d u e k = absurd (omega arith)
   wording_ended (some Stop z st) d u e k = absurd (e z)
 
   pub wording_stop : {to : Spot} {p : ℕ} {r : Read} {ws' : List ℤ} → Step t s Stop to → to ≡ piece_end t (begun t s) → Closed ws l p c to r ws' → ReadsItems t s₀ p l a b ws₀ r ws'
@@ -440,7 +439,7 @@ module _ {t : List ℕ} {s₀ s : Spot} (g : Seeking t s₀ s) where
   seeking_past (some (First p b) z st) end k e = absurd (e z)
   seeking_past (some (Second b) z st) end k e = past st end refl refl (λ i. refl)
   seeking_past (some (Number p σ v) z st) end k e = past st end refl refl (λ i. refl)
-  seeking_past (some (Further b) z st) end k e = past st end refl refl (λ i. refl)
+  seeking_past (some (Word b) z st) end k e = past st end refl refl (λ i. refl)
   seeking_past (some Stop z st) end k e = past st end refl refl (λ i. refl)
 
   open_first : {to : Spot} {p l : ℕ} → Step t s (First p l) to → inside to.state ≡ inside_first (inside s₀.state) (stream t s₀)

@@ -10,11 +10,11 @@ use Rattle.pieces.specs.Pieces.{letter_s, farthest, stream, behind, inside_after
 use Rattle.pieces.specs.declared.Spot.{Spot}
 use Rattle.pieces.specs.declared.Begun.{Begun}
 use Rattle.pieces.specs.declared.Piece.{Piece}
-use Rattle.pieces.specs.declared.Piece.TheVariants.{First, Second, Number, Further, Stop}
+use Rattle.pieces.specs.declared.Piece.TheVariants.{First, Second, Number, Word, Stop}
 use Rattle.rules.specs.Letters.{letter_b, letter_c, letter_d, letter_l, letter_m, byte_unit, first_unit}
 use Rattle.rules.specs.Written.{Written, written, written_at, letters, last_letter, packed_by, one, inside_behind}
 use Rattle.rules.specs.Rules.{scaled_by}
-use Rattle.commands.specs.declared.Decoding.{Decoding}
+use Rattle.commands.specs.declared.Line.{Line}
 use Rattle.commands.specs.declared.Read.{Read}
 use Rattle.commands.specs.declared.Read.TheVariants.{Decoded, Nothing}
 
@@ -45,7 +45,7 @@ body_of a b l w i [] = []
 body_of a b l w i (First p x ∷ xs) = body_of a b l w i xs
 body_of a b l w i (Second x ∷ xs) = letter_words l x ++ body_of a b l x i xs
 body_of a b l w i (Number p σ n ∷ xs) = value_of a b l w i σ n ∷ body_of a b l w (i + 1) xs
-body_of a b l w i (Further x ∷ xs) = letter_words l x ++ body_of a b l x i xs
+body_of a b l w i (Word x ∷ xs) = letter_words l x ++ body_of a b l x i xs
 body_of a b l w i (Stop ∷ xs) = body_of a b l w i xs
 
 -- a layer's name; a box's direction and a definition's scale where they are left out
@@ -62,7 +62,7 @@ tally [] = 0
 tally (First p x ∷ xs) = tally xs
 tally (Second x ∷ xs) = tally xs
 tally (Number p σ n ∷ xs) = 1 + tally xs
-tally (Further x ∷ xs) = tally xs
+tally (Word x ∷ xs) = tally xs
 tally (Stop ∷ xs) = tally xs
 
 -- the kind is the first letter, and of a D command the second
@@ -87,30 +87,30 @@ pub record Writes (l : List ℤ) (at : ℕ) (vs : List ℤ) (r : ℕ) (l' : List
   pub next : r ≡ at + length vs
   pub laid : l' ≡ sets l at vs
 
--- the same, of one that adds a number or a letter to the command under way
-abbrev pub with_number : Decoding → Decoding
-with_number c = record { at = c.at + 1; latest = c.latest; count = c.count + 1; unit = c.unit; name = c.name }
+-- the same, of one that keeps a line
+abbrev pub line_number : Line → Line
+line_number c = record { at = c.at + 1; word = c.word; count = c.count + 1; unit = c.unit; name = c.name }
 
-abbrev pub with_letter : ℕ → Decoding → ℕ → Decoding
-with_letter l c x = record {
+abbrev pub line_letter : ℕ → Line → ℕ → Line
+line_letter l c x = record {
   at = c.at + length (letter_words l x);
-  latest = x;
+  word = x;
   count = c.count;
   unit = c.unit / byte_unit;
   name = c.name + x * c.unit;
 }
 
-pub record WritesOn (l : List ℤ) (at : ℕ) (vs : List ℤ) (c r : Decoding) (l' : List ℤ) : Type 0 where
-  pub is : r ≡ c
+pub record Lined (l : List ℤ) (at : ℕ) (vs : List ℤ) (c r : Line) (l' : List ℤ) : Type 0 where
+  pub line : r ≡ c
   pub laid : l' ≡ sets l at vs
 
-abbrev pub closed : ℕ → Decoding → List ℤ
-closed l c = closing l c.latest c.count c.name
+abbrev pub closed : ℕ → Line → List ℤ
+closed l c = closing l c.word c.count c.name
 
 -- the two words in front are written last
-pub record Closed (ws : List ℤ) (l p : ℕ) (c : Decoding) (to : Spot) (r : Read) (ws' : List ℤ) : Type 0 where
-  pub is : r ≡ Decoded (kind_by l c.latest) p (c.at + length (closed l c)) to
-  pub laid : ws' ≡ sets (sets ws c.at (closed l c)) 0 (word false (kind_by l c.latest + byte_unit * held (c.at + length (closed l c) - 2)) ∷ word false p ∷ [])
+pub record Closed (ws : List ℤ) (l p : ℕ) (c : Line) (to : Spot) (r : Read) (ws' : List ℤ) : Type 0 where
+  pub is : r ≡ Decoded (kind_by l c.word) p (c.at + length (closed l c)) to
+  pub laid : ws' ≡ sets (sets ws c.at (closed l c)) 0 (word false (kind_by l c.word + byte_unit * held (c.at + length (closed l c) - 2)) ∷ word false p ∷ [])
 
 -- the command c: its kind, its place, how many words it has, the words themselves from the run's start on, and where the next begins, which is known
 -- from the place alone where a semicolon ends c; i says whether a definition is open behind its first letter
@@ -127,7 +127,7 @@ inside_first i [] = i
 inside_first i (First p b ∷ xs) = i
 inside_first i (Second b ∷ xs) = inside_first (inside_after (Second b) i) xs
 inside_first i (Number p σ n ∷ xs) = inside_first i xs
-inside_first i (Further b ∷ xs) = inside_first i xs
+inside_first i (Word b ∷ xs) = inside_first i xs
 inside_first i (Stop ∷ xs) = inside_first i xs
 
 -- how many pieces come before the first letter
@@ -136,7 +136,7 @@ preceding [] = 0
 preceding (First p b ∷ xs) = 0
 preceding (Second b ∷ xs) = suc (preceding xs)
 preceding (Number p σ n ∷ xs) = suc (preceding xs)
-preceding (Further b ∷ xs) = suc (preceding xs)
+preceding (Word b ∷ xs) = suc (preceding xs)
 preceding (Stop ∷ xs) = suc (preceding xs)
 
 -- where a reader stands after the letters that begin the next n pieces, and after the n pieces

@@ -1,13 +1,14 @@
 // One command of a CIF text decoded to words: its kind, its place, and its numbers after scaling, with what is left out filled in. `read_command` takes
 // any bytes: where a text leaves the grammar it has no more pieces, and so no more commands. Which numbers these are is proved in reading, above.
 #![tactic(auto)]
+
 ghost use Rattle.std.specs.Prelude.{◌≡◌, false, [], ◌∷◌, ◌+◌, ◌*◌, ◌/◌, ◌<◌, ◌≤◌};
 ghost use Rattle.grammar.specs.Steps.{KindsLent, NextLent};
 ghost use Rattle.definition.specs.Words.{if◌then◌else◌};
 ghost use Rattle.pieces.specs.Pieces.{too_large, Fit};
 ghost use Rattle.rules.specs.Letters.{byte_unit, first_unit};
 ghost use Rattle.rules.specs.Rules.{distance};
-ghost use Rattle.commands.specs.Words.{widest, held, word, value_of, letter_words, closing, kind_by, Writes, WritesOn, with_number, with_letter, Closed, outmost, ReadsCommand, ReadsItems};
+ghost use Rattle.commands.specs.Words.{widest, held, word, value_of, letter_words, closing, kind_by, Writes, Lined, line_number, line_letter, Closed, outmost, ReadsCommand, ReadsItems};
 
 // The largest number that a word holds.
 const WIDEST: usize = 2_147_483_647;
@@ -15,9 +16,9 @@ const WIDEST: usize = 2_147_483_647;
 // The command that is being decoded: where its next word goes, its last letter, how many numbers it has had, what its next letter counts in its
 // name, and its name.
 #[derive(Clone, Copy)]
-pub struct Decoding {
+pub struct Line {
     pub at: usize,
-    pub latest: u8,
+    pub word: u8,
     pub count: usize,
     pub unit: usize,
     pub name: usize,
@@ -96,12 +97,12 @@ fn put_closing(
     words: &mut [i32],
     at: usize,
     letter: u8,
-    latest: u8,
+    word: u8,
     count: usize,
     name: usize,
 ) -> usize
     requires { at < outmost }
-    ensures { Writes words.old at (closing letter latest count name) result words.new }
+    ensures { Writes words.old at (closing letter word count name) result words.new }
 {
     if letter == b'L' {
         return put_word(words, at, false, name);
@@ -113,7 +114,7 @@ fn put_closing(
         return at;
     }
     if letter == b'D' {
-        if latest == b'S' {
+        if word == b'S' {
             if count == 1 {
                 return put_two(words, at, 1, 1);
             }
@@ -124,61 +125,61 @@ fn put_closing(
     at
 }
 
-fn add_number(
+fn line_number(
     words: &mut [i32],
-    c: Decoding,
+    c: Line,
     a: usize,
     b: usize,
     letter: u8,
     minus: bool,
     n: usize,
-) -> Decoding
+) -> Line
     requires a_le_too_large { (a ≤ too_large) × (1 ≤ b) × (n ≤ too_large) }
     requires at_lt_outmost { (c.at < outmost) × (c.count < outmost) }
-    ensures { WritesOn words.old c.at (value_of a b letter c.latest c.count minus n ∷ []) (with_number c) result words.new }
+    ensures { Lined words.old c.at (value_of a b letter c.word c.count minus n ∷ []) (line_number c) result words.new }
 {
-    let v = rules::scaled(a, b, letter, c.latest, c.count, n);
+    let v = rules::scaled(a, b, letter, c.word, c.count, n);
     let at = put_word(words, c.at, minus, v.value);
-    Decoding {
+    Line {
         at,
-        latest: c.latest,
+        word: c.word,
         count: c.count + 1,
         unit: c.unit,
         name: c.name,
     }
 }
 
-fn add_letter(words: &mut [i32], c: Decoding, letter: u8, x: u8) -> Decoding
+fn line_letter(words: &mut [i32], c: Line, letter: u8, x: u8) -> Line
     requires { (c.at < outmost) × (c.name + byte_unit * c.unit ≤ byte_unit * first_unit) }
-    ensures { WritesOn words.old c.at (letter_words letter x) (with_letter letter c x) result words.new }
+    ensures { Lined words.old c.at (letter_words letter x) (line_letter letter c x) result words.new }
 {
     let at = put_letter(words, c.at, letter, x);
     let name = names::longer_name(c.name, c.unit, x);
-    Decoding {
+    Line {
         at,
-        latest: x,
+        word: x,
         count: c.count,
         unit: c.unit / names::BYTE_UNIT,
         name,
     }
 }
 
-fn kind_by(letter: u8, latest: u8) -> u8
-    ensures { result ≡ kind_by letter latest }
+fn kind_by(letter: u8, word: u8) -> u8
+    ensures { result ≡ kind_by letter word }
 {
     if letter == b'D' {
-        return latest;
+        return word;
     }
     letter
 }
 
-fn close(words: &mut [i32], letter: u8, place: usize, c: Decoding, to: pieces::Spot) -> Read
+fn close(words: &mut [i32], letter: u8, place: usize, c: Line, to: pieces::Spot) -> Read
     requires { (2 ≤ c.at) × (c.at + 1 < outmost) }
     ensures { Closed words.old letter place c to result words.new }
 {
-    let end = put_closing(words, c.at, letter, c.latest, c.count, c.name);
+    let end = put_closing(words, c.at, letter, c.word, c.count, c.name);
     let n = held_of(end - 2);
-    let kind = kind_by(letter, c.latest);
+    let kind = kind_by(letter, c.word);
     let h = wide(kind) + names::BYTE_UNIT * n;
     put_two(words, 0, h, place);
     Read::Decoded(kind, place, end, to)
@@ -202,9 +203,9 @@ fn read_items(
 {
     let mut spot = from;
     // two words stand in front: the kind with the count, and the place
-    let mut c = Decoding {
+    let mut c = Line {
         at: 2,
-        latest: 0,
+        word: 0,
         count: 0,
         unit: names::FIRST_UNIT,
         name: 0,
@@ -215,10 +216,10 @@ fn read_items(
         if mark == grammar::tables::LEAD {
             let minus = m.place < m.at;
             let n = pieces::read_number(text, m);
-            c = add_number(words, c, a, b, letter, minus, n.size);
+            c = line_number(words, c, a, b, letter, minus, n.size);
             spot = n.to;
         } else if grammar::tables::HEAD < mark {
-            c = add_letter(words, c, letter, m.byte);
+            c = line_letter(words, c, letter, m.byte);
             spot = m.to;
         } else {
             if mark == grammar::tables::STOP {

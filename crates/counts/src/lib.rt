@@ -1,6 +1,7 @@
-// The running counts (RULES 8), one record that is carried along through the drawing, lent: each thin function takes the record by `&mut`, takes it apart and
-// calls a covered function on the numbers. Their callers stand below, with the record by value in and out: whoever calls those needs no walk by hand.
+// The running counts (RULES 8), one record that is carried along through the drawing: thin functions take the record lent, by `&mut`, and call a function on
+// its numbers. Their callers stand below, with the record by value in and out.
 #![tactic(auto)]
+
 ghost use Rattle.std.specs.Prelude.{◌≡◌, ◌+◌, ◌<◌, ◌^◌};
 ghost use Rattle.counts.specs.Counting.{zero_counts, with_redefinitions, tried, answered, AddsCall, AddsShape, CountsCall, CountsShape, CountsRedefinition};
 

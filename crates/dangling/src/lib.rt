@@ -1,6 +1,7 @@
 // The first dangling call of the live definitions (RULES 13, request 1), from the words that hold their bodies: definitions by number, which is the order of their rows,
 // and in each its calls in written order. Nothing is drawn, and no text is read.
 #![tactic(auto)]
+
 ghost use Rattle.std.specs.Prelude.{◌<◌, ◌≤◌, length};
 ghost use Rattle.library.specs.Sound.{Stocked};
 ghost use Rattle.library.specs.Rows.{Sorted};

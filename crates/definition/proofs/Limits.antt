@@ -11,7 +11,7 @@ use lib.Dec.{leb}
 use lib.IntN.{ℤ, pos, nat_abs}
 use lib.ListN.{length}
 use borrow.Author.Tests.{lt-ltb, le-ltb, le-leb, lt-leb}
-use Rattle.definition.specs.Quick.{quick_verdict}
+use Rattle.grammar.specs.Steps.{verdict_of}
 use Rattle.grammar.proofs.Verdicts.{Bytes}
 use Rattle.definition.specs.Words.{if◌then◌else◌, Placed, any, those, bytes_of}
 use Rattle.definition.specs.Rules.{text_too_long, too_many_definitions, too_many_calls, too_many_shapes, flat_file_too_long, refuse, order}
@@ -107,11 +107,11 @@ module _ (c : Counts) (cs : List (Placed Command)) (es : List Event) (room : ℕ
       neither false = refl
 
 -- 1: a text of 16,777,216 bytes is still judged by the grammar, and a longer one has this refusal and no other
-pub text-reached : (t : List ℕ) (words room : ℕ) → Bytes t → length t ≤ 16777216 → Answers t words room (verdict (quick_verdict t) t words room)
+pub text-reached : (t : List ℕ) (words room : ℕ) → Bytes t → length t ≤ 16777216 → Answers t words room (verdict (verdict_of 0 0 0 t) t words room)
 unfolding answer_of
 text-reached t words room b h = subst (Answers t words room) judged_so (right t words room b)
   where
-    judged_so : answer_of t words room ≡ verdict (quick_verdict t) t words room
+    judged_so : answer_of t words room ≡ verdict (verdict_of 0 0 0 t) t words room
     judged_so = rw (le-ltb 16777216 (length t) h)
 
 pub text-passed : (t : List ℕ) (words room : ℕ) {o : Outcome} → 16777216 < length t → Answers t words room o → o ≡ rejected (refuse text_too_long 0) []

@@ -18,6 +18,16 @@ use Rattle.grammar.specs.declared.Verdict.{Verdict}
 use Rattle.grammar.specs.Viable.{Marked}
 use Rattle.grammar.proofs.Markings.{marking_is}
 use Rattle.grammar.proofs.Verdicts.{Bytes, judged}
+use Rattle.grammar.specs.declared.Verdict.TheVariants.{InGrammar, StuckAt}
+use Rattle.definition.specs.Limits.{most_bytes}
+use Rattle.definition.specs.Words.{if◌then◌else◌}
+use Rattle.definition.specs.Rules.{text_too_long, refuse}
+use Rattle.definition.specs.declared.Summary.{Summary}
+use Rattle.definition.specs.Answer.{Outcome, rejected, outcome_of, Answers}
+use Rattle.definition.specs.Summary.{empty_summary, summary_of, Summarises}
+use Rattle.definition.specs.Computed.{verdict, answer_of, quick_outcome, quick_answer, summary_verdict, summary_for, quick_summed, quick_summary}
+use Rattle.definition.proofs.Right.{right}
+use Rattle.definition.proofs.Summed.{summary_right}
 use Rattle.definition.specs.Quick.{entry_unit, packed, packed_rows, entry_in, marking_by, verdict_by, quick_letters, quick_verdict}
 
 -- ---- a packed entry is the table's
@@ -127,3 +137,34 @@ quick_letters_lem {t} g = marking_is g ∙ sym (marked_by (packed_rows state_cou
 pub quick_judged : (t : List ℕ) → Bytes t → Viable.Judged t (quick_verdict t)
 unfolding quick_verdict
 quick_judged t b = subst (λ (v : Verdict). Viable.Judged t v) (sym (verdict_by_lem (packed_rows state_count table) entry_at 0 0 0 t)) (judged t b)
+
+-- so what is computed of a text is what is promised of it
+pub same_letters : (t : List ℕ) → quick_letters t ≡ marked 0 0 t
+unfolding quick_letters
+same_letters t = marked_by (packed_rows state_count table) entry_at 0 0 t
+
+pub same_verdict : (t : List ℕ) → quick_verdict t ≡ verdict_of 0 0 0 t
+unfolding quick_verdict
+same_verdict t = verdict_by_lem (packed_rows state_count table) entry_at 0 0 0 t
+
+pub quick_is : (t : List ℕ) (words room : ℕ) → quick_answer t words room ≡ answer_of t words room
+unfolding quick_answer answer_of quick_outcome verdict
+quick_is t words room = ap (λ (o : Outcome). if ltb most_bytes (length t) then rejected (refuse text_too_long 0) [] else o) (rw (same_verdict t) (judged_so (verdict_of 0 0 0 t)))
+  where
+    judged_so : (v : Verdict) → quick_outcome v t words room ≡ verdict v t words room
+    judged_so InGrammar = ap (λ (m : List Letter). outcome_of m words room) (same_letters t)
+    judged_so (StuckAt n) = refl
+
+pub quick_summary_is : (t : List ℕ) (words symbol : ℕ) → quick_summary t words symbol ≡ summary_for t words symbol
+unfolding quick_summary summary_for quick_summed summary_verdict
+quick_summary_is t words n = ap (λ (s : Summary). if ltb most_bytes (length t) then empty_summary t (refuse text_too_long 0) else s) (rw (same_verdict t) (summed_so (verdict_of 0 0 0 t)))
+  where
+    summed_so : (v : Verdict) → quick_summed v t words n ≡ summary_verdict v t words n
+    summed_so InGrammar = ap (λ (m : List Letter). summary_of t m words n) (same_letters t)
+    summed_so (StuckAt k) = refl
+
+pub quick_right : (t : List ℕ) (words room : ℕ) → Bytes t → Answers t words room (quick_answer t words room)
+quick_right t words room b = subst (Answers t words room) (sym (quick_is t words room)) (right t words room b)
+
+pub quick_summary_right : (t : List ℕ) (words symbol : ℕ) → Bytes t → Summarises t words symbol (quick_summary t words symbol)
+quick_summary_right t words n b = subst (Summarises t words n) (sym (quick_summary_is t words n)) (summary_right t words n b)

@@ -5,7 +5,6 @@ use mathlib.Core.Path.{◌≡◌, refl, sym, subst}
 use mathlib.Core.Bool.{Bool, true, false, not, ◌&&◌}
 use mathlib.Core.List.{List, [], ◌∷◌}
 use Prim.Native.Nat.{ℕ, ◌≤◌}
-use Prim.Native.String.{String}
 use lib.Dec.{T, ltb, ltb→lt, nltb→le}
 use lib.ListN.{length}
 use Rattle.grammar.specs.Notation.{Letter}
@@ -17,7 +16,7 @@ use Rattle.grammar.proofs.Tests.{and_left, and_right}
 use Rattle.grammar.proofs.Verdicts.{Bytes}
 use Rattle.definition.specs.Limits.{most_bytes}
 use Rattle.definition.specs.Words.{if◌then◌else◌, same}
-use Rattle.definition.specs.Rules.{text_too_long, not_in_grammar, refuse, order}
+use Rattle.definition.specs.Rules.{text_too_long, refuse, order}
 use Rattle.definition.specs.Answer.{Outcome, rejected}
 use Rattle.definition.specs.Records.{outcome_with, AnswersWith, too_long, not_cif, read}
 use Rattle.definition.specs.Computed.{verdict_with, answer_with}

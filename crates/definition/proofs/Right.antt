@@ -9,13 +9,12 @@ use lib.Dec.{T, ltb, ltb→lt, nltb→le}
 use lib.IntN.{ℤ}
 use lib.ListN.{length}
 use Rattle.grammar.specs.Notation.{Letter}
-use Rattle.definition.specs.Quick.{quick_verdict}
+use Rattle.grammar.specs.Steps.{verdict_of}
 use Rattle.grammar.specs.Viable
 use Rattle.grammar.specs.declared.Verdict.{Verdict}
 use Rattle.grammar.specs.declared.Verdict.TheVariants.{InGrammar, StuckAt}
-use Rattle.grammar.proofs.Markings.{one_marking}
-use Rattle.grammar.proofs.Verdicts.{Bytes}
-use Rattle.grammar.proofs.Unique
+use Rattle.grammar.proofs.Markings.{marking_is, one_marking}
+use Rattle.grammar.proofs.Verdicts.{Bytes, judged}
 use Rattle.grammar.proofs.Unique.{one_length}
 use Rattle.definition.specs.Limits.{most_bytes}
 use Rattle.definition.specs.Words.{if◌then◌else◌}
@@ -23,19 +22,18 @@ use Rattle.definition.specs.Rules.{text_too_long, not_in_grammar, refuse}
 use Rattle.definition.specs.declared.Answer.{Answer}
 use Rattle.definition.specs.Answer.{Outcome, rejected, given_back, room_after, outcome_of, Answers, too_long, not_cif, read, Promised}
 use Rattle.definition.specs.Computed.{verdict, answer_of}
-use Rattle.definition.proofs.Quick.{quick_letters_lem, quick_judged}
 
-by_verdict_lem : (t : List ℕ) (words room : ℕ) → Bytes t → length t ≤ most_bytes → (v : Verdict) → Viable.Judged t v → Answers t words room (verdict v t words room)
+by_verdict : (t : List ℕ) (words room : ℕ) → Bytes t → length t ≤ most_bytes → (v : Verdict) → Viable.Judged t v → Answers t words room (verdict v t words room)
 unfolding verdict
-by_verdict_lem t words room b h InGrammar g =
-    subst (λ (m : List Letter). Answers t words room (outcome_of m words room)) (quick_letters_lem g.1) (read h g.1)
-by_verdict_lem t words room b h (StuckAt n) g = not_cif h g.0 g.1
+by_verdict t words room b h InGrammar g =
+    subst (λ (m : List Letter). Answers t words room (outcome_of m words room)) (marking_is g.1) (read h g.1)
+by_verdict t words room b h (StuckAt n) g = not_cif h g.0 g.1
 
 by_length : (t : List ℕ) (words room : ℕ) → Bytes t → (c : Bool) → ltb most_bytes (length t) ≡ c
-    → Answers t words room (if c then rejected (refuse text_too_long 0) [] else verdict (quick_verdict t) t words room)
+    → Answers t words room (if c then rejected (refuse text_too_long 0) [] else verdict (verdict_of 0 0 0 t) t words room)
 by_length t words room b true e = too_long (ltb→lt most_bytes (length t) (subst T (sym e) tt))
 by_length t words room b false e =
-    by_verdict_lem t words room b (nltb→le most_bytes (length t) (subst (λ (c : Bool). T (not c)) (sym e) tt)) (quick_verdict t) (quick_judged t b)
+    by_verdict t words room b (nltb→le most_bytes (length t) (subst (λ (c : Bool). T (not c)) (sym e) tt)) (verdict_of 0 0 0 t) (judged t b)
 
 pub right : (t : List ℕ) (words room : ℕ) → Bytes t → Answers t words room (answer_of t words room)
 unfolding answer_of

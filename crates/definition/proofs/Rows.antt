@@ -16,7 +16,7 @@ use Rattle.definition.specs.declared.Answer.{Answer}
 use Rattle.definition.specs.Words.{if◌then◌else◌}
 use Rattle.definition.specs.Answer.{Outcome, Answers}
 use Rattle.definition.specs.Listing.{Lists, within}
-use Rattle.definition.proofs.Right.{right}
+use Rattle.definition.proofs.Quick.{quick_right}
 -- the names that rows compute through, written by tools/rows.py
 use Rattle.grammar.specs.Notation.{has, dec}
 use Rattle.grammar.specs.Tables.{kinds, table}
@@ -43,7 +43,7 @@ use Rattle.definition.specs.Summary.{among, names_after, names_from, too_many_fr
 use Rattle.definition.specs.Why.{numbered, reason_found, reason_at, reason_from, reason_of, why_told}
 use Rattle.definition.specs.Marks.{set_of_layers}
 use Rattle.definition.specs.Quick.{packed, packed_rows, marking_by, verdict_by, quick_letters, quick_verdict}
-use Rattle.definition.specs.Computed.{verdict, answer_of, verdict_with, answer_with, summary_verdict, summary_for, reason_verdict, reason_for}
+use Rattle.definition.specs.Computed.{quick_outcome, quick_answer, verdict_with, answer_with, quick_summed, quick_summary, reason_verdict, reason_for}
 
 -- the end of what tools/rows.py writes here
 
@@ -199,11 +199,11 @@ same-eq (x ∷ a) (y ∷ b) t = go (eqb x y) refl (same-eq a b) t
     go false e f h = absurd h
 
 row-holds : Row → Bool
-row-holds r = small r.text && same (said_by r.text (answer_of r.text r.words r.room)) (said_of r)
+row-holds r = small r.text && same (said_by r.text (quick_answer r.text r.words r.room)) (said_of r)
 
 print_holds : Printout → Bool
 print_holds r =
-    small (bytes_of r.text) && (leb (length (bytes_of r.text)) 32768 && same (listing (bytes_of r.text) (answer_of (bytes_of r.text) 32768 32768)) (bytes_of r.printed))
+    small (bytes_of r.text) && (leb (length (bytes_of r.text)) 32768 && same (listing (bytes_of r.text) (quick_answer (bytes_of r.text) 32768 32768)) (bytes_of r.printed))
 
 pub every : {A : Type 0} → (A → Bool) → List A → Bool
 every test [] = true
@@ -211,7 +211,7 @@ every test (r ∷ rs) = test r && every test rs
 
 -- the test of rows, and that of printouts; what both compute through is named here once
 unfoldable pub all_hold : List Row → Bool
-unfolding row-holds print_holds every small flat_map has dec kinds table kind_of any those first same bytes_of worth numbers paired next named turn_at turns command_at commands after nearest scaled whole scaled_shape scaled_turn beyond parts_of shifts bearings distances numbers_of zero_scale least empty_shape degenerate layerless has_too_many at_numbers faults all_faults first_fault ragged rounded_from rounded negative heading rotated act aim in_order moved off_axes find enter forget step_of retained deed_of deeds drawn_shape drawn_step drawn_body passage_to passage_of through drawn_call happens table_after story counted go_on ending shapes_of digits decimal spaced letter_of said lines flat words_of_turn words_of_step words_of_body words_in held_to words_after words_needed last_then add add_all lean dangles dangling_calls dangling_at warnings_at warning_line warning_lines line_of since_line_end column_of flat_file success failure given_back fitted drawn outcome_of stacked_to drawn_with outcome_with extreme box_reach slants reach_of reach around windows hull joined fields shape_lines window_line listing among names_after names_from too_many_from sooner first_fault_or_name shape? call? layers_of own_shapes own_calls own_layers both_reply step_reply body_reply higher reply_by reply_to kept? table_then table_deeds appearing packed_name body_found in_symbol empty_summary summary_in summary_from summary_of numbered reason_found reason_at reason_from reason_of why_told set_of_layers packed packed_rows marking_by verdict_by quick_letters quick_verdict verdict answer_of verdict_with answer_with summary_verdict summary_for reason_verdict reason_for
+unfolding row-holds print_holds every small flat_map has dec kinds table kind_of any those first same bytes_of worth numbers paired next named turn_at turns command_at commands after nearest scaled whole scaled_shape scaled_turn beyond parts_of shifts bearings distances numbers_of zero_scale least empty_shape degenerate layerless has_too_many at_numbers faults all_faults first_fault ragged rounded_from rounded negative heading rotated act aim in_order moved off_axes find enter forget step_of retained deed_of deeds drawn_shape drawn_step drawn_body passage_to passage_of through drawn_call happens table_after story counted go_on ending shapes_of digits decimal spaced letter_of said lines flat words_of_turn words_of_step words_of_body words_in held_to words_after words_needed last_then add add_all lean dangles dangling_calls dangling_at warnings_at warning_line warning_lines line_of since_line_end column_of flat_file success failure given_back fitted drawn outcome_of stacked_to drawn_with outcome_with extreme box_reach slants reach_of reach around windows hull joined fields shape_lines window_line listing among names_after names_from too_many_from sooner first_fault_or_name shape? call? layers_of own_shapes own_calls own_layers both_reply step_reply body_reply higher reply_by reply_to kept? table_then table_deeds appearing packed_name body_found in_symbol empty_summary summary_in summary_from summary_of numbered reason_found reason_at reason_from reason_of why_told set_of_layers packed packed_rows marking_by verdict_by quick_letters quick_verdict quick_outcome quick_answer verdict_with answer_with quick_summed quick_summary reason_verdict reason_for
 all_hold rs = every row-holds rs
 
 unfoldable pub all_print : List Printout → Bool
@@ -221,8 +221,8 @@ all_print rs = every print_holds rs
 row-right : (r : Row) → T (row-holds r) → Holds r
 unfolding row-holds
 row-right r t = record {
-  outcome = answer_of r.text r.words r.room;
-  answers = right r.text r.words r.room (small_bytes _ (and_left (small r.text) _ t));
+  outcome = quick_answer r.text r.words r.room;
+  answers = quick_right r.text r.words r.room (small_bytes _ (and_left (small r.text) _ t));
   says = same-eq _ _ (and_right (small r.text) _ t);
 }
 
@@ -230,11 +230,11 @@ print_right : (r : Printout) → T (print_holds r) → Printed r
 unfolding print_holds
 print_right r h =
     let t : List ℕ = bytes_of r.text in
-    let rest : T (leb (length t) 32768 && same (listing t (answer_of t 32768 32768)) (bytes_of r.printed)) = and_right (small t) _ h in
+    let rest : T (leb (length t) 32768 && same (listing t (quick_answer t 32768 32768)) (bytes_of r.printed)) = and_right (small t) _ h in
     subst
     (Lists t)
     (same-eq _ _ (and_right (leb (length t) 32768) _ rest))
-    (within (leb→le (length t) 32768 (and_left (leb (length t) 32768) _ rest)) (right t 32768 32768 (small_bytes t (and_left (small t) _ h))))
+    (within (leb→le (length t) 32768 (and_left (leb (length t) 32768) _ rest)) (quick_right t 32768 32768 (small_bytes t (and_left (small t) _ h))))
 
 pub by_test : {A : Type 0} (test : A → Bool) (P : A → Type 0) → ((r : A) → T (test r) → P r) → (rs : List A) → T (every test rs) → Each P rs
 unfolding every

@@ -3,7 +3,7 @@
 use mathlib.Core.Path.{◌≡◌}
 use mathlib.Core.Bool.{Bool, ◌&&◌}
 use mathlib.Core.List.{List, [], ◌∷◌, ◌++◌}
-use Prim.Native.Nat.{ℕ, ◌+◌}
+use Prim.Native.Nat.{ℕ}
 use Prim.Native.String.{String}
 use lib.Dec.{T}
 use lib.ListN.{length}
@@ -11,9 +11,9 @@ use Rattle.grammar.proofs.Tests.{and_left, and_right}
 use Rattle.definition.specs.declared.Summary.{Summary}
 use Rattle.definition.specs.Words.{same, bytes_of}
 use Rattle.definition.specs.Summary.{Summarises}
-use Rattle.definition.specs.Computed.{summary_for}
+use Rattle.definition.specs.Computed.{quick_summary}
 use Rattle.definition.proofs.Rows.{small, small_bytes, same-eq, every, by_test, Each, all_hold}
-use Rattle.definition.proofs.Summed.{summary_right}
+use Rattle.definition.proofs.Quick.{quick_summary_right}
 
 pub record Asked : Type 0 where  -- a text, the words lent, a symbol number, and all that is told
   pub text : List ℕ
@@ -41,13 +41,13 @@ pub record AsSaid (a : Asked) : Type 0 where
   pub says : said_in summary ≡ a.said
 
 told : Asked → Bool
-told a = small a.text && same (said_in (summary_for a.text a.words a.symbol)) a.said
+told a = small a.text && same (said_in (quick_summary a.text a.words a.symbol)) a.said
 
 told-right : (a : Asked) → T (told a) → AsSaid a
 unfolding told
 told-right a t = record {
-  summary = summary_for a.text a.words a.symbol;
-  summarises = summary_right a.text a.words a.symbol (small_bytes _ (and_left (small a.text) _ t));
+  summary = quick_summary a.text a.words a.symbol;
+  summarises = quick_summary_right a.text a.words a.symbol (small_bytes _ (and_left (small a.text) _ t));
   says = same-eq _ _ (and_right (small a.text) _ t);
 }
 

@@ -2,19 +2,19 @@
 -- Assumes nothing.
 use mathlib.Core.Path.{◌≡◌, refl, sym, ap, ◌∙◌, subst}
 use mathlib.Core.Bool.{Bool, true, false, not}
-use mathlib.Core.List.{List, []}
+use mathlib.Core.List.{List}
 use Prim.Native.Nat.{ℕ, ◌≤◌}
 use native.Mathlib.Omega.{arith}
 use lib.Dec.{T, ltb, ltb→lt, nltb→le}
 use lib.IntN.{ℤ}
 use lib.ListN.{length}
 use Rattle.grammar.specs.Notation.{Letter}
-use Rattle.definition.specs.Quick.{quick_verdict}
+use Rattle.grammar.specs.Steps.{verdict_of}
 use Rattle.grammar.specs.Viable
 use Rattle.grammar.specs.declared.Verdict.{Verdict}
 use Rattle.grammar.specs.declared.Verdict.TheVariants.{InGrammar, StuckAt}
-use Rattle.grammar.proofs.Markings.{one_marking}
-use Rattle.grammar.proofs.Verdicts.{Bytes}
+use Rattle.grammar.proofs.Markings.{marking_is, one_marking}
+use Rattle.grammar.proofs.Verdicts.{Bytes, judged}
 use Rattle.grammar.proofs.Unique.{one_length}
 use Rattle.definition.specs.Limits.{most_bytes}
 use Rattle.definition.specs.Words.{if◌then◌else◌}
@@ -22,18 +22,17 @@ use Rattle.definition.specs.Rules.{text_too_long, not_in_grammar, refuse}
 use Rattle.definition.specs.declared.Summary.{Summary}
 use Rattle.definition.specs.Summary.{empty_summary, summary_of, Summarises, too_long, not_cif, read, Summarised}
 use Rattle.definition.specs.Computed.{summary_verdict, summary_for}
-use Rattle.definition.proofs.Quick.{quick_letters_lem, quick_judged}
 
 module _ (t : List ℕ) (words n : ℕ) (b : Bytes t) where
-  by_verdict_lem : length t ≤ most_bytes → (v : Verdict) → Viable.Judged t v → Summarises t words n (summary_verdict v t words n)
+  by_verdict : length t ≤ most_bytes → (v : Verdict) → Viable.Judged t v → Summarises t words n (summary_verdict v t words n)
   unfolding summary_verdict
-  by_verdict_lem h InGrammar g = subst (λ (m : List Letter). Summarises t words n (summary_of t m words n)) (quick_letters_lem g.1) (read h g.1)
-  by_verdict_lem h (StuckAt k) g = not_cif h g.0 g.1
+  by_verdict h InGrammar g = subst (λ (m : List Letter). Summarises t words n (summary_of t m words n)) (marking_is g.1) (read h g.1)
+  by_verdict h (StuckAt k) g = not_cif h g.0 g.1
 
   by_length : (c : Bool) → ltb most_bytes (length t) ≡ c
-      → Summarises t words n (if c then empty_summary t (refuse text_too_long 0) else summary_verdict (quick_verdict t) t words n)
+      → Summarises t words n (if c then empty_summary t (refuse text_too_long 0) else summary_verdict (verdict_of 0 0 0 t) t words n)
   by_length true e = too_long (ltb→lt most_bytes (length t) (subst T (sym e) tt))
-  by_length false e = by_verdict_lem (nltb→le most_bytes (length t) (subst (λ (c : Bool). T (not c)) (sym e) tt)) (quick_verdict t) (quick_judged t b)
+  by_length false e = by_verdict (nltb→le most_bytes (length t) (subst (λ (c : Bool). T (not c)) (sym e) tt)) (verdict_of 0 0 0 t) (judged t b)
 
   pub summary_right : Summarises t words n (summary_for t words n)
   unfolding summary_for

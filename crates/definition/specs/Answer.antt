@@ -1,6 +1,6 @@
 -- What the reader answers of a text, the words lent and a room: the order of refusals, what is given back, and what is left in the words and in the
 -- room. The exported contract is `Promised`, at the end.
-use Rattle.std.specs.Prelude.{◌≡◌, Bool, true, false, ◌&&◌, List, [], ◌∷◌, ◌++◌, map, ℕ, ◌≤◌, ◌<◌, leb, ℤ, pos, length, drop, replicate}
+use Rattle.std.specs.Prelude.{◌≡◌, ◌&&◌, List, [], ◌++◌, map, ℕ, ◌≤◌, ◌<◌, leb, ℤ, pos, length, drop, replicate}
 use Rattle.std.proofs.Math.Option.{Option, none, some}
 use Rattle.grammar.specs.Notation.{Letter}
 use Rattle.grammar.specs.Viable.{Marked}

@@ -1,6 +1,6 @@
 -- The drawing of 7.1.2.4 as a story: the list of all that happens, in order, refusals among it. It runs nowhere, so it may be as long as it likes;
 -- Counts reads it up to the first refusal, and everything that is given back is read off it.
-use Rattle.std.specs.Prelude.{Bool, true, false, List, [], ◌∷◌, ◌++◌, map, ℕ, zero, suc, ◌+◌, ltb, eqb, ℤ, nat_abs, length}
+use Rattle.std.specs.Prelude.{List, [], ◌∷◌, ◌++◌, map, ℕ, zero, suc, ltb, eqb, ℤ, nat_abs, length}
 use Rattle.std.proofs.Math.Option.{Option, none, some}
 use Rattle.definition.specs.declared.Refusal.{Refusal}
 use Rattle.definition.specs.Limits.{most_definitions, deepest}

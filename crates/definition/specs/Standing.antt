@@ -1,6 +1,6 @@
 -- What stands while a command is read: whether a definition is open, its scale, and the layer. So scale and layer of a shape can be told from the
 -- text alone, and nothing is carried out of a called symbol.
-use Rattle.std.specs.Prelude.{Bool, true, false, List, [], ◌∷◌, map, ℕ, ◌+◌, ◌*◌, ◌/◌, ◌%◌, eqb, ℤ, pos, negsuc, neg_ℤ, nat_abs}
+use Rattle.std.specs.Prelude.{Bool, true, false, List, [], map, ℕ, ◌+◌, ◌*◌, ◌/◌, ◌%◌, eqb, ℤ, pos, negsuc, neg_ℤ, nat_abs}
 use Rattle.definition.specs.Words.{Point, point}
 use Rattle.definition.specs.Commands.{Number, Shape, shape_of, Turn, translate, mirror_x, mirror_y, rotate}
 use Rattle.definition.specs.Commands.{Command, draw, layer, call, start, finish, delete, nothing}

@@ -3,6 +3,7 @@
 
 // The farthest from zero that a number may be (RULES 12, refusals 3, 6, 16 and 20).
 #![tactic(auto)]
+
 pub const LARGEST: usize = 16_777_215;
 // The longest text and the longest flat file (1 and 18).
 pub const MOST_BYTES: usize = 16_777_216;

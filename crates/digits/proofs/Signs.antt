@@ -75,13 +75,7 @@ pub at_most : (z : ℤ) → SFits w64 z → le_z (pos 0) (wrap z) ≡ false → 
 at_most (pos n) f e = absurd (let t = rw (to_z-of_z f) at e in omega (arith, leb-false 0 n t))
 at_most (negsuc n) f e = rw (to_z-of_z f)
 
--- the size, and the sign before it
-pub size-turned : (z : ℤ) (h : Negative z) → nat_abs (wrap (turn z)) + 1 ≡ nat_abs z
-size-turned z h = rw (h.turned, h.is, add-one)
-
-pub size-kept : (z : ℤ) → SFits w64 z → nat_abs (wrap z) ≡ nat_abs z
-size-kept z f = rw (to_z-of_z f)
-
+-- the sign before it
 pub minus : (z : ℤ) → Negative z → 45 ∷ [] ≡ sign z
 minus z h = rw h.is
 

@@ -1,6 +1,7 @@
 // Bytes and whole numbers written into a lent room (RULES 11). Nothing is stored past the room's end and the next place is exact all the same,
 // so one drawing measures, on an empty room, and writes.
 #![tactic(auto)]
+
 ghost use Rattle.std.specs.Prelude.{◌≡◌, ◌∷◌, [], ◌+◌, ◌^◌, ◌<◌, ◌≤◌, pos, nat_abs, length};
 ghost use Rattle.std.specs.Int.Signed.{lt_z};
 ghost use Rattle.definition.specs.Flat.{shortest, decimal};
@@ -19,14 +20,14 @@ pub fn put(room: &mut [u8], at: usize, byte: u8) -> usize
 }
 
 // Bytes as they are given, one after another.
-pub fn put_bytes(room: &mut [u8], start: usize, bytes: &[u8]) -> usize
-    requires { (start ≤ 2 ^ 60) × (length bytes.now ≤ 2 ^ 50) }
-    ensures { Writes room.old room.new start result bytes.now }
+pub fn put_word(room: &mut [u8], start: usize, word: &[u8]) -> usize
+    requires { (start ≤ 2 ^ 60) × (length word.now ≤ 2 ^ 50) }
+    ensures { Writes room.old room.new start result word.now }
 {
     let mut at = start;
     let mut i = 0;
-    while i < bytes.len() {
-        at = put(room, at, bytes[i]);
+    while i < word.len() {
+        at = put(room, at, word[i]);
         i += 1;
     }
     at

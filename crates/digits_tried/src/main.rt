@@ -1,7 +1,12 @@
 // Tries digits::put_digits on every power of ten and its neighbours, and on the largest number, in rooms that end before the number, at each of its
 // digits and after it. A line has the room as it is then, in a row of dots, and the next place. tools/digits_tried.py says what must come.
 #![tactic(auto)]
+
 ghost use Rattle.std.specs.Prelude.{◌≤◌, length};
+
+use std::io;
+use std::io::Write;
+use streams::Failure;
 
 // One byte before the number, 20 for its digits, and one after them.
 const LONGEST: usize = 22;
@@ -78,34 +83,26 @@ fn put_within(room: &mut [u8], size: usize, n: u64) -> usize
     digits::put_digits(&mut room[..size], 1, n)
 }
 
-fn try_room(n: u64, size: usize) -> bool
+fn try_room<W: Write>(output: &mut W, n: u64, size: usize) -> Result<(), Failure>
     requires { size ≤ 22 }
 {
     let mut room = [b'.'; LONGEST];
     let next = put_within(&mut room, size, n);
-    if !streams::write(&room) {
-        return false;
-    }
-    streams::write_number(next, b"\n")
+    streams::write(output, &room)?;
+    streams::write_number(output, next, b"\n")
 }
 
-fn try_number(n: u64) -> bool {
-    let mut size = 0;
-    while size <= LONGEST {
-        if !try_room(n, size) {
-            return false;
-        }
-        size += 1;
+fn try_number<W: Write>(output: &mut W, n: u64) -> Result<(), Failure> {
+    for size in 0..=LONGEST {
+        try_room(output, n, size)?;
     }
-    true
+    Ok(())
 }
 
-fn main() {
-    let mut i = 0;
-    while i < COUNT {
-        if !try_number(NUMBERS[i]) {
-            return;
-        }
-        i += 1;
+fn main(rt: HostRuntime) -> anyhow::Result<()> {
+    let mut output = io::writer(&rt);
+    for n in &NUMBERS {
+        try_number(&mut output, *n)?;
     }
+    Ok(())
 }

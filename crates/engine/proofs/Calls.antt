@@ -15,8 +15,8 @@ use Rattle.definition.specs.Counts.{shapes_of}
 use Rattle.definition.specs.declared.Refusal.{Refusal}
 use Rattle.counts.specs.declared.Counts.{Counts}
 use Rattle.shapes.specs.declared.Ink.{Ink}
-use Rattle.shapes.specs.declared.DrawEnd.{DrawEnd}
-use Rattle.shapes.specs.declared.DrawEnd.TheVariants.{Refused}
+use Rattle.shapes.specs.declared.Drawn.{Drawn}
+use Rattle.shapes.specs.declared.Drawn.TheVariants.{Refused}
 use Rattle.shapes.specs.Painting.{inked, Reached, Painted}
 use Rattle.shapes.proofs.Painting.{quiet, refusal, next_drawn}
 use Rattle.library.specs.Memory.{steps_in, definition_at, table_of, start_at, length_at}
@@ -132,7 +132,7 @@ module _ (rows : List ℕ) (live : ℕ) (drawing : List ℕ) (left : ℕ) (call 
 
     -- a call that is counted draws what its body draws
     pub body-drawn : left ≤ 32 → Reached ink → {pushed : List ℕ} → Pushed (32 - left) call.place call.symbol drawing pushed
-        → (b : List ℤ) {from size : ℕ} {room : List ℕ} {told : Chain} {r : DrawEnd} {room' : List ℕ} → from ≡ start_at rows row → size ≡ length_at rows row
+        → (b : List ℤ) {from size : ℕ} {room : List ℕ} {told : Chain} {r : Drawn} {room' : List ℕ} → from ≡ start_at rows row → size ≡ length_at rows row
         → Draws rows b live pushed call.net (left - 1) from (from + size) (inked more ink.pen) room told r room'
         → CallDraws rows b live drawing call left ink room told r room'
     body-drawn h reach {pushed} push b {from} {size} {room} {told} {r} {room'} e f drawn outer ts askew carries =

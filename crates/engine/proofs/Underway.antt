@@ -19,8 +19,8 @@ use Rattle.names.specs.Names.{name_of, packed}
 use Rattle.pen.proofs.Names.{no_name}
 use Rattle.moves.specs.Moves.{ShapedAt}
 use Rattle.shapes.specs.declared.Ink.{Ink}
-use Rattle.shapes.specs.declared.DrawEnd.{DrawEnd}
-use Rattle.shapes.specs.declared.DrawEnd.TheVariants.{Done, Refused}
+use Rattle.shapes.specs.declared.Drawn.{Drawn}
+use Rattle.shapes.specs.declared.Drawn.TheVariants.{Done, Refused}
 use Rattle.shapes.specs.Painting.{Reached, Painted, ShapeDraws}
 use Rattle.shapes.proofs.Painting.{PaintedSoFar, begun, goes_on, skips, stops, over, so_far, room-kept}
 use Rattle.library.specs.Memory.{call_letter, layer_letter, words_at, layer_after, steps_in, table_of}
@@ -92,7 +92,7 @@ none_left (s ∷ ss) e = absurd (let z = ap length e in omega (arith, z))
 module _ {rows : List ℕ} {b : List ℤ} {live : ℕ} {net : Net} {left from end : ℕ} {ink₀ : Ink} {numbers₀ : List ℤ} {drawing₀ room₀ : List ℕ}
     {numbers : List ℤ} {drawing room : List ℕ} {here l : ℕ} {ink : Ink}
     (w : Underway rows b live net left from end ink₀ numbers₀ drawing₀ room₀ numbers drawing room here l ink) where
-  abbrev Answers : Chain → DrawEnd → List ℕ → Type 0
+  abbrev Answers : Chain → Drawn → List ℕ → Type 0
   Answers told r room' = Draws rows b live drawing₀ net left from end ink₀ room₀ told r room'
 
   abbrev chain : Chain
@@ -183,13 +183,13 @@ module _ {rows : List ℕ} {b : List ℤ} {live : ℕ} {net : Net} {left from en
       pub shape_asked : ShapedAt (take (h.next - here) (drop here b)) h.kind (h.next - here)
       shape_asked = shape_words m fits e f
 
-      module _ {room' : List ℕ} {d : DrawEnd}
+      module _ {room' : List ℕ} {d : Drawn}
           (drawn : ShapeDraws (take (h.next - here) (drop here b)) h.kind (h.next - here) net l h.place ink room d room') where
         abbrev figure : Shape ℤ
         figure = (shape_is m fits e f).0
 
-        painted : (outer : List (Turn ℤ)) → Carries outer net → {y : DrawEnd} → d ≡ y → Painted ink (drawn_shape chain outer h.place (name_of l) figure ∷ []) room chain y room'
-        painted outer k q = subst (λ (y : DrawEnd). Painted ink (drawn_shape chain outer h.place (name_of l) figure ∷ []) room chain y room') q (drawn (shape_words m fits e f) chain outer k)
+        painted : (outer : List (Turn ℤ)) → Carries outer net → {y : Drawn} → d ≡ y → Painted ink (drawn_shape chain outer h.place (name_of l) figure ∷ []) room chain y room'
+        painted outer k q = subst (λ (y : Drawn). Painted ink (drawn_shape chain outer h.place (name_of l) figure ∷ []) room chain y room') q (drawn (shape_words m fits e f) chain outer k)
 
         shape-next : (outer : List (Turn ℤ)) → drawn_body (drawn_call left table chain outer) chain outer w.steps
             ≡ (drawn_shape chain outer h.place (name_of l) figure ∷ []) ++ drawn_body (drawn_call left table chain outer) chain outer m.rest
@@ -226,16 +226,16 @@ module _ {rows : List ℕ} {b : List ℤ} {live : ℕ} {net : Net} {left from en
         pub call-near : left ≤ 32 → Near ((32 - left) * 2 ^ 36) net → Near ((33 - left) * 2 ^ 36) read.net
         call-near le k = near-more (omega arith) (it_reads.near ((32 - left) * 2 ^ 36) k)
 
-        module _ {room' : List ℕ} {told : Chain} {d : DrawEnd} (drawn : CallDraws rows b live drawing read left ink room told d room') where
-          abbrev Called : Chain → (place symbol : ℕ) → List (Turn ℤ) → DrawEnd → Type 0
+        module _ {room' : List ℕ} {told : Chain} {d : Drawn} (drawn : CallDraws rows b live drawing read left ink room told d room') where
+          abbrev Called : Chain → (place symbol : ℕ) → List (Turn ℤ) → Drawn → Type 0
           Called o place symbol outer y = Painted ink (drawn_call left table o outer place symbol own) room told y room'
 
-          called : (outer : List (Turn ℤ)) → Carries outer net → {y : DrawEnd} → d ≡ y → Called chain h.place number outer y
+          called : (outer : List (Turn ℤ)) → Carries outer net → {y : Drawn} → d ≡ y → Called chain h.place number outer y
           called outer k {y} q =
               subst (λ (p : ℕ). Called chain p number outer y) it_reads.at_place
               (subst (λ (i : ℕ). Called chain read.place i outer y) it_reads.symbol
               (subst (λ (o : Chain). Called o read.place read.symbol outer y) same_open
-              (subst (λ (y : DrawEnd). Called (open_at drawing left) read.place read.symbol outer y) q (drawn outer own it_reads.askew (it_reads.carries outer k)))))
+              (subst (λ (y : Drawn). Called (open_at drawing left) read.place read.symbol outer y) q (drawn outer own it_reads.askew (it_reads.carries outer k)))))
 
           call_next : (outer : List (Turn ℤ)) → drawn_body (drawn_call left table chain outer) chain outer w.steps
               ≡ drawn_call left table chain outer h.place number own ++ drawn_body (drawn_call left table chain outer) chain outer m.rest

@@ -7,7 +7,7 @@ use Rattle.definition.specs.Drawing.{output, happens}
 use Rattle.names.specs.Names.{name_of}
 use Rattle.moves.specs.Moves.{ShapedAt}
 use Rattle.shapes.specs.declared.Ink.{Ink}
-use Rattle.shapes.specs.declared.DrawEnd.{DrawEnd}
+use Rattle.shapes.specs.declared.Drawn.{Drawn}
 use Rattle.shapes.specs.Painting.{Painted}
 use Rattle.library.specs.Memory.{call_letter, table_of}
 use Rattle.chain.specs.Chain.{chain_in}
@@ -19,6 +19,6 @@ pub data Says (words : List ℤ) (kind end : ℕ) (l : List ℕ) : Step → Type
   a_call : kind ≡ call_letter → (h : CalledAt words end) → Says words kind end l (instance (nat_abs h.symbol) h.turns)
 
 -- the contract of `draw_outer`
-abbrev pub OuterDraws : (rows : List ℕ) (b : List ℤ) (live : ℕ) (words : List ℤ) (kind place end layer : ℕ) → Ink → List ℕ → List ℕ → DrawEnd → List ℕ → Type 0
+abbrev pub OuterDraws : (rows : List ℕ) (b : List ℤ) (live : ℕ) (words : List ℤ) (kind place end layer : ℕ) → Ink → List ℕ → List ℕ → Drawn → List ℕ → Type 0
 OuterDraws rows b live words kind place end layer ink room drawing' r room' =
     (s : Step) → Says words kind end (name_of layer) s → Painted ink (happens (table_of rows b live) (output (at place s))) room (chain_in drawing') r room'

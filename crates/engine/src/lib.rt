@@ -2,6 +2,7 @@
 // refused is asked of crate opening. Where a refusal arises the run of open calls is told how many are open (RULES 12, request 4), and what comes up from below is
 // handed on. The same code measures, on an empty part, and writes: what is stored past the room's end is dropped.
 #![tactic(auto)]
+
 ghost use Rattle.std.specs.Prelude.{◌≡◌, ℕ, ◌+◌, ◌-◌, ◌*◌, ◌^◌, ◌<◌, ◌≤◌, pos, nat_abs, length, get_or};
 ghost use Rattle.definition.specs.Limits.{deepest};
 ghost use Rattle.definition.specs.Table.{Step};
@@ -13,7 +14,7 @@ ghost use Rattle.engine.specs.Heads.{head_in};
 ghost use Rattle.engine.specs.Draws.{Ready, BodyAt, Draws, CallDraws};
 ghost use Rattle.engine.specs.Outer.{Says, OuterDraws};
 
-use shapes::{DrawEnd, Ink};
+use shapes::{Drawn, Ink};
 
 // A command in the run: its kind, its place, and where the next begins.
 #[derive(Clone, Copy)]
@@ -56,7 +57,7 @@ fn draw_call(
     call: opening::Call,
     left: usize,
     ink: Ink,
-) -> DrawEnd
+) -> Drawn
     requires { Ready rows.now bodies.now live numbers.old drawing.old left ink × Near ((33 - left) * 2 ^ 36) call.net }
     ensures call_draws { CallDraws rows.now bodies.now live drawing.old call left ink room.old (chain_in drawing.new) result room.new }
     ensures kept { Kept (deepest - left) drawing.old drawing.new }
@@ -64,7 +65,7 @@ fn draw_call(
     match opening::open_call(rows, live, drawing, left, call, ink.counts) {
         opening::Opened::Refused(refusal) => {
             chain::stop(drawing, definition::DEEPEST - left);
-            return DrawEnd::Refused(refusal);
+            return Drawn::Refused(refusal);
         }
         opening::Opened::Descends(row, counts) => {
             chain::push(drawing, definition::DEEPEST - left, call.place, call.symbol);
@@ -103,7 +104,7 @@ fn draw_body(
     from: usize,
     end: usize,
     before: Ink,
-) -> DrawEnd
+) -> Drawn
     requires { Ready rows.now bodies.now live numbers.old drawing.old left before × Near ((deepest - left) * 2 ^ 36) net × BodyAt bodies.now from end }
     ensures draws { Draws rows.now bodies.now live drawing.old net left from end before room.old (chain_in drawing.new) result room.new }
     ensures kept { Kept (deepest - left) drawing.old drawing.new }
@@ -123,11 +124,11 @@ fn draw_body(
         } else if kind == b'C' {
             let call = opening::read_call(&bodies[here..next], next - here, net, place);
             match draw_call(bodies, rows, live, numbers, drawing, room, call, left, ink) {
-                DrawEnd::Done(called) => {
+                Drawn::Done(called) => {
                     ink = called;
                 }
-                DrawEnd::Refused(refusal) => {
-                    return DrawEnd::Refused(refusal);
+                Drawn::Refused(refusal) => {
+                    return Drawn::Refused(refusal);
                 }
             }
         } else {
@@ -142,18 +143,18 @@ fn draw_body(
                 place,
                 ink,
             ) {
-                DrawEnd::Done(shown) => {
+                Drawn::Done(shown) => {
                     ink = shown;
                 }
-                DrawEnd::Refused(refusal) => {
+                Drawn::Refused(refusal) => {
                     let level = definition::DEEPEST - left;
                     chain::stop(drawing, level);
-                    return DrawEnd::Refused(refusal);
+                    return Drawn::Refused(refusal);
                 }
             }
         }
     }
-    DrawEnd::Done(ink)
+    Drawn::Done(ink)
 }
 
 // A command outside of definitions that draws: a call (RULES 8: an executable call has depth 1), and else a shape.
@@ -170,7 +171,7 @@ pub fn draw_outer(
     end: usize,
     layer: u32,
     ink: Ink,
-) -> DrawEnd
+) -> Drawn
     requires ready { Ready rows.now bodies.now live numbers.old drawing.old deepest ink }
     requires says { (s : Step) × Says words.now kind end (name_of layer) s }
     ensures { OuterDraws rows.now bodies.now live words.now kind place end layer ink room.old drawing.new result room.new }

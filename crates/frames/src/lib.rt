@@ -1,6 +1,7 @@
 // The stack of open calls as records that a host lends (RULES 8, request 7), one for each level: the machine below it never sees them. It answers which record goes to
-// which slot, and is handed what stood there. Both functions are proved by walks of their MIR, by hand.
+// which slot, and is handed what stood there.
 #![tactic(auto)]
+
 ghost use Rattle.std.specs.Prelude.{◌≡◌, ◌<◌, length, set, get_or};
 ghost use Rattle.definition.specs.Records.{PromisedWith};
 ghost use Rattle.machine.specs.States.{no_frame};

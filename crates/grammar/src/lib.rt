@@ -1,6 +1,7 @@
 // Tells which texts are CIF, by the grammar of section 7.1.1, and what each character is in them. `recognise` is the whole of it for a text;
 // `recognised`, `step` and `entry_at` are for crates above, which lend the tables and learn a byte's role.
 #![tactic(auto)]
+
 ghost use Rattle.std.specs.Prelude.{◌≡◌, ◌<◌, ◌/◌, ◌%◌};
 ghost use Rattle.grammar.specs.Tables.{state_count, kind_count, role_unit};
 ghost use Rattle.grammar.specs.Steps.{kind_of, entry_of, next_of, depth_limit, mode, entered, within, Moved, KindsLent, NextLent};

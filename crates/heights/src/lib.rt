@@ -2,6 +2,7 @@
 // height and the set of a finished symbol are kept beside its row, so that every body is gone through once: a known height answers for any allowance
 // (proofs/Walking.antt).
 #![tactic(auto)]
+
 ghost use Rattle.std.specs.Prelude.{◌≡◌, List, [], ℕ, ◌≤◌, max, length};
 ghost use Rattle.definition.specs.Limits.{deepest};
 ghost use Rattle.library.specs.Memory.{most_words};

@@ -19,7 +19,7 @@ use Rattle.joining.specs.Joined.{before_e, joined}
 use Rattle.digits.specs.Writes.{Writes}
 use Rattle.digits.proofs.Writing.{both, same_bytes, begins, measures}
 use Rattle.join.specs.declared.JoinAnswer.{JoinAnswer}
-use Rattle.join.specs.declared.JoinAnswer.TheVariants.{Joined}
+use Rattle.join.specs.declared.JoinAnswer.TheVariants.{Written}
 use Rattle.join.specs.Made.{CutAt, about, fitted, by_verdicts, Joining, judged, room_after, Made}
 
 -- ---- the three parts of a joined text
@@ -29,7 +29,7 @@ next_place t end w h = omega (arith, w.ends, length-take-le end t h)
 
 -- by whether it fits
 abbrev by_test : ℕ → Bool → JoinAnswer
-by_test n b = if b then Joined n else about 0 flat_file_too_long 0
+by_test n b = if b then Written n else about 0 flat_file_too_long 0
 
 module _ {first : List ℕ} {end : ℕ} (cut : CutAt first end) (second : List ℕ) where
   pub three_parts : {r₀ r₁ r₂ r₃ : List ℕ} {i j k : ℕ} → Writes r₀ r₁ 0 i (take end first) → Writes r₁ r₂ i j (bytes_of "DD0;") → Writes r₂ r₃ j k (take (length second) second)
@@ -76,11 +76,11 @@ module _ {first : List ℕ} {end : ℕ} (cut : CutAt first end) (second : List �
       neither false = refl
 
   pub fits : {room left : List ℕ} {n : ℕ} → end + 4 + length second ≤ length room → end + 4 + length second ≤ most_bytes → Writes room left 0 n (joined first second)
-      → (Joined n ≡ fitted bytes (length room)) × (left ≡ room_after (Joined n) (joined first second) room)
+      → (Written n ≡ fitted bytes (length room)) × (left ≡ room_after (Written n) (joined first second) room)
   fits {room} {left} {n} h k w =
       let h' : bytes ≤ length room = omega (arith, h, joined_length) in
       let k' : bytes ≤ most_bytes = omega (arith, k, joined_length) in (
-        ap Joined (measures w) ∙ ap₂ {C = JoinAnswer} (λ (a b : Bool). by_test bytes (a && b)) (sym (le-leb bytes (length room) h')) (sym (le-leb bytes most_bytes k')),
+        ap Written (measures w) ∙ ap₂ {C = JoinAnswer} (λ (a b : Bool). by_test bytes (a && b)) (sym (le-leb bytes (length room) h')) (sym (le-leb bytes most_bytes k')),
         begins w h',
       )
 

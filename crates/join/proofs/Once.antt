@@ -22,7 +22,7 @@ use Rattle.definition.specs.Answer.{accepted, Answers}
 use Rattle.laws.proofs.Rules.Outcomes.{acceptance}
 use Rattle.joining.specs.Joined.{joined}
 use Rattle.join.specs.declared.JoinAnswer.{JoinAnswer}
-use Rattle.join.specs.declared.JoinAnswer.TheVariants.{Joined}
+use Rattle.join.specs.declared.JoinAnswer.TheVariants.{Written}
 use Rattle.join.specs.Made.{about, fitted, by_verdicts, Joining, first_too_long, second_too_long, judged, room_after, Made}
 
 module _ (first second : List ℕ) (room : ℕ) where
@@ -42,10 +42,10 @@ module _ (first second : List ℕ) (room : ℕ) where
 
   -- two texts of the grammar within the limit, whose joined text fits, are joined
   sound-joined : (r : JoinAnswer) → Joining first second room r → length first ≤ most_bytes → length second ≤ most_bytes → Grammatical first → Grammatical second
-      → length (joined first second) ≤ room → length (joined first second) ≤ most_bytes → r ≡ Joined (length (joined first second))
+      → length (joined first second) ≤ room → length (joined first second) ≤ most_bytes → r ≡ Written (length (joined first second))
   sound-joined r j a b g h fits within =
       one_joining r (by_these InGrammar InGrammar) j (judged InGrammar InGrammar a b g h)
-      ∙ ap₂ {C = JoinAnswer} (λ (x y : Bool). if x && y then Joined (length (joined first second)) else about 0 flat_file_too_long 0)
+      ∙ ap₂ {C = JoinAnswer} (λ (x y : Bool). if x && y then Written (length (joined first second)) else about 0 flat_file_too_long 0)
       (le-leb (length (joined first second)) room fits) (le-leb (length (joined first second)) most_bytes within)
 
 module _ {first second room left left' : List ℕ} {r r' : JoinAnswer} where
@@ -62,7 +62,7 @@ in_grammar a = let k = acceptance.0 a in (k.roles, k.passed.marked)
 
 -- what is left in the room where the answer is that a text was written
 pub record Stands (text room : List ℕ) (r : JoinAnswer) (left : List ℕ) : Type 0 where
-  pub answer : r ≡ Joined (length text)
+  pub answer : r ≡ Written (length text)
   pub its_bytes : take (length text) left ≡ text
   pub rest : drop (length text) left ≡ drop (length text) room
 

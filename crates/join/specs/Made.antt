@@ -9,7 +9,7 @@ use Rattle.definition.specs.Words.{if◌then◌else◌}
 use Rattle.definition.specs.Rules.{Rule, text_too_long, not_in_grammar, flat_file_too_long, refuse}
 use Rattle.joining.specs.Joined.{before_e, joined}
 use Rattle.join.specs.declared.JoinAnswer.{JoinAnswer}
-use Rattle.join.specs.declared.JoinAnswer.TheVariants.{Joined, NotJoined}
+use Rattle.join.specs.declared.JoinAnswer.TheVariants.{Written, NotJoined}
 
 -- a refusal, and the text it is about: 1 the first, 2 the second, 0 neither
 abbrev pub about : (text : ℕ) → Rule → (place : ℕ) → JoinAnswer
@@ -17,7 +17,7 @@ about text rule place = NotJoined (refuse rule place) text
 
 -- a joined text of so many bytes: 18 where it is longer than the room or than a text may be
 abbrev pub fitted : (bytes room : ℕ) → JoinAnswer
-fitted bytes room = if leb bytes room && leb bytes most_bytes then Joined bytes else about 0 flat_file_too_long 0
+fitted bytes room = if leb bytes room && leb bytes most_bytes then Written bytes else about 0 flat_file_too_long 0
 
 -- by the verdicts on the two texts
 abbrev pub by_verdicts : Verdict → Verdict → JoinAnswer → JoinAnswer
@@ -34,7 +34,7 @@ pub data Joining (first second : List ℕ) (room : ℕ) : JoinAnswer → Type 0 
 
 -- what is left in the room: the joined text and then what stood there; on a refusal the room is unchanged
 abbrev pub room_after : JoinAnswer → (text room : List ℕ) → List ℕ
-room_after (Joined bytes) text room = text ++ drop (length text) room
+room_after (Written bytes) text room = text ++ drop (length text) room
 room_after (NotJoined refusal which) text room = room
 
 pub record Made (first second room : List ℕ) (r : JoinAnswer) (left : List ℕ) : Type 0 where

@@ -1,6 +1,7 @@
 // Two texts joined (RULES 18, request 14): the first cut at its E, then `DD0;`, then the second. `join` writes the joined text into a lent room, or says which of the two is
 // refused and why. That two accepted texts are accepted together and draw one list after the other is proved in joining.
 #![tactic(auto)]
+
 ghost use Rattle.std.specs.Prelude.{◌≡◌, ◌+◌, ◌≤◌, length, take};
 ghost use Rattle.definition.specs.Limits.{most_bytes};
 ghost use Rattle.joining.specs.Joined.{joined};
@@ -24,7 +25,7 @@ const NEITHER: usize = 0;
 // What comes of two texts: how long the joined text is that now stands in the room; or a refusal, and which text it is about.
 #[derive(Clone, Copy)]
 pub enum JoinAnswer {
-    Joined(usize),
+    Written(usize),
     NotJoined(Refusal, usize),
 }
 
@@ -87,7 +88,7 @@ fn join_sound(first: &[u8], second: &[u8], room: &mut [u8]) -> JoinAnswer
     if definition::MOST_BYTES < length {
         return refused(NEITHER, 18, 0);
     }
-    JoinAnswer::Joined(write(first, end, second, room))
+    JoinAnswer::Written(write(first, end, second, room))
 }
 
 // Both texts are short enough: each is judged by the grammar.

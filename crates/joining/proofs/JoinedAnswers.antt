@@ -11,7 +11,6 @@ use Rattle.definition.specs.declared.Answer.{Answer}
 use Rattle.definition.specs.Limits.{most_bytes, most_calls, most_shapes}
 use Rattle.definition.specs.Words.{Placed}
 use Rattle.definition.specs.Commands.{Command}
-use Rattle.definition.specs.Rounded.{rounded}
 use Rattle.definition.specs.Drawing.{Drawn, Event}
 use Rattle.definition.specs.Counts.{Counts, shapes_of}
 use Rattle.definition.specs.Flat.{flat}

@@ -2,7 +2,7 @@
 -- Assumes nothing.
 use mathlib.Core.Path.{◌≡◌, refl, sym, ap, ◌∙◌, subst}
 use mathlib.Core.List.{List, [], ◌∷◌, ◌++◌, map, map-map, map-append}
-use Prim.Native.Nat.{ℕ, ◌+◌, ◌≤◌}
+use Prim.Native.Nat.{ℕ, ◌≤◌}
 use native.Mathlib.Omega.{arith}
 use lib.IntN.{ℤ}
 use lib.ListN.{length}
@@ -15,7 +15,7 @@ use Rattle.definition.specs.Drawing.{Event}
 use Rattle.definition.specs.Counts.{Counts, counts, finished, ending, shapes_of}
 use Rattle.definition.specs.Flat.{flat}
 use Rattle.definition.specs.Held.{words_needed}
-use Rattle.definition.specs.Answer.{accepted, drawing_of}
+use Rattle.definition.specs.Answer.{drawing_of}
 use Rattle.laws.proofs.FlatFile.Reread.{plain, flat-plain}
 use Rattle.laws.proofs.Story.Held.{held-finished}
 use Rattle.laws.proofs.Commands.WordsWithin.{words_within}
@@ -23,7 +23,7 @@ use Rattle.laws.proofs.Rules.FaultRules.{no_first-fault}
 use Rattle.laws.proofs.Rules.Outcomes.{Accepting, acceptance, end_of, flat_length}
 use Rattle.joining.specs.Joined.{joined, second_start, further_on, added, WithinLimits, Enough, as_for_each, as_long, Joins}
 use Rattle.joining.proofs.Sums.{finishes_both, limits_of_both}
-use Rattle.joining.proofs.Parted.{Parted, parted, letters, marked-both, none_broken, rounded-both, afterwards, drawing_both, start_is, afterwards_finishes, shapes-both, words_both}
+use Rattle.joining.proofs.Parted.{Parted, letters, marked-both, none_broken, rounded-both, afterwards, drawing_both, start_is, afterwards_finishes, shapes-both, words_both}
 
 module _ {first second : List ℕ} {words₁ words₂ : ℕ} {cs₁ cs₂ : List (Placed Command)} {c₁ c₂ : Counts} {es₁ es₂ : List Event}
     (p : Parted first words₁ cs₁ c₁ es₁) (q : Parted second words₂ cs₂ c₂ es₂) where

@@ -1,4 +1,4 @@
-pub mod NextCommand
+pub mod Spoken
 pub mod Growing
 pub mod Onward
 pub mod Answered

@@ -17,17 +17,17 @@ use Rattle.definition.specs.Drawing.{retained, deeds}
 use Rattle.pieces.specs.Pieces.{stream, letter_f, Fit}
 use Rattle.pieces.specs.declared.Spot.{Spot}
 use Rattle.rules.specs.Letters.{letter_l}
-use Rattle.rules.specs.Written.{Written, written}
-use Rattle.commands.specs.Words.{words_of, DecodedOne}
+use Rattle.rules.specs.Written.{Written, written, last_letter}
+use Rattle.commands.specs.Words.{words_of, kind_by, DecodedOne}
 use Rattle.library.specs.Memory.{body_at, start_at, length_at, needed_at, row_numbers}
 use Rattle.library.specs.Sound.{step_words, Fair}
 use Rattle.library.specs.Storing.{start_of, extended, layer_words, Relayered, layer_now, is_layer, Grows, Put}
 use Rattle.library.proofs.Laying.{put_by}
 use Rattle.library.proofs.Adding.{layer_words_lem}
 use Rattle.library.proofs.Storing.{three_before, grown-after, grown_in_place}
-use Rattle.keeping.specs.Words.{letter_by, letter_in, DecodesAll}
+use Rattle.keeping.specs.Voices.{Told, none_told}
 use Rattle.keeping.specs.Growth.{steps, Storable, Stores, Adds, Within, Ready, Keeps, KeepsMore, KeepsLast, KeepsTight}
-use Rattle.keeping.proofs.NextCommand.{OneStep, one_step, is_finish, is_nothing, First, first-told, none_told, none_told_of, placed, words_are, few-values, retains_it, deeds_on, retains_none, deeds_none, retains_end, deeds_end}
+use Rattle.keeping.proofs.Spoken.{OneStep, one_step, is_finish, is_nothing, First, first-told, none_told_of, placed, words_are, few-values, retains_it, deeds_on, retains_none, deeds_none, retains_end, deeds_end}
 use Rattle.keeping.proofs.Growing.{adds_none, adds_one}
 
 -- where the body has no step more, the same is told
@@ -54,7 +54,7 @@ module _ {t : List ℕ} {from : Spot} {a b : ℕ} {rows : List ℕ} {words : Lis
   -- where nothing was written
   module _ (fit : Fit t from) where
     ended_none : written (stream t from) ≡ [] → {σ : Standing} {cs : List (Placed Command)} → Within t from a b rows words row σ cs → cs ≡ []
-    ended_none e {σ} {cs} w = none_told_of (subst (λ (xs : List Written). DecodesAll σ xs cs) e w.told)
+    ended_none e {σ} {cs} w = none_told_of (subst (λ (xs : List Written). Told σ xs cs) e w.told)
 
     pub keeps_none : written (stream t from) ≡ [] → (words' : List ℤ) → words' ≡ take used words ++ drop used words → KeepsLast t from a b rows words live row used layered from rows words'
     unfolding retained deeds
@@ -66,7 +66,7 @@ module _ {t : List ℕ} {from : Spot} {a b : ℕ} {rows : List ℕ} {words : Lis
       nothing_more = λ σ cs w. ap (retained σ) (ended_none e w);
       passes = λ σ cs w. record {
         rest = [];
-        told = subst (λ (xs : List Written). DecodesAll (outside σ.layer_outside) xs []) (sym e) none_told;
+        told = subst (λ (xs : List Written). Told (outside σ.layer_outside) xs []) (sym e) none_told;
         left = ap (deeds σ) (ended_none e w);
       };
     }
@@ -103,22 +103,15 @@ module _ {t : List ℕ} {from : Spot} {a b : ℕ} {rows : List ℕ} {words : Lis
     still = adds_none g.growing words' size below
 
     first : {σ : Standing} {cs : List (Placed Command)} → Within t from a b rows words row σ cs → First σ c (written (stream t to)) cs
-    first {σ} {cs} w = first-told (subst (λ (xs : List Written). DecodesAll σ xs cs) r.is w.told)
-
-    -- the letter of its kind
-    letter_of : {σ : Standing} {cs : List (Placed Command)} (w : Within t from a b rows words row σ cs) → k ≡ letter_by (first w).command.what (letter_in c)
-    letter_of w = r.tells.kind ∙ (first w).decodes.kind
+    first {σ} {cs} w = first-told (subst (λ (xs : List Written). Told σ xs cs) r.is w.told)
 
     -- ---- the DF
 
     module _ (end : k ≡ letter_f) where
-      finishes : {σ : Standing} {cs : List (Placed Command)} (w : Within t from a b rows words row σ cs) → (first w).command.what ≡ finish
-      finishes {σ} w = is_finish σ c (letter_in c) w.opened (first w).command.what (first w).decodes.lawful (sym (letter_of w) ∙ end)
-
       ended : {σ : Standing} {cs : List (Placed Command)} (w : Within t from a b rows words row σ cs) → cs ≡ at (first w).command.place finish ∷ (first w).rest
       ended w =
           let f = first w in
-          f.are ∙ ap (λ (d : Command). at f.command.place d ∷ f.rest) (finishes w)
+          f.are ∙ ap (λ (d : Command). at f.command.place d ∷ f.rest) (is_finish w.opened f.voiced.voice (sym r.tells.kind ∙ end))
 
       pub keeps-last : KeepsLast t from a b rows words live row used layered to rows words'
       unfolding after
@@ -133,20 +126,20 @@ module _ {t : List ℕ} {from : Spot} {a b : ℕ} {rows : List ℕ} {words : Lis
             record {
               rest = f.rest;
               told =
-                  subst (λ (d : Command). DecodesAll (after d σ) (written (stream t to)) f.rest) (finishes w) f.told;
+                  subst (λ (d : Command). Told (after d σ) (written (stream t to)) f.rest) (is_finish w.opened f.voiced.voice (sym r.tells.kind ∙ end)) f.told;
               left = ap (deeds σ) (ended w) ∙ deeds_end σ f.command.place f.rest w.opened;
             };
       }
 
     module _ (on : k ≡ letter_f → ⊥) where
-      goes_on_from : {σ : Standing} {cs : List (Placed Command)} (w : Within t from a b rows words row σ cs) → letter_by (first w).command.what (letter_in c) ≡ letter_f → ⊥
-      goes_on_from w q = on (letter_of w ∙ q)
+      on_kind : kind_by c.letter (last_letter c) ≡ letter_f → ⊥
+      on_kind q = on (r.tells.kind ∙ q)
 
       -- ---- no step
 
       module _ (other : steps k ≡ false) where
         passed : {σ : Standing} {cs : List (Placed Command)} (w : Within t from a b rows words row σ cs) → (first w).command.what ≡ nothing
-        passed {σ} w = is_nothing σ c (letter_in c) w.opened (first w).command.what (first w).decodes.lawful (sym (ap steps (letter_of w)) ∙ other) (goes_on_from w)
+        passed w = is_nothing w.opened (first w).voiced.voice (sym (ap steps r.tells.kind) ∙ other) on_kind
 
         goes_by : {σ : Standing} {cs : List (Placed Command)} (w : Within t from a b rows words row σ cs) → Keeps t to a b rows words live row σ cs rows words' used layered
         unfolding after
@@ -160,7 +153,7 @@ module _ {t : List ℕ} {from : Spot} {a b : ℕ} {rows : List ℕ} {words : Lis
               standing = σ;
               commands = f.rest;
               within = record {
-                told = subst (λ (d : Command). DecodesAll (after d σ) (written (stream t to)) f.rest) (passed w) f.told;
+                told = subst (λ (d : Command). Told (after d σ) (written (stream t to)) f.rest) (passed w) f.told;
                 opened = s.opened;
                 same_a = s.same_a;
                 same_b = s.same_b;
@@ -192,14 +185,15 @@ module _ {t : List ℕ} {from : Spot} {a b : ℕ} {rows : List ℕ} {words : Lis
       -- ---- a step
 
       module _ (a_step : steps k ≡ true) where
-        step_of : {σ : Standing} {cs : List (Placed Command)} (w : Within t from a b rows words row σ cs) → OneStep σ (letter_in c) (first w).decodes.values (first w).command.what
-        step_of {σ} w = one_step σ c (letter_in c) (first w).decodes.values w.opened (first w).command.what (first w).decodes.lawful (sym (ap steps (letter_of w)) ∙ a_step) (goes_on_from w)
+        step_of : {σ : Standing} {cs : List (Placed Command)} (w : Within t from a b rows words row σ cs)
+            → OneStep σ (kind_by c.letter (last_letter c)) (first w).voiced.values (first w).command.what
+        step_of w = one_step w.opened (first w).voiced.voice (first w).voiced.unsigned (sym (ap steps r.tells.kind) ∙ a_step) on_kind
 
         abbrev new : {σ : Standing} {cs : List (Placed Command)} (w : Within t from a b rows words row σ cs) → Placed Step
-        new w = placed (first w).decodes (step_of w)
+        new w = placed (first w).voiced (step_of w)
 
         its_words : {σ : Standing} {cs : List (Placed Command)} (w : Within t from a b rows words row σ cs) → words_of a b c ≡ step_words (new w)
-        its_words w = ap₂ {C = List ℤ} (λ (i j : ℕ). words_of i j c) (sym w.same_a) (sym w.same_b) ∙ words_are (first w).decodes (step_of w)
+        its_words w = ap₂ {C = List ℤ} (λ (i j : ℕ). words_of i j c) (sym w.same_a) (sym w.same_b) ∙ words_are (first w).voiced (step_of w)
 
         its_count : {σ : Standing} {cs : List (Placed Command)} (w : Within t from a b rows words row σ cs) → n ≡ length (step_words (new w))
         its_count w = r.tells.count ∙ ap length (its_words w)
@@ -207,7 +201,7 @@ module _ {t : List ℕ} {from : Spot} {a b : ℕ} {rows : List ℕ} {words : Lis
         -- the first step that is left
         ahead_is : {σ : Standing} {cs : List (Placed Command)} (w : Within t from a b rows words row σ cs)
             → retained σ cs ≡ new w ∷ retained (after (first w).command.what σ) (first w).rest
-        ahead_is {σ} w = ap (retained σ) (first w).are ∙ retains_it (first w).decodes (step_of w) w.opened (first w).rest
+        ahead_is {σ} w = ap (retained σ) (first w).are ∙ retains_it (first w).voiced (step_of w) w.opened (first w).rest
 
         pub keeps-tight : length words - used < n → KeepsTight t from a b rows words live row used layered rows words'
         keeps-tight h = record {
@@ -232,7 +226,7 @@ module _ {t : List ℕ} {from : Spot} {a b : ℕ} {rows : List ℕ} {words : Lis
 
         module _ (fits : n ≤ length words - used) (layer : Bool) (layer_is : layer ≡ eqb k letter_l) where
           layer_of : {σ : Standing} {cs : List (Placed Command)} (w : Within t from a b rows words row σ cs) → is_layer (new w).what ≡ layer
-          layer_of w = sym (step_of w).layer_is ∙ (ap (λ (x : ℕ). eqb x letter_l) (sym (letter_of w)) ∙ sym layer_is)
+          layer_of w = sym (step_of w).layer_is ∙ (ap (λ (x : ℕ). eqb x letter_l) (sym r.tells.kind) ∙ sym layer_is)
 
           room : {σ : Standing} {cs : List (Placed Command)} (w : Within t from a b rows words row σ cs) → used + length (step_words (new w)) ≤ length words
           room w = omega (arith, fits, its_count w, g.growing.fits)
@@ -290,7 +284,7 @@ module _ {t : List ℕ} {from : Spot} {a b : ℕ} {rows : List ℕ} {words : Lis
                     layer_now_lem = (added w).layers ∙ (ap (λ (l : List ℕ). layer_now l (new w ∷ [])) w.layer_now_lem ∙ sym s.layer_then);
                   };
                   retains = ahead_is w;
-                  left = ap (deeds σ) f.are ∙ deeds_on f.decodes s f.rest;
+                  left = ap (deeds σ) f.are ∙ deeds_on f.voiced s f.rest;
                   same_outside = s.stays.same_outside;
                 }
 
@@ -326,7 +320,7 @@ module _ {t : List ℕ} {from : Spot} {a b : ℕ} {rows : List ℕ} {words : Lis
                 grows : {σ : Standing} {cs : List (Placed Command)} (w : Within t from a b rows words row σ cs) → Grows rows words live row (new w) (extended rows row used n) words' (used + n)
                 grows w =
                     subst (λ (i : ℕ). Grows rows words live row (new w) (extended rows row used i) words' (used + i)) (sym (its_count w))
-                    (grown-after g.growing (put w) (fair w) (few-values (first w).decodes (step_of w)) (ap (λ (y : Bool). layered && y) (layer_of w) ∙ plain))
+                    (grown-after g.growing (put w) (fair w) (few-values (first w).voiced (step_of w)) (ap (λ (y : Bool). layered && y) (layer_of w) ∙ plain))
 
                 longer : length_at (extended rows row used n) row ≡ length_at rows row + n
                 longer =
@@ -341,7 +335,7 @@ module _ {t : List ℕ} {from : Spot} {a b : ℕ} {rows : List ℕ} {words : Lis
             keeps_in_place both u v =
                 let q = both_true layered layer both in
                 subst (λ (i : ℕ). KeepsMore t from a b rows words live row i layer to rows'' words'') (sym u)
-                (keeps-added (λ σ cs w. grown_in_place g.growing q.0 (put w) (fair w) (few-values (first w).decodes (step_of w)) (layer_of w ∙ q.1) v)
+                (keeps-added (λ σ cs w. grown_in_place g.growing q.0 (put w) (fair w) (few-values (first w).voiced (step_of w)) (layer_of w ∙ q.1) v)
                 (few q.1) (v.moved.size ∙ size))
               where
                 same_length : length_at rows'' row ≡ length_at rows row

@@ -27,7 +27,7 @@ use Rattle.library.proofs.Holding.{stored-within}
 use Rattle.keeping.specs.declared.Stored.{Stored}
 use Rattle.keeping.specs.declared.Stored.TheVariants.{More, Last, Tight}
 use Rattle.keeping.specs.declared.Body.TheVariants.{Whole, Lacking}
-use Rattle.keeping.specs.Words.{DecodesAll}
+use Rattle.keeping.specs.Voices.{Told}
 use Rattle.keeping.specs.Growth.{with_body, Adds, Within, Ready, Keeps, KeepsMore, KeepsLast, KeepsTight, KeepsBy, KeepsCommand, KeepsBodyBy, KeepsBody}
 use Rattle.keeping.proofs.Growing.{adds_none, adds_together, adds_then, enter-more}
 use Rattle.keeping.proofs.Onward.{within_same}
@@ -216,7 +216,7 @@ module _ {t : List ℕ} {from : Spot} {a b : ℕ} {rows₀ : List ℕ} {words₀
               let p = l.passes x.standing x.commands x.within in
               record {
                 rest = p.rest;
-                told = subst (λ (y : List ℕ). DecodesAll (outside y) (written (stream t to)) p.rest) x.same_outside p.told;
+                told = subst (λ (y : List ℕ). Told (outside y) (written (stream t to)) p.rest) x.same_outside p.told;
                 left = x.left ∙ (p.left ∙ ap (λ (y : List ℕ). deeds (outside y) p.rest) x.same_outside);
               };
         };

@@ -19,7 +19,7 @@ use Rattle.library.specs.Sound.{step_words}
 use Rattle.library.specs.Rows.{bare}
 use Rattle.library.specs.Storing.{extended, layer_words, Relayered, layer_now, Growing}
 use Rattle.library.specs.Holds.{Holds}
-use Rattle.keeping.specs.Words.{DecodesAll}
+use Rattle.keeping.specs.Voices.{Told}
 use Rattle.keeping.specs.declared.Stored.{Stored}
 use Rattle.keeping.specs.declared.Stored.TheVariants.{More, Last, Tight}
 use Rattle.keeping.specs.declared.Body.{Body}
@@ -60,7 +60,7 @@ pub record Adds (rows : List ℕ) (b : List ℤ) (live row : ℕ) (ss : List (Pl
 
 -- what is told from a spot on, where a definition is open at this scale and the layer stands that its body has set
 pub record Within (t : List ℕ) (spot : Spot) (a b : ℕ) (rows : List ℕ) (words : List ℤ) (row : ℕ) (σ : Standing) (cs : List (Placed Command)) : Type 0 where
-  pub told : DecodesAll σ (written (stream t spot)) cs
+  pub told : Told σ (written (stream t spot)) cs
   pub opened : σ.inside ≡ true
   pub same_a : σ.a ≡ a
   pub same_b : σ.b ≡ b
@@ -91,7 +91,7 @@ pub record Keeps (t : List ℕ) (to : Spot) (a b : ℕ) (rows : List ℕ) (words
 -- commands of a definition are passed over: after its DF, where this spot is, the rest of the text is told, and no deed is left out
 pub record Passes (t : List ℕ) (σ : Standing) (cs : List (Placed Command)) (to : Spot) : Type 0 where
   pub rest : List (Placed Command)
-  pub told : DecodesAll (outside σ.layer_outside) (written (stream t to)) rest
+  pub told : Told (outside σ.layer_outside) (written (stream t to)) rest
   pub left : deeds σ cs ≡ deeds (outside σ.layer_outside) rest
 
 -- ---- one command

@@ -22,7 +22,7 @@ use Rattle.library.specs.Moving.{Laid}
 use Rattle.library.specs.Rows.{Sorted, bare}
 use Rattle.library.specs.Storing.{Growing}
 use Rattle.library.specs.Holds.{Holds}
-use Rattle.keeping.specs.Words.{DecodesAll}
+use Rattle.keeping.specs.Voices.{Told}
 pub use Rattle.keeping.specs.Growth.{Passes}
 use Rattle.keeping.specs.declared.Start.{Start}
 use Rattle.keeping.specs.declared.Stock.{Stock}
@@ -44,7 +44,7 @@ pub record Kept (rows : List ℕ) (b : List ℤ) (stock : Stock) (t : Table) : T
 pub record Open (t : List ℕ) (from : Spot) (a b : ℕ) : Type 0 where
   pub standing : Standing
   pub commands : List (Placed Command)
-  pub told : DecodesAll standing (written (stream t from)) commands
+  pub told : Told standing (written (stream t from)) commands
   pub opened : standing.inside ≡ true
   pub same_a : standing.a ≡ a
   pub same_b : standing.b ≡ b

@@ -1,3 +1,3 @@
-pub mod Words
+pub mod Voices
 pub mod Growth
 pub mod Keeping

@@ -2,6 +2,7 @@
 // Where a command does not fit, the live bodies are moved together and it is decoded again; where it still does not fit, more words are needed than
 // were lent (refusal 25).
 #![tactic(auto)]
+
 ghost use Rattle.std.specs.Prelude.{◌≡◌, ℕ, ◌+◌, ◌≤◌, false, ◌&&◌, eqb, length};
 ghost use Rattle.grammar.specs.Steps.{KindsLent, NextLent};
 ghost use Rattle.definition.specs.Limits.{most_bytes};

@@ -1,6 +1,7 @@
 // Bodies kept as decoded words in one lent run, and the rows that tell where each stands, five numbers to a row in another. Room of replaced and
 // deleted bodies is used again: when the run is full, the live bodies are moved together.
 #![tactic(auto)]
+
 ghost use Rattle.std.specs.Prelude.{◌≡◌, ℕ, ◌+◌, ◌*◌, ◌<◌, ◌≤◌, ◌^◌, List, ℤ, pos, ltb, leb, eqb, length, get_or, set, replicate, ◌&&◌};
 ghost use Rattle.library.specs.Memory.{row_numbers, most, symbol_at, start_at, length_at, needed_at, needed_in};
 ghost use Rattle.library.specs.Rows.{Sorted, Nearest, Parted, Finds, Forgets, Shifted, with_row, Begins};

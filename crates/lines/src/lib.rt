@@ -1,6 +1,7 @@
 // A flat file followed byte by byte: the line and the number that are being read, and the window of the figures before them (RULES 13, request 6). Plain values come
 // in and plain values go out; what is printed of them is the business of listing, above. It takes any bytes.
 #![tactic(auto)]
+
 ghost use Rattle.std.specs.Prelude.{◌≡◌, ◌+◌, ◌*◌, ◌^◌, ◌≤◌, nat_abs};
 ghost use Rattle.lines.specs.Followed.{opened, named, line_after, pushed, ends, numeral_after, value_of};
 ghost use Rattle.lines.specs.Followed.{blank, kept, lead_after, reach_by, along_by, box_reach_by, centre_of, box_taken, stretched};

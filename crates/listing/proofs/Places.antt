@@ -5,7 +5,7 @@ use mathlib.Core.List.{List, [], ◌∷◌, ◌++◌, map, append_assoc, append-
 use Prim.Native.Nat.{ℕ, suc, ◌+◌, ◌*◌, ◌≤◌, ◌<◌}
 use native.Mathlib.Omega.{arith}
 use lib.IntN.{pos}
-use lib.ListN.{length, length-map, get_or, take}
+use lib.ListN.{length, get_or, take}
 use lib.Seq.{take-suc, take_all}
 use Rattle.definition.specs.Words.{bytes_of}
 use Rattle.definition.specs.Flat.{decimal}
@@ -26,11 +26,6 @@ pub tabbed-fields : (l : List ℕ) → tabbed l ++ (10 ∷ []) ≡ fields (map (
 unfolding tabbed fields bytes_of
 tabbed-fields [] = refl
 tabbed-fields (n ∷ l) = append_assoc (9 ∷ decimal (pos n)) (tabbed l) (10 ∷ []) ∙ ap (λ (x : List ℕ). 9 ∷ (decimal (pos n) ++ x)) (tabbed-fields l)
-
--- ---- the chain of an answer
-
-pub as_many : (l : List ℕ) → length (map (λ (n : ℕ). n) l) ≡ 32 → length l ≡ 32
-as_many l e = sym (length-map l (λ (n : ℕ). n)) ∙ e
 
 -- ---- the loop
 

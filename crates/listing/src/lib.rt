@@ -1,6 +1,7 @@
 // What the list program prints (RULES 13), from the answer, the flat file and, for its warnings, the text. The flat file is read once, byte by
 // byte: a shape's line is copied after its count and its layer, and its points are taken into the window, which crate lines keeps.
 #![tactic(auto)]
+
 ghost use Rattle.std.specs.Prelude.{◌≡◌, ◌∷◌, [], ◌+◌, ◌^◌, ◌≤◌, pos, length, take};
 ghost use Rattle.definition.specs.Flat.{decimal};
 ghost use Rattle.digits.specs.Writes.{Writes};
@@ -62,7 +63,7 @@ fn put_heading(out: &mut [u8], at: usize, count: u64, layer: u32, letter: u8) ->
     ensures writes { Writes out.old out.new at result (heading count layer letter) }
     ensures upper_bound { result ≤ at + 34 }
 {
-    let first = digits::put_bytes(out, at, b"shape");
+    let first = digits::put_word(out, at, b"shape");
     let second = put_field(out, first, count);
     let third = put_name_field(out, second, layer);
     put_kind_field(out, third, letter)
@@ -127,7 +128,7 @@ fn put_total(out: &mut [u8], at: usize, shapes: u64, calls: u64, redefinitions: 
     ensures writes { Writes out.old out.new at result (total_line shapes calls redefinitions) }
     ensures upper_bound { result ≤ at + 69 }
 {
-    let first = digits::put_bytes(out, at, b"total");
+    let first = digits::put_word(out, at, b"total");
     let second = put_field(out, first, shapes);
     let third = put_field(out, second, calls);
     let last = put_field(out, third, redefinitions);
@@ -139,7 +140,7 @@ fn put_window(out: &mut [u8], at: usize, xs: lines::Span, ys: lines::Span) -> us
     ensures writes { Writes out.old out.new at result (window_of xs ys) }
     ensures upper_bound { result ≤ at + 91 }
 {
-    let first = digits::put_bytes(out, at, b"window");
+    let first = digits::put_word(out, at, b"window");
     let some = xs.some;
     if some {
         let second = put_signed_field(out, first, xs.low);
@@ -148,7 +149,7 @@ fn put_window(out: &mut [u8], at: usize, xs: lines::Span, ys: lines::Span) -> us
         let last = put_signed_field(out, fourth, ys.high);
         return digits::put(out, last, LINE_FEED);
     }
-    digits::put_bytes(out, first, b"\tnone\n")
+    digits::put_word(out, first, b"\tnone\n")
 }
 
 // The places of the open calls, each after a tab: as many as are told, and of more than the chain has, all.
@@ -176,7 +177,7 @@ fn put_refusal(out: &mut [u8], answer: definition::Answer) -> usize
 {
     let chain = answer.chain;
     let opened = answer.opened;
-    let first = digits::put_bytes(out, 0, b"refused");
+    let first = digits::put_word(out, 0, b"refused");
     let second = put_field(out, first, answer.number as u64);
     let third = put_field(out, second, answer.place as u64);
     let fourth = put_field(out, third, answer.line as u64);

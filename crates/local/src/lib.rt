@@ -1,6 +1,7 @@
 // The reader by the machine of open calls, with records of its own (RULES 8, request 7): what a program calls that cannot lend records, and the pattern of every other client
 // of the machine. A function that keeps the records in a local array is covered; one that is lent them is not (crate frames).
 #![tactic(auto)]
+
 ghost use Rattle.std.specs.Prelude.{◌≡◌, ◌≤◌};
 ghost use Rattle.machine.specs.States.{no_frame};
 ghost use Rattle.local.specs.Within.{Begun, Runs, Within};

@@ -23,7 +23,7 @@ use Rattle.turns.specs.declared.Net.{Net}
 use Rattle.turns.specs.Nets.{Carries, Near}
 use Rattle.counts.specs.Counting.{tally}
 use Rattle.shapes.specs.declared.Ink.{Ink}
-use Rattle.shapes.specs.declared.DrawEnd.TheVariants as drawn
+use Rattle.shapes.specs.declared.Drawn.TheVariants as drawn
 use Rattle.shapes.specs.Painting.{Goes, Answered, Painted}
 use Rattle.shapes.proofs.Painting.{PaintedSoFar, goes_on, stops, so_far}
 use Rattle.library.specs.Memory.{table_of, start_at, length_at, most}

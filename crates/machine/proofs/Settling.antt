@@ -41,7 +41,7 @@ use Rattle.reading.specs.Refusal.{fault_said, by_verdict}
 use Rattle.checking.specs.declared.Fault.{Fault}
 use Rattle.checking.specs.declared.Fault.TheVariants.{Clear, Refused}
 use Rattle.shapes.specs.declared.Ink.{Ink}
-use Rattle.shapes.specs.declared.DrawEnd.TheVariants as drawing
+use Rattle.shapes.specs.declared.Drawn.TheVariants as drawing
 use Rattle.shapes.specs.Painting.{Goes, Answered, Painted}
 use Rattle.passing.specs.Passed.{Passed, to_draw, dry, lent_of}
 use Rattle.library.specs.Memory.{most_words}

@@ -26,7 +26,7 @@ use Rattle.definition.specs.Drawing.{Event}
 use Rattle.laws.proofs.Rules.Outcomes.{TooLong}
 use Rattle.pen.proofs.Names.{no_name}
 use Rattle.shapes.specs.declared.Ink.{Ink}
-use Rattle.shapes.specs.declared.DrawEnd.TheVariants as drawn
+use Rattle.shapes.specs.declared.Drawn.TheVariants as drawn
 use Rattle.shapes.specs.Painting.{Reached, Painted}
 use Rattle.shapes.proofs.Painting.{PaintedSoFar, begun}
 use Rattle.library.specs.Memory.{row_numbers, most_words}

@@ -19,7 +19,7 @@ use Rattle.reasons.proofs.Owned.{held-own, net_there}
 use Rattle.turns.specs.Nets.{Carries}
 use Rattle.turns.proofs.Nets.{nothing_carried}
 use Rattle.shapes.specs.declared.Ink.{Ink}
-use Rattle.shapes.specs.declared.DrawEnd.TheVariants as drawn
+use Rattle.shapes.specs.declared.Drawn.TheVariants as drawn
 use Rattle.shapes.specs.Painting.{Goes, Answered, Painted}
 use Rattle.shapes.proofs.Painting.{so_far}
 use Rattle.library.specs.Memory.{start_at, length_at, most, row_numbers}

@@ -27,7 +27,7 @@ use Rattle.counts.specs.Counting.{tally}
 use Rattle.checking.specs.declared.Fault.{Fault}
 use Rattle.checking.specs.declared.Fault.TheVariants as fault
 use Rattle.shapes.specs.declared.Ink.{Ink}
-use Rattle.shapes.specs.declared.DrawEnd.TheVariants as drawn
+use Rattle.shapes.specs.declared.Drawn.TheVariants as drawn
 use Rattle.shapes.specs.Painting.{Goes, Painted}
 use Rattle.shapes.proofs.Painting.{PaintedSoFar}
 use Rattle.library.specs.Memory.{table_of, row_numbers, most_words}

@@ -1,6 +1,7 @@
 // A drawing engine without deep calls (RULES 8, request 7). It never sees the stack of open calls: it answers a state that says which record goes to which slot, and is
 // handed what stood there. So one machine serves records that a host lends (crate frames) and a local array of records.
 #![tactic(auto)]
+
 ghost use Rattle.std.specs.Prelude.{◌≡◌, List, [], ◌∷◌, true, false, ℕ, ◌+◌, ◌-◌, ◌*◌, ◌%◌, ◌^◌, ◌<◌, ◌≤◌, eqb, pos, length, replicate};
 ghost use Rattle.std.proofs.lemmas.List.Edits.{sets};
 ghost use Rattle.definition.specs.Limits.{deepest, most_shapes};

@@ -26,7 +26,7 @@ use Rattle.pieces.specs.Pieces.{stream, Fit}
 use Rattle.pieces.specs.Pieces.{start as text_start}
 use Rattle.pieces.specs.declared.Spot.{Spot}
 use Rattle.pieces.specs.declared.Piece.{Piece}
-use Rattle.pieces.specs.declared.Piece.TheVariants.{Further}
+use Rattle.pieces.specs.declared.Piece.TheVariants.{Word}
 use Rattle.pieces.proofs.Spots.{start-pieces}
 use Rattle.rules.specs.Letters.{letter_d, letter_l, first_unit}
 use Rattle.rules.specs.Written.{Written, written, letters, last_of, last_letter, packed_by}
@@ -56,12 +56,12 @@ third_set (a ∷ []) x y z h = absurd (omega arith)
 third_set (a ∷ b ∷ []) x y z h = absurd (omega arith)
 third_set (a ∷ b ∷ d ∷ ws) x y z h = refl
 
-letters_of : (l : List ℕ) → letters (map Further l) ≡ l
+letters_of : (l : List ℕ) → letters (map Word l) ≡ l
 unfolding letters
 letters_of [] = refl
 letters_of (b ∷ l) = ap (λ (m : List ℕ). b ∷ m) (letters_of l)
 
-no_body : (l : List ℕ) (w : ℕ) → body_of 1 1 letter_l w 0 (map Further l) ≡ []
+no_body : (l : List ℕ) (w : ℕ) → body_of 1 1 letter_l w 0 (map Word l) ≡ []
 unfolding body_of letter_words
 no_body [] w = refl
 no_body (b ∷ l) w = no_body l b
@@ -80,14 +80,14 @@ is_named (a_layer {p} {l} letter n) e = record {
 }
   where
     w : Written
-    w = record { place = p; letter = letter_l; items = map Further l; stopped = true }
+    w = record { place = p; letter = letter_l; items = map Word l; stopped = true }
 
-    last : packed_by first_unit (letters (map Further l)) ≡ packed l
+    last : packed_by first_unit (letters (map Word l)) ≡ packed l
     last = unfold packed in ap (packed_by first_unit) (letters_of l)
 
     third : (ws : List ℤ) → 3 ≤ length ws → get_or (sets ws 0 (words_of 1 1 w)) 2 (pos 0) ≡ pos (packed l)
     third ws h = unfold words_of closing in
-        rw (no_body l 0) (third_set ws _ _ (word false (packed_by first_unit (letters (map Further l)))) h ∙ (ap (word false) last ∙ fits_word (packed l) (unfold packed in packed-most l n)))
+        rw (no_body l 0) (third_set ws _ _ (word false (packed_by first_unit (letters (map Word l)))) h ∙ (ap (word false) last ∙ fits_word (packed l) (unfold packed in packed-most l n)))
 is_named (a_polygon g h) e = absurd (omega (arith, e))
 is_named (a_box x y z w) e = absurd (omega (arith, e))
 is_named (a_turned_box x y z w u v) e = absurd (omega (arith, e))

@@ -148,13 +148,6 @@ module _ {words : List ℤ} {end : ℕ} {net : Net} {points : List (Point ℤ)} 
       none_left [] q = refl
       none_left (p ∷ l) q = absurd (omega (arith, q))
 
--- what a call gets and gives, unwrapped from its bits
-pub point-told : (net : Net) (r : Pair) (x y : ℤ) → mag x < 2 ^ 31 → mag y < 2 ^ 31 → as_point r ≡ apply net (point (to_z w32 (of_z w32 x)) (to_z w32 (of_z w32 y))) → as_point r ≡ apply net (point x y)
-point-told net r x y hx hy e = rw (← told w32 x hx, ← told w32 y hy) e
-
-pub aim-told : (net : Net) (r : Pair) (x y : ℤ) → mag x < 2 ^ 31 → mag y < 2 ^ 31 → as_point r ≡ turned net (point (to_z w32 (of_z w32 x)) (to_z w32 (of_z w32 y))) → as_point r ≡ turned net (point x y)
-aim-told net r x y hx hy e = rw (← told w32 x hx, ← told w32 y hy) e
-
 -- ---- a shape
 
 -- sizes and directions by the letter

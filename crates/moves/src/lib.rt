@@ -1,6 +1,7 @@
 // A shape's numbers moved from its words to their final places, under a net transformation (RULES 9). Each number comes to stand where its word
 // stands, so that a line of them has them in written order.
 #![tactic(auto)]
+
 ghost use Rattle.std.specs.Prelude.{◌≡◌, ◌∷◌, [], ◌+◌, ◌^◌, ◌≤◌, ◌<◌, ℤ, pos, length, set, get_or};
 ghost use Rattle.std.proofs.lemmas.List.Edits.{sets};
 ghost use Rattle.definition.specs.Words.{Point, point};

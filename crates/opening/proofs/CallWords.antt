@@ -7,7 +7,7 @@ use native.Mathlib.Omega.{arith}
 use lib.IntN.{ℤ, pos, nat_abs}
 use lib.ListN.{length, drop, get_or, length-drop}
 use lib.Seq.{get_or-drop, drop-drop}
-use Rattle.turns.specs.Nets.{Composed, TurnsBetween, IsListed}
+use Rattle.turns.specs.Nets.{Composed, Written, IsListed}
 use Rattle.turns.specs.declared.Net.{Net}
 use Rattle.turns.specs.declared.Listed.{Listed}
 use Rattle.turns.proofs.Nets.{carries-both}
@@ -20,7 +20,7 @@ module _ {words : List ℤ} {end : ℕ} (h : CalledAt words end) where
   symbol_word : get_or words 2 (pos 0) ≡ h.symbol
   symbol_word = sym (get_or-drop 2 words 0 (pos 0)) ∙ ap (λ (l : List ℤ). get_or l 0 (pos 0)) h.are
 
-  abbrev pub call_list : TurnsBetween words 3 end
+  abbrev pub call_list : Written words 3 end
   call_list = record {
     turns = h.turns;
     rest = h.rest;

@@ -1,6 +1,7 @@
 // One call before its body is drawn: what its words say, and refusals 11 to 15 in their order (RULES 8). Nothing is drawn here, and of a body only
 // its row is asked, so that every engine that draws calls asks the same leaf.
 #![tactic(auto)]
+
 ghost use Rattle.std.specs.Prelude.{◌≡◌, ◌-◌, ◌*◌, ◌^◌, ◌≤◌, length};
 ghost use Rattle.definition.specs.Limits.{deepest};
 ghost use Rattle.turns.specs.Nets.{Near};

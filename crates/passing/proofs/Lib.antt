@@ -1,4 +1,4 @@
-pub mod Decoded
+pub mod Voices
 pub mod Letters
 pub mod Reading
 pub mod Stands

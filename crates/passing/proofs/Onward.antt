@@ -12,7 +12,7 @@ use Rattle.definition.specs.Limits.{most_definitions}
 use Rattle.definition.specs.Words.{Placed, at}
 use Rattle.definition.specs.Rules.{too_many_definitions, too_few_words, refuse}
 use Rattle.definition.specs.Commands.{Number, Command, layer, delete}
-use Rattle.definition.specs.Standing.{Standing, outside, after}
+use Rattle.definition.specs.Standing.{Standing, after}
 use Rattle.definition.specs.Table.{Step, Definition, Table, enter}
 use Rattle.definition.specs.Drawing.{Deed, output, define, remove, deeds, Chain, Event, entered, removed, refused, happens, table_after, story}
 use Rattle.definition.specs.Counts.{counted, shapes_of}
@@ -31,8 +31,8 @@ use Rattle.counts.specs.declared.Counts.{Counts}
 use Rattle.moves.specs.Moves.{most_values}
 use Rattle.chain.specs.Chain.{chain_in}
 use Rattle.shapes.specs.declared.Ink.{Ink}
-use Rattle.shapes.specs.declared.DrawEnd.{DrawEnd}
-use Rattle.shapes.specs.declared.DrawEnd.TheVariants.{Done, Refused}
+use Rattle.shapes.specs.declared.Drawn.{Drawn}
+use Rattle.shapes.specs.declared.Drawn.TheVariants.{Done, Refused}
 use Rattle.shapes.specs.Painting.{inked, Painted}
 use Rattle.shapes.proofs.Painting.{PaintedSoFar, begun, so_far, goes_on, skips, stops, over, quiet, refusal}
 use Rattle.shapes.proofs.Alike.{alike_painted}
@@ -180,7 +180,7 @@ module _ {t : List ℕ} {w : ℕ} {all : List Event} {room₀ rows : List ℕ} {
     module _ (no_l : k ≡ letter_l → ⊥) (no_d : k ≡ letter_d → ⊥) (no_s : k ≡ letter_s → ⊥) where
       pub text-idle : outputs k ≡ false → Next rows b stock to l ink room
       text-idle e =
-          let i = is_idle g.stands.closed p m.rest m.read_as e no_l no_d no_s in
+          let i = is_idle g.stands.closed p m.rest m.voice e no_l no_d no_s in
           record {
             stands = past_other g.stands m i.stays;
             layer_is = g.layer_is;
@@ -189,40 +189,40 @@ module _ {t : List ℕ} {w : ℕ} {all : List Event} {room₀ rows : List ℕ} {
 
       module _ (e : outputs k ≡ true) (long : most_values + 2 ≤ length words) where
         abbrev shown : Step
-        shown = (is_output g.stands.closed p m.rest m.read_as e no_l no_d no_s).step
+        shown = (is_output g.stands.closed p m.rest m.voice e no_l no_d no_s).step
 
         pub text_says : Says words k n (name_of l) shown
         text_says =
             subst (λ (x : List ℕ). Says words k n x shown) (sym g.layer_is)
-            ((is_output g.stands.closed p m.rest m.read_as e no_l no_d no_s).said words m.behind_it n m.laid m.ends m.few long)
+            ((is_output g.stands.closed p m.rest m.voice e no_l no_d no_s).said words m.behind_it n m.laid m.ends m.few long)
 
-        module _ (drawing' : List ℕ) {r : DrawEnd} {room' : List ℕ} (x : OuterDraws rows b stock.live words k p n l ink room drawing' r room') where
+        module _ (drawing' : List ℕ) {r : Drawn} {room' : List ℕ} (x : OuterDraws rows b stock.live words k p n l ink room drawing' r room') where
           -- drawn from the lean table, it is drawn as from the whole
-          text-painted : Painted ink (happens g.stands.table (output (at p shown))) room (chain_in drawing') r room'
-          text-painted =
+          text_painted : Painted ink (happens g.stands.table (output (at p shown))) room (chain_in drawing') r room'
+          text_painted =
               alike_painted (alike_output g.stands.table (at p shown)) ink
               (subst (λ (y : Table). Painted ink (happens y (output (at p shown))) room (chain_in drawing') r room') (held-table g.stands.kept.holds) (x shown text_says))
 
-          held-painted : Painted ink (map (held_to w) (happens g.stands.table (output (at p shown)))) room (chain_in drawing') r room'
-          held-painted = subst (λ (es : List Event). Painted ink es room (chain_in drawing') r room') (sym (held-output w g.stands.table (at p shown))) text-painted
+          held_painted : Painted ink (map (held_to w) (happens g.stands.table (output (at p shown)))) room (chain_in drawing') r room'
+          held_painted = subst (λ (es : List Event). Painted ink es room (chain_in drawing') r room') (sym (held-output w g.stands.table (at p shown))) text_painted
 
           deed_shown : to_do g.stands ≡ output (at p shown) ∷ deeds σ m.rest
-          deed_shown = deeds_are g.stands m refl ∙ (is_output g.stands.closed p m.rest m.read_as e no_l no_d no_s).deed
+          deed_shown = deeds_are g.stands m refl ∙ (is_output g.stands.closed p m.rest m.voice e no_l no_d no_s).deed
 
           pub text_same : {ink' : Ink} → r ≡ Done ink' → ink'.counts.redefinitions ≡ ink.counts.redefinitions
-          text_same q = painted_same g.stands.table (at p shown) text-painted q
+          text_same q = painted_same g.stands.table (at p shown) text_painted q
 
           pub text-drawn : {ink' : Ink} → r ≡ Done ink' → Next rows b stock to l ink' room'
           unfolding table_after
           text-drawn {ink'} q = record {
-            stands = past_other g.stands m (is_output g.stands.closed p m.rest m.read_as e no_l no_d no_s).stays;
+            stands = past_other g.stands m (is_output g.stands.closed p m.rest m.voice e no_l no_d no_s).stays;
             layer_is = g.layer_is;
             going =
                 does (output (at p shown)) (deeds σ m.rest) deed_shown
-                (subst (λ (y : DrawEnd). Painted ink (map (held_to w) (happens g.stands.table (output (at p shown)))) room (chain_in drawing') y room') q held-painted);
+                (subst (λ (y : Drawn). Painted ink (map (held_to w) (happens g.stands.table (output (at p shown)))) room (chain_in drawing') y room') q held_painted);
           }
 
           pub text-stopped : {why : Refusal} → r ≡ Refused why → Painted dry (map (held_to w) all) room₀ (chain_in drawing') (Refused why) room'
           text-stopped {why} q =
               ends (output (at p shown)) (deeds σ m.rest) deed_shown
-              (subst (λ (y : DrawEnd). Painted ink (map (held_to w) (happens g.stands.table (output (at p shown)))) room (chain_in drawing') y room') q held-painted)
+              (subst (λ (y : Drawn). Painted ink (map (held_to w) (happens g.stands.table (output (at p shown)))) room (chain_in drawing') y room') q held_painted)

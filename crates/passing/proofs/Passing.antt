@@ -32,8 +32,8 @@ use Rattle.counts.specs.declared.Counts.{Counts}
 use Rattle.moves.specs.Moves.{most_values}
 use Rattle.chain.specs.Chain.{run_length, chain_in}
 use Rattle.shapes.specs.declared.Ink.{Ink}
-use Rattle.shapes.specs.declared.DrawEnd.{DrawEnd}
-use Rattle.shapes.specs.declared.DrawEnd.TheVariants.{Done, Refused}
+use Rattle.shapes.specs.declared.Drawn.{Drawn}
+use Rattle.shapes.specs.declared.Drawn.TheVariants.{Done, Refused}
 use Rattle.shapes.specs.Painting.{inked, Painted}
 use Rattle.shapes.proofs.Painting.{so_far, room-kept}
 use Rattle.library.specs.Memory.{row_numbers, needed_in}
@@ -47,7 +47,7 @@ use Rattle.engine.specs.Draws.{Ready}
 use Rattle.engine.specs.Outer.{Says, OuterDraws}
 use Rattle.passing.specs.Passed.{Passed, to_draw, dry, outputs, start_in, Deletes, TextDraws, RefusedOutside}
 use Rattle.passing.proofs.Letters.{is_delete}
-use Rattle.passing.proofs.Reading.{Met, run-kept, read_none, third_word, met_layer}
+use Rattle.passing.proofs.Reading.{Met, run_kept, read_none, third_word, met_layer}
 use Rattle.passing.proofs.Stands.{nothing_kept, deletable, met, text-opens, start-within, may_define, comes, takes}
 use Rattle.passing.proofs.Onward.{Onward, start-text, text_out, text-layer, text-delete, text_defined, text_overfull, text_short, text-idle, text_says, text_same, text-drawn, text-stopped}
 
@@ -121,7 +121,7 @@ module _ {t : List ℕ} {w : ℕ} {words₀ numbers₀ : List ℤ} {drawing₀ r
 
   module _ {account : Written} {kind place n : ℕ} {to : Spot} {words' : List ℤ} (big : most_values + 2 ≤ length words₀) (r : DecodedOne t spot 1 1 account words kind place n to words') where
     pub words_then : most_values + 2 ≤ length words'
-    words_then = let e = run-kept r in omega (arith, big, u.words_kept)
+    words_then = let e = run_kept r in omega (arith, big, u.words_kept)
 
     met_by : {all : List _} (g : Onward t w all room₀ rows b stock spot l ink room) → Met t g.stands.standing g.stands.commands kind place n to words'
     met_by g = met g.stands (omega (arith, big, u.words_kept)) r
@@ -133,7 +133,7 @@ module _ {t : List ℕ} {w : ℕ} {words₀ numbers₀ : List ℤ} {drawing₀ r
       onward = f;
       fit = r.fit;
       bodies_kept = u.bodies_kept;
-      words_kept = run-kept r ∙ u.words_kept;
+      words_kept = run_kept r ∙ u.words_kept;
       numbers-kept = u.numbers-kept;
       drawing_kept = u.drawing_kept;
       redefined = omega (arith, u.redefined, r.ahead);
@@ -160,7 +160,7 @@ module _ {t : List ℕ} {w : ℕ} {words₀ numbers₀ : List ℤ} {drawing₀ r
         on_with
         (λ p.
         let g = u.onward p in
-        let i = is_delete (met_by g).read_as e in
+        let i = is_delete (met_by g).voice e in
         text-delete g (met_by g) i.0 i.1 (subst (λ (x : ℕ). Deletes rows stock x stock') (q ∙ ap nat_abs (third_word (met_by g) i.2)) f))
 
     -- ---- a definition
@@ -191,25 +191,25 @@ module _ {t : List ℕ} {w : ℕ} {words₀ numbers₀ : List ℤ} {drawing₀ r
               onward = λ p. let g = u.onward p in text_defined g (met_by g) e size_then (taken p f);
               fit = k.fit;
               bodies_kept = size_then;
-              words_kept = run-kept r ∙ u.words_kept;
+              words_kept = run_kept r ∙ u.words_kept;
               numbers-kept = u.numbers-kept;
               drawing_kept = u.drawing_kept;
               redefined = omega (arith, u.redefined, k.redefined, k.ahead, r.ahead);
             }
 
         -- refused outside of every call, as the run tells it
-        told_so : {number : ℕ} {r : DrawEnd} {drawing' : List ℕ} → RefusedOutside number place r drawing' → (p : Passed t)
+        told_so : {number : ℕ} {r : Drawn} {drawing' : List ℕ} → RefusedOutside number place r drawing' → (p : Passed t)
             → Painted dry (map (held_to w) (to_draw p)) room₀ [] (Refused (record { number = number; place = place })) room
             → Painted dry (map (held_to w) (to_draw p)) room₀ (chain_in drawing') r room
         told_so {number} {r} {drawing'} o p x =
-            subst (λ (y : DrawEnd). Painted dry (map (held_to w) (to_draw p)) room₀ (chain_in drawing') y room) (sym o.is)
+            subst (λ (y : Drawn). Painted dry (map (held_to w) (to_draw p)) room₀ (chain_in drawing') y room) (sym o.is)
             (subst (λ (chain : Chain). Painted dry (map (held_to w) (to_draw p)) room₀ chain (Refused (record { number = number; place = place })) room) (sym o.none_open) x)
 
-        pub passing_overfull : {r : DrawEnd} {drawing' : List ℕ} → RefusedOutside 10 place r drawing' → d ≡ Overfull → TextDraws t w room₀ drawing' r room
+        pub passing_overfull : {r : Drawn} {drawing' : List ℕ} → RefusedOutside 10 place r drawing' → d ≡ Overfull → TextDraws t w room₀ drawing' r room
         unfolding Defines
         passing_overfull o f p = let g = u.onward p in told_so o p (text_overfull g (met_by g) e (comes g.stands (met_by g) e start q defines f))
 
-        pub passing_short : {r : DrawEnd} {drawing' : List ℕ} → RefusedOutside 25 place r drawing' → d ≡ Short → TextDraws t w room₀ drawing' r room
+        pub passing_short : {r : Drawn} {drawing' : List ℕ} → RefusedOutside 25 place r drawing' → d ≡ Short → TextDraws t w room₀ drawing' r room
         unfolding Defines
         passing_short o f p =
             let g = u.onward p in
@@ -226,7 +226,7 @@ module _ {t : List ℕ} {w : ℕ} {words₀ numbers₀ : List ℤ} {drawing₀ r
         pub passing_says : (s : Step) × Says words' kind n (name_of l) s
         passing_says = (_, text_says here (met_by here) no_l no_d no_s e words_then)
 
-        module _ (drawing' : List ℕ) {room' : List ℕ} {d : DrawEnd} (draws : OuterDraws rows b stock.live words' kind place n l ink room drawing' d room') where
+        module _ (drawing' : List ℕ) {room' : List ℕ} {d : Drawn} (draws : OuterDraws rows b stock.live words' kind place n l ink room drawing' d room') where
           pub passing_drawn : {ink' : Ink} {ns : List ℤ} → d ≡ Done ink' → length ns ≡ length numbers → length drawing' ≡ length drawing
               → Next rows b words' ns drawing' room' to l stock ink'
           passing_drawn q kn kd = record {
@@ -234,7 +234,7 @@ module _ {t : List ℕ} {w : ℕ} {words₀ numbers₀ : List ℤ} {drawing₀ r
             onward = λ p. let g = u.onward p in text-drawn g (met_by g) no_l no_d no_s e words_then drawing' draws q;
             fit = r.fit;
             bodies_kept = u.bodies_kept;
-            words_kept = run-kept r ∙ u.words_kept;
+            words_kept = run_kept r ∙ u.words_kept;
             numbers-kept = kn ∙ u.numbers-kept;
             drawing_kept = kd ∙ u.drawing_kept;
             redefined = omega (arith, u.redefined, r.ahead, text_same here (met_by here) no_l no_d no_s e words_then drawing' draws q);

@@ -28,14 +28,14 @@ use Rattle.library.specs.Memory.{needed_in, row_numbers}
 use Rattle.library.specs.Rows.{Sorted}
 use Rattle.library.proofs.Forgetting.{laid_fewer, stocked_fewer}
 use Rattle.library.proofs.Holding.{held-needed, holds_none, holds_fewer}
-use Rattle.keeping.specs.Words.{DecodesAll}
+use Rattle.keeping.specs.Voices.{Told}
 use Rattle.keeping.specs.Keeping.{most_words, Kept, Open, definition_of, Begins, Takes, Defines, DefinesAt}
 use Rattle.keeping.specs.declared.Start.{Start}
 use Rattle.keeping.specs.declared.Stock.{Stock}
 use Rattle.keeping.specs.declared.Defined.{Defined}
 use Rattle.keeping.specs.declared.Defined.TheVariants.{Taken}
 use Rattle.passing.specs.Passed.{Passed, start_in, Deletes}
-use Rattle.passing.proofs.Decoded.{told_text}
+use Rattle.passing.proofs.Voices.{told_text}
 use Rattle.passing.proofs.Letters.{is_start}
 use Rattle.passing.proofs.Reading.{Met, meets}
 
@@ -56,8 +56,8 @@ kept_none rows b e h = record {
 
 module _ {rows : List ℕ} {b : List ℤ} {stock : Stock} {t : Table} (k : Kept rows b stock t) where
   -- what `delete` asks
-  pub needed-now : stock.needed ≡ needed_in rows stock.live
-  needed-now = k.needs ∙ sym (held-needed k.holds)
+  pub needed_now : stock.needed ≡ needed_in rows stock.live
+  needed_now = k.needs ∙ sym (held-needed k.holds)
 
   pub kept_fewer : {n : ℕ} {r : Stock} → Deletes rows stock n r → Kept rows b r (forget n t)
   kept_fewer {n} {r} d =
@@ -79,7 +79,7 @@ module _ {rows : List ℕ} {b : List ℤ} {stock : Stock} {t : Table} (k : Kept 
 pub record Stands (t : List ℕ) (rows : List ℕ) (b : List ℤ) (stock : Stock) (spot : Spot) : Type 0 where
   pub standing : Standing
   pub commands : List (Placed Command)
-  pub told : DecodesAll standing (written (stream t spot)) commands
+  pub told : Told standing (written (stream t spot)) commands
   pub closed : standing.inside ≡ false
   pub same_a : standing.a ≡ 1
   pub same_b : standing.b ≡ 1
@@ -120,7 +120,7 @@ module _ {t rows : List ℕ} {b : List ℤ} {stock : Stock} {spot : Spot} (s : S
 
   -- what `delete` asks of the memory
   pub deletable : Sorted rows stock.live × (stock.needed ≡ needed_in rows stock.live) × (stock.needed < 2 ^ 64)
-  deletable = let k = s.kept in (k.sorted, needed-now k, omega (arith, k.needs, k.enough, k.short))
+  deletable = let k = s.kept in (k.sorted, needed_now k, omega (arith, k.needs, k.enough, k.short))
 
   -- the command that was read
   pub met : {account : Written} {kind place n : ℕ} {to : Spot} {words words' : List ℤ} → most_values + 2 ≤ length words → DecodedOne t spot 1 1 account words kind place n to words'
@@ -131,11 +131,11 @@ module _ {t rows : List ℕ} {b : List ℤ} {stock : Stock} {spot : Spot} (s : S
     pub deeds_are : {d : Command} → m.command ≡ d → to_do s ≡ deeds σ (at p d ∷ m.rest)
     deeds_are e = ap (deeds σ) (m.are ∙ ap (λ (x : Command). at p x ∷ m.rest) e)
 
-    pub told_then : {d : Command} → m.command ≡ d → DecodesAll (after d σ) (written (stream t to)) m.rest
-    told_then e = subst (λ (d : Command). DecodesAll (after d σ) (written (stream t to)) m.rest) e m.told
+    pub told_then : {d : Command} → m.command ≡ d → Told (after d σ) (written (stream t to)) m.rest
+    told_then e = subst (λ (d : Command). Told (after d σ) (written (stream t to)) m.rest) e m.told
 
-    pub told_on : after m.command σ ≡ σ → DecodesAll σ (written (stream t to)) m.rest
-    told_on e = subst (λ (x : Standing). DecodesAll x (written (stream t to)) m.rest) e m.told
+    pub told_on : after m.command σ ≡ σ → Told σ (written (stream t to)) m.rest
+    told_on e = subst (λ (x : Standing). Told x (written (stream t to)) m.rest) e m.told
 
     -- ---- a layer is set
 
@@ -191,30 +191,30 @@ module _ {t rows : List ℕ} {b : List ℤ} {stock : Stock} {spot : Spot} (s : S
 
     module _ (e : k ≡ letter_s) where
       -- what its words say
-      values_in : let i = is_start m.read_as e in (drop 2 words ≡ i.n.what ∷ i.a.what ∷ i.b.what ∷ m.behind_it)
-      values_in = let i = is_start m.read_as e in m.laid ∙ ap (λ (vs : List ℤ). vs ++ m.behind_it) i.values_are
+      values_in : let i = is_start m.voice e in (drop 2 words ≡ i.n.what ∷ i.a.what ∷ i.b.what ∷ m.behind_it)
+      values_in = let i = is_start m.voice e in m.laid ∙ ap (λ (vs : List ℤ). vs ++ m.behind_it) i.values_are
 
-      word_in : (j : ℕ) → get_or words (2 + j) (pos 0) ≡ (let i = is_start m.read_as e in get_or (i.n.what ∷ i.a.what ∷ i.b.what ∷ m.behind_it) j (pos 0))
+      word_in : (j : ℕ) → get_or words (2 + j) (pos 0) ≡ (let i = is_start m.voice e in get_or (i.n.what ∷ i.a.what ∷ i.b.what ∷ m.behind_it) j (pos 0))
       word_in j = sym (get_or-drop 2 words j (pos 0)) ∙ ap (λ (vs : List ℤ). get_or vs j (pos 0)) values_in
 
       abbrev pub begins : Start
       begins = start_in words p
 
-      symbol_in : begins.symbol ≡ nat_abs (is_start m.read_as e).n.what
+      symbol_in : begins.symbol ≡ nat_abs (is_start m.voice e).n.what
       symbol_in = ap nat_abs (word_in 0)
 
-      a_in : nat_abs (is_start m.read_as e).a.what ≡ begins.a
+      a_in : nat_abs (is_start m.voice e).a.what ≡ begins.a
       a_in = sym (ap nat_abs (word_in 1))
 
-      b_in : nat_abs (is_start m.read_as e).b.what ≡ begins.b
+      b_in : nat_abs (is_start m.voice e).b.what ≡ begins.b
       b_in = sym (ap nat_abs (word_in 2))
 
       most_in : (begins.a ≤ too_large) × (1 ≤ begins.b)
-      most_in = let i = is_start m.read_as e in (omega (arith, i.most_a, a_in), omega (arith, i.some_b, b_in))
+      most_in = let i = is_start m.voice e in (omega (arith, i.most_a, a_in), omega (arith, i.some_b, b_in))
 
       -- what stands after it
       abbrev pub open_there : Standing
-      open_there = let i = is_start m.read_as e in after (start i.n i.a i.b) σ
+      open_there = let i = is_start m.voice e in after (start i.n i.a i.b) σ
 
       pub stands_open : (open_there.inside ≡ true) × (open_there.a ≡ begins.a) × (open_there.b ≡ begins.b) × (open_there.layer_set ≡ [])
       unfolding after
@@ -224,7 +224,7 @@ module _ {t rows : List ℕ} {b : List ℤ} {stock : Stock} {spot : Spot} (s : S
       text-opens = record {
         standing = open_there;
         commands = m.rest;
-        told = told_then (is_start m.read_as e).is;
+        told = told_then (is_start m.voice e).is;
         opened = stands_open.0;
         same_a = stands_open.1;
         same_b = stands_open.2;
@@ -237,7 +237,7 @@ module _ {t rows : List ℕ} {b : List ℤ} {stock : Stock} {spot : Spot} (s : S
       pub define-left : to_do s ≡ define made ∷ deeds open_there m.rest
       unfolding deeds deed_of
       define-left =
-          let i = is_start m.read_as e in
+          let i = is_start m.voice e in
           deeds_are i.is
           ∙ ap (λ (x : ℕ). define (record { symbol = x; place = p; body = retained open_there m.rest }) ∷ deeds open_there m.rest) (sym symbol_in)
 

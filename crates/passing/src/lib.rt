@@ -1,6 +1,7 @@
 // The pass over a text: definitions are decoded once, into the words lent, by crate keeping, and all else outside them is drawn (RULES 8), by crate
 // engine, from these words.
 #![tactic(auto)]
+
 ghost use Rattle.std.specs.Prelude.{◌+◌, ◌≤◌, ◌^◌, ◌<◌, ◌≡◌, length};
 ghost use Rattle.grammar.specs.Steps.{KindsLent, NextLent};
 ghost use Rattle.moves.specs.Moves.{most_values};
@@ -11,7 +12,7 @@ ghost use Rattle.chain.specs.Chain.{run_length};
 ghost use Rattle.passing.specs.Passed.{Passed, TextDraws, outputs, start_in, Deletes, RefusedOutside, lent_of};
 
 use keeping::{Defined, Start, Stock};
-use shapes::{DrawEnd, Ink};
+use shapes::{Drawn, Ink};
 
 // A command has at most 2,049 numbers (RULES 12, refusal 9: 1,024 points, and a width), and two words in front.
 const COMMAND_WORDS: usize = 2051;
@@ -59,12 +60,12 @@ pub fn delete(rows: &[usize; library::ROW_NUMBERS], stock: Stock, symbol: usize)
 }
 
 // A definition is refused, where no call is open (refusals 10 and 25).
-fn refuse_definition(drawing: &mut [usize], number: usize, place: usize) -> DrawEnd
+fn refuse_definition(drawing: &mut [usize], number: usize, place: usize) -> Drawn
     requires { length drawing.old ≡ run_length }
     ensures { RefusedOutside number place result drawing.new }
 {
     chain::stop(drawing, 0);
-    DrawEnd::Refused(definition::Refusal { number, place })
+    Drawn::Refused(definition::Refusal { number, place })
 }
 
 // The commands of a text from its start on: layers, definitions and deletions change what stands, all else is drawn.
@@ -78,7 +79,7 @@ fn draw_text(
     numbers: &mut [i64],
     drawing: &mut [usize],
     room: &mut [u8],
-) -> DrawEnd
+) -> Drawn
     requires kinds_lent { KindsLent kinds.now × NextLent next.now }
     requires passed { Passed text.now × (length rows.old ≡ row_numbers) × (length bodies.old ≤ most_words) }
     requires most_values_in_bounds { (most_values + 2 ≤ length words.old) × (most_values + 2 ≤ length numbers.old) × (length drawing.old ≡ run_length) }
@@ -97,7 +98,7 @@ fn draw_text(
     loop {
         match commands::read_command(text, kinds, next, words, spot, 1, 1) {
             commands::Read::Nothing => {
-                return DrawEnd::Done(ink);
+                return Drawn::Done(ink);
             }
             commands::Read::Decoded(kind, place, end, to) => {
                 spot = to;
@@ -129,11 +130,11 @@ fn draw_text(
                         bodies, rows, stock.live, words, numbers, drawing, room, kind, place, end,
                         layer, ink,
                     ) {
-                        DrawEnd::Done(drawn) => {
+                        Drawn::Done(drawn) => {
                             ink = drawn;
                         }
-                        DrawEnd::Refused(refusal) => {
-                            return DrawEnd::Refused(refusal);
+                        Drawn::Refused(refusal) => {
+                            return Drawn::Refused(refusal);
                         }
                     }
                 }
@@ -154,7 +155,7 @@ pub fn at_most(n: usize) -> usize
 
 // All that a text draws, counted, and its lines in the room up to the first refusal. Lines past the room's end are counted and dropped. The run of the open
 // calls is lent, since it tells the calls that are open at a refusal (RULES 12, request 4).
-pub fn draw(text: &[u8], bodies: &mut [i32], drawing: &mut [usize], room: &mut [u8]) -> DrawEnd
+pub fn draw(text: &[u8], bodies: &mut [i32], drawing: &mut [usize], room: &mut [u8]) -> Drawn
     requires { Passed text.now × (length drawing.old ≡ run_length) }
     ensures { TextDraws text.now (length bodies.old) room.old drawing.new result room.new }
 {

@@ -1,6 +1,7 @@
 // Command lines written into a lent room (RULES 11), over the bytes and numbers of crate digits: like these, every function gives back the next
 // place, exact whatever the room.
 #![tactic(auto)]
+
 ghost use Rattle.std.specs.Prelude.{◌≡◌, ◌∷◌, [], ◌+◌, ◌*◌, ◌^◌, ◌<◌, ◌≤◌, length};
 ghost use Rattle.definition.specs.Flat.{spaced, line};
 ghost use Rattle.digits.specs.Writes.{Writes};

@@ -16,7 +16,7 @@ use Rattle.pieces.specs.Pieces.{stream, Step, Begins}
 use Rattle.pieces.specs.declared.Spot.{Spot}
 use Rattle.pieces.specs.declared.Begun.{Begun}
 use Rattle.pieces.specs.declared.Piece.{Piece}
-use Rattle.pieces.specs.declared.Piece.TheVariants.{First, Second, Number, Further, Stop}
+use Rattle.pieces.specs.declared.Piece.TheVariants.{First, Second, Number, Word, Stop}
 use Rattle.pieces.proofs.Lexing.{led-step}
 
 -- n marks the piece
@@ -24,7 +24,7 @@ abbrev pub Marks : Piece → ℕ → Type 0
 Marks (First p b) n = n ≡ number head
 Marks (Second b) n = number head < n
 Marks (Number p σ v) n = n ≡ number lead
-Marks (Further b) n = number head < n
+Marks (Word b) n = number head < n
 Marks Stop n = n ≡ number stop
 
 pub data Finds (t : List ℕ) (s to : Spot) (n : ℕ) : Type 0 where
@@ -38,9 +38,9 @@ finds {t} {s} {m} b = go (eqb n (number skip)) (eqb n (number lead)) (eqb n (num
     n : ℕ
     n = m.mark
 
-    letter : number head < n → Step t s (Second m.byte) m.to ⊎ Step t s (Further m.byte) m.to → Finds t s m.to n
+    letter : number head < n → Step t s (Second m.byte) m.to ⊎ Step t s (Word m.byte) m.to → Finds t s m.to n
     letter h (inl st) = some (Second m.byte) h st
-    letter h (inr st) = some (Further m.byte) h st
+    letter h (inr st) = some (Word m.byte) h st
 
     go : (z l e h : Bool) → eqb n (number skip) ≡ z → eqb n (number lead) ≡ l → eqb n (number stop) ≡ e → eqb n (number head) ≡ h → Finds t s m.to n
     go true l e h ez el ee eh = let k = eqb-true n (number skip) ez in none k (b.none k)

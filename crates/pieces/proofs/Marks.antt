@@ -8,7 +8,7 @@ use Prim.Native.Nat.{ℕ, ◌+◌, ◌-◌, ◌/◌, ◌%◌, ◌≤◌, ◌<◌
 use native.Mathlib.Omega.{arith}
 use native.Mathlib.Numerals.{add-one}
 use borrow.Author.Tests.{eqb-true, eqb-false, lt-ltb, le-ltb, eq-eqb, ne_eqb}
-use lib.Dec.{ltb, eqb}
+use lib.Dec.{eqb}
 use lib.ListN.{length, get_or, drop, drop_of_length-le}
 use lib.Seq.{drop-cons}
 use Rattle.grammar.specs.Notation.{Role, Letter, has, skip, head, second, turn, axis, sign, lead, later, name, stop}
@@ -22,7 +22,7 @@ use Rattle.pieces.specs.Pieces.{pieces, left, stream, spot, behind, inside_after
 use Rattle.pieces.specs.declared.Spot.{Spot}
 use Rattle.pieces.specs.declared.Begun.{Begun}
 use Rattle.pieces.specs.declared.Piece.{Piece}
-use Rattle.pieces.specs.declared.Piece.TheVariants.{First, Second, Further, Stop}
+use Rattle.pieces.specs.declared.Piece.TheVariants.{First, Second, Word, Stop}
 use Rattle.pieces.proofs.Lexing.{role, pieces_none, left_ended, left-stuck, left-next, role_is, next-state, next-inside, still_inside, next-stop}
 
 -- before a piece; a number that begins right here has place p
@@ -85,7 +85,7 @@ at_none i p b L axis h = absurd (omega arith)
 at_none i p b L name h = absurd (omega arith)
 
 -- a further letter
-at_further : (i p b : ℕ) (L : List Letter) (ρ : Role) → number second < number ρ → pieces i p (letter b ρ ∷ L) ≡ Further b ∷ pieces (i + 1) (i + 1) L
+at_further : (i p b : ℕ) (L : List Letter) (ρ : Role) → number second < number ρ → pieces i p (letter b ρ ∷ L) ≡ Word b ∷ pieces (i + 1) (i + 1) L
 unfolding number pieces
 at_further i p b L turn h = refl
 at_further i p b L axis h = refl
@@ -208,11 +208,11 @@ module _ (t : List ℕ) (q₀ i₀ q i p : ℕ) (g : Seeking t q₀ i₀ q i p) 
       found_first m =
           got (First i b) (on_role r mv live head m) hb (stays r mv live (λ k. omega arith)) (λ z. absurd (let y : ◌≡◌ {A = ℕ} 0 1 = cc in omega arith))
 
-      found_letter : number head < e / role_unit → Step t (spot i₀ q₀) (Second b) to ⊎ Step t (spot i₀ q₀) (Further b) to
+      found_letter : number head < e / role_unit → Step t (spot i₀ q₀) (Second b) to ⊎ Step t (spot i₀ q₀) (Word b) to
       unfolding pieces number has
       found_letter m = go (eqb (e / role_unit) (number second)) refl
         where
-          go : (y : Bool) → eqb (e / role_unit) (number second) ≡ y → Step t (spot i₀ q₀) (Second b) to ⊎ Step t (spot i₀ q₀) (Further b) to
+          go : (y : Bool) → eqb (e / role_unit) (number second) ≡ y → Step t (spot i₀ q₀) (Second b) to ⊎ Step t (spot i₀ q₀) (Word b) to
           go true ey =
               let k = eqb-true (e / role_unit) (number second) ey in
               inl (got (Second b) (on_role r mv live second k) hb
@@ -222,7 +222,7 @@ module _ (t : List ℕ) (q₀ i₀ q i p : ℕ) (g : Seeking t q₀ i₀ q i p) 
               let k = eqb-false (e / role_unit) (number second) ey in
               let ρ = role_is t q 0 i hi hb r mv g.fit.state live in
               let h : number second < number (role r) = subst (λ (x : ℕ). number second < x) (sym ρ) (omega arith) in
-              inr (got (Further b) (on_next r mv live ∙ at_further i p b (rest r mv live) (role r) h) hb (stays r mv live k)
+              inr (got (Word b) (on_next r mv live ∙ at_further i p b (rest r mv live) (role r) h) hb (stays r mv live k)
               (λ z. absurd (let y : ◌≡◌ {A = ℕ} 0 1 = cc in omega arith)))
 
       pub seek_found : number lead ≤ e / role_unit → Begins t (spot i₀ q₀) found

@@ -12,7 +12,7 @@ use Rattle.definition.specs.Words.{if◌then◌else◌}
 use Rattle.definition.specs.Commands.{worth}
 use Rattle.pieces.specs.declared.Spot.{Spot}
 use Rattle.pieces.specs.declared.Piece.{Piece}
-use Rattle.pieces.specs.declared.Piece.TheVariants.{First, Second, Number, Further, Stop}
+use Rattle.pieces.specs.declared.Piece.TheVariants.{First, Second, Number, Word, Stop}
 use Rattle.pieces.specs.declared.Begun.{Begun}
 use Rattle.pieces.specs.declared.Numeral.{Numeral as Counted}
 
@@ -59,9 +59,9 @@ abbrev pub with_piece : Role → ℕ → ℕ → ℕ → ℕ → List Piece → 
 with_piece head n p b v xs = First n b ∷ xs
 with_piece second n p b v xs = Second b ∷ xs
 with_piece lead n p b v xs = Number p (ltb p n) (capped v) ∷ xs
-with_piece turn n p b v xs = Further b ∷ xs
-with_piece axis n p b v xs = Further b ∷ xs
-with_piece name n p b v xs = Further b ∷ xs
+with_piece turn n p b v xs = Word b ∷ xs
+with_piece axis n p b v xs = Word b ∷ xs
+with_piece name n p b v xs = Word b ∷ xs
 with_piece stop n p b v xs = Stop ∷ xs
 with_piece skip n p b v xs = xs
 with_piece sign n p b v xs = xs
@@ -94,7 +94,7 @@ abbrev pub inside_after : Piece → Bool → Bool
 inside_after (Second b) i = if eqb b letter_s then true else if eqb b letter_f then false else i
 inside_after (First p b) i = i
 inside_after (Number p σ n) i = i
-inside_after (Further b) i = i
+inside_after (Word b) i = i
 inside_after Stop i = i
 
 -- a spot at which a reader of t can stand
@@ -107,7 +107,7 @@ abbrev pub Small : Piece → Type 0
 Small (First p b) = b < 256
 Small (Second b) = b < 256
 Small (Number p σ n) = n ≤ too_large
-Small (Further b) = b < 256
+Small (Word b) = b < 256
 Small Stop = 0 ≤ 0
 
 -- from s on, x is the next piece, and behind it stands to
@@ -183,7 +183,7 @@ pub record Begins (t : List ℕ) (s : Spot) (m : Begun) : Type 0 where
   pub led : m.mark ≡ number lead → Led t s m
   pub stop : m.mark ≡ number stop → Step t s Stop m.to
   pub first : m.mark ≡ number head → Step t s (First m.at m.byte) m.to
-  pub letter : number head < m.mark → Step t s (Second m.byte) m.to ⊎ Step t s (Further m.byte) m.to
+  pub letter : number head < m.mark → Step t s (Second m.byte) m.to ⊎ Step t s (Word m.byte) m.to
 
 -- a comment of which the parenthesis before place i has been read ends before place r; the state q is the one behind it
 pub record Closes (t : List ℕ) (q i r : ℕ) : Type 0 where

@@ -2,6 +2,7 @@
 // piece, `read_number` reads on where that is a number. They give plain numbers back and not pieces: an enum that is handed up costs a reader more
 // than reading its bytes. Contracts speak of pieces, so that whoever reads them names no state.
 #![tactic(auto)]
+
 ghost use Rattle.std.specs.Prelude.{◌≡◌, ◌+◌, ◌*◌, ◌<◌, ◌≤◌, ltb, length};
 ghost use Rattle.grammar.specs.Tables.{state_count};
 ghost use Rattle.grammar.specs.Steps.{KindsLent, NextLent};
@@ -25,7 +26,7 @@ pub enum Piece {
     First(usize, u8),
     Second(u8),
     Number(usize, bool, usize),
-    Further(u8),
+    Word(u8),
     Stop,
 }
 

@@ -1,5 +1,6 @@
 // Where a place is in a text, as an editor counts (RULES 12, request 4): found in one pass over the text up to the place.
 #![tactic(auto)]
+
 ghost use Rattle.position.specs.Found.{Found};
 
 const LINE_END: u8 = 10;

@@ -1,5 +1,6 @@
 // What the list program (RULES 13) prints of a text: the reader flattens it, and its flat file is listed, with its warnings. The programs only read and write.
 #![tactic(auto)]
+
 ghost use Rattle.std.specs.Prelude.{◌≡◌, [], ◌≤◌, length};
 ghost use Rattle.definition.specs.Rules.{text_too_long, refuse};
 ghost use Rattle.definition.specs.Answer.{rejected};

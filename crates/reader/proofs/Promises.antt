@@ -37,8 +37,8 @@ use Rattle.pen.proofs.Names.{no_name}
 use Rattle.digits.proofs.Writing.{both, written, begins}
 use Rattle.counts.specs.Counting.{tally}
 use Rattle.shapes.specs.declared.Ink.{Ink}
-use Rattle.shapes.specs.declared.DrawEnd.{DrawEnd}
-use Rattle.shapes.specs.declared.DrawEnd.TheVariants as drawing
+use Rattle.shapes.specs.declared.Drawn.{Drawn}
+use Rattle.shapes.specs.declared.Drawn.TheVariants as drawing
 use Rattle.shapes.specs.Painting.{bytes_of, Goes, Answered, Painted}
 use Rattle.passing.specs.Passed.{Passed, to_draw, dry}
 use Rattle.shapes.proofs.Painting.{until_all}
@@ -111,13 +111,13 @@ module _ {t : List ℕ} (words : ℕ) (p : Passed t) where
       subst (λ (x : Refusal). Answers t words room (rejected x chain)) (sym by)
       ((refusal rule why.place chain).1 (by_drawing let_pass (e ∙ ap (λ (x : Refusal). stopped x chain) by)))
 
-  pub stopped-told : {scrap scrap' room : List ℕ} {chain : Chain} {r : Answer} {d : DrawEnd} {why : Refusal} → Painted dry held scrap chain d scrap' → d ≡ drawing.Refused why
+  pub stopped-told : {scrap scrap' room : List ℕ} {chain : Chain} {r : Answer} {d : Drawn} {why : Refusal} → Painted dry held scrap chain d scrap' → d ≡ drawing.Refused why
       → r ≡ failure t why chain → Comes t words room r room
   unfolding Answered
   stopped-told {chain = chain} x is e = refusing chain (stopped-answers (subst (Answered dry held chain) is x.answer)) e
 
   -- the drawing finished on some room, with these counts and the pen there
-  module _ {scrap scrap' : List ℕ} {chain : Chain} {d : DrawEnd} (x : Painted dry held scrap chain d scrap') {ink : Ink} (is : d ≡ drawing.Done ink) where
+  module _ {scrap scrap' : List ℕ} {chain : Chain} {d : Drawn} (x : Painted dry held scrap chain d scrap') {ink : Ink} (is : d ≡ drawing.Done ink) where
     goes-held : Goes dry held ink
     unfolding Answered
     goes-held = subst (Answered dry held chain) is x.answer

@@ -1,6 +1,7 @@
 // The reader (RULES 1): `flatten` answers of any text, any words lent and any room. Refusals 1 and 18 stand here, 2 to 9 in
 // reading, 10 to 17, 20 and 25 in passing and the crates below it; crate answer makes the answer of each.
 #![tactic(auto)]
+
 ghost use Rattle.std.specs.Prelude.{◌≡◌, ◌∷◌, [], ◌^◌, ◌≤◌, length};
 ghost use Rattle.std.proofs.lemmas.List.Edits.{sets};
 ghost use Rattle.definition.specs.Rules.{flat_file_too_long, refuse};
@@ -12,7 +13,7 @@ ghost use Rattle.reader.specs.Screened.{Screened, Rounds, Comes, held_lines};
 use checking::Fault;
 use counts::Counts;
 use definition::{Answer, Refusal};
-use shapes::DrawEnd;
+use shapes::Drawn;
 
 // How long the flat file's last line is: `E` and byte 10.
 const LAST_LINE: usize = 2;
@@ -51,8 +52,8 @@ fn flatten_passed(
 {
     let mut drawing = [0usize; chain::RUN];
     match passing::draw(text, words, &mut drawing, scrap) {
-        DrawEnd::Refused(refusal) => answer::refused(text, refusal, &drawing, counts::no_counts()),
-        DrawEnd::Done(ink) => {
+        Drawn::Refused(refusal) => answer::refused(text, refusal, &drawing, counts::no_counts()),
+        Drawn::Done(ink) => {
             let counted = ink.counts;
             let end = ink.pen.at;
             let length = end + LAST_LINE;

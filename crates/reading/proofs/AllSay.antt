@@ -23,7 +23,7 @@ use Rattle.laws.proofs.FlatFile.Spelling.{NameChar}
 use Rattle.laws.proofs.Commands.Ordered.{everywhere, role_of, byte_of, other, item_of}
 use Rattle.pieces.specs.Pieces.{digit_of, place_after, with_piece, pieces}
 use Rattle.pieces.specs.declared.Piece.{Piece}
-use Rattle.pieces.specs.declared.Piece.TheVariants.{Further}
+use Rattle.pieces.specs.declared.Piece.TheVariants.{Word}
 use Rattle.rules.specs.Written.{Written, written, written_at}
 use Rattle.reading.proofs.Tokens.{Token, figure, seconded, tokens, ByRole, Closed, pieces_of, items_are, stops_are}
 use Rattle.reading.proofs.Tokens.{figures_of, names_of, seek, turn_by, turns_of, command_by, command_of, command_is}
@@ -56,7 +56,7 @@ turns_say (flipped_y n r) = a_mirror_y (turns_say r)
 turns_say (rotated n p σ v q τ w r) = a_rotation (tells p σ v) (tells q τ w) (turns_say r)
 
 record Spelling (k : ℕ) (ts : List Token) : Type 0 where
-  words : pieces_of ts ≡ map Further (names_of ts)
+  words : pieces_of ts ≡ map Word (names_of ts)
   short : length (names_of ts) ≤ k
   chars : All NameChar (names_of ts)
 
@@ -65,7 +65,7 @@ unfolding names_of All
 spelling no_name = record { words = refl; short = omega arith; chars = tt }
 spelling (a_name {k} {b} h s) =
     let r = spelling s in
-    record { words = ap (λ (x : List Piece). Further b ∷ x) r.words; short = omega (arith, r.short); chars = (h, r.chars) }
+    record { words = ap (λ (x : List Piece). Word b ∷ x) r.words; short = omega (arith, r.short); chars = (h, r.chars) }
 
 -- by the first letter
 module _ (n : ℕ) where

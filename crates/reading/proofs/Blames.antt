@@ -52,8 +52,8 @@ capped-exact v e = cap v true (lt-ltb v too_large (let h = ltb-false largest v e
 pub record Seen (l : ℕ) (f : Figure) (m : Mark) : Type 0 where
   pub place : f.place ≡ m.number.place
   pub size : f.size ≡ capped (nat_abs m.number.what)
-  pub far : distance l f.latest f.index ≡ m.far
-  pub vital : vital l f.latest f.index f.zero ≡ m.vital
+  pub far : distance l f.word f.index ≡ m.far
+  pub vital : vital l f.word f.index f.zero ≡ m.vital
 
 -- a number that is left out meets no refusal
 pub record Absent (m : Mark) : Type 0 where
@@ -78,13 +78,13 @@ module _ (s : Scope) (p l : ℕ) where
   test₃ f = ltb largest f.size
 
   abbrev value : Figure → ℕ
-  value f = scaled_by s.a s.b l f.latest f.index f.size
+  value f = scaled_by s.a s.b l f.word f.index f.size
 
   abbrev test₆ : Figure → Bool
   test₆ f = ltb largest (value f)
 
   abbrev test₇ : Figure → Bool
-  test₇ f = eqb (value f) 0 && Rattle.rules.specs.Rules.vital l f.latest f.index f.zero
+  test₇ f = eqb (value f) 0 && Rattle.rules.specs.Rules.vital l f.word f.index f.zero
 
   module _ (f : Figure) (r : List Blame) where
     abbrev from₇ : List Blame

@@ -5,7 +5,7 @@ use mathlib.Core.Path.{◌≡◌, refl, sym, ap, ap₂, ◌∙◌, subst}
 use mathlib.Core.Bool.{Bool, true, false, ◌||◌}
 use mathlib.Core.List.{List, [], ◌∷◌, ◌++◌, map, flat_map, append-nil}
 use mathlib.Core.Option.{none}
-use Prim.Native.Nat.{ℕ, zero, suc, ◌+◌, ◌*◌, ◌/◌, ◌≤◌, ◌<◌}
+use Prim.Native.Nat.{ℕ, zero, suc, ◌+◌, ◌*◌, ◌≤◌, ◌<◌}
 use native.Mathlib.Omega.{arith}
 use native.Mathlib.Nat.{mul-zero}
 use borrow.Author.Tests.{ltb-false, le-ltb}
@@ -28,7 +28,7 @@ use Rattle.laws.proofs.Commands.Ordered.{Ordered, after-inside, ordered}
 use Rattle.laws.proofs.Rules.FaultRules.{commands-written}
 use Rattle.pieces.specs.Pieces.{letter_s, letter_f, capped, pieces}
 use Rattle.pieces.specs.declared.Piece.{Piece}
-use Rattle.pieces.specs.declared.Piece.TheVariants.{Further}
+use Rattle.pieces.specs.declared.Piece.TheVariants.{Word}
 use Rattle.rules.specs.Letters.{letter_c, letter_d, letter_l, letter_r, letter_t, byte_unit, first_unit}
 use Rattle.rules.specs.Written.{Written, written, letters, last_of, last_letter, packed_by}
 use Rattle.rules.specs.Rules.{shapely, distance}
@@ -148,7 +148,7 @@ module _ (s : Standing) (hb : 0 < s.b) where
       ∷ turn-values r letter_r (i + 1 + 1) n.1.1 f k
 
   -- a name is no number
-  no_values : (l : List ℕ) (w i : ℕ) → body_of s.a s.b letter_l w i (map Further l) ≡ []
+  no_values : (l : List ℕ) (w i : ℕ) → body_of s.a s.b letter_l w i (map Word l) ≡ []
   unfolding body_of letter_words
   no_values [] w i = refl
   no_values (b ∷ l) w i = no_values l b i

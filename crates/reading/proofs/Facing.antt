@@ -16,7 +16,7 @@ use Rattle.definition.specs.Faults.{beyond, zero?, parts_of, shifts, bearings, l
 use Rattle.laws.proofs.Commands.Sizes.{abs_neg}
 use Rattle.pieces.specs.Pieces.{capped}
 use Rattle.pieces.specs.declared.Piece.{Piece}
-use Rattle.pieces.specs.declared.Piece.TheVariants.{Further}
+use Rattle.pieces.specs.declared.Piece.TheVariants.{Word}
 use Rattle.rules.specs.Letters.{letter_c, letter_p, letter_r, letter_t, letter_w}
 use Rattle.rules.specs.Written.{Written, Figure, figures, numbers, letters, last_of, last_letter, size_at, turns_of}
 use Rattle.rules.specs.Rules.{shapely, distance, vital, points_of, scaleless, few, many}
@@ -33,7 +33,7 @@ abs_signed true v = abs_neg (pos v)
 abs_signed false v = refl
 
 abbrev fig : ℕ → Bool → ℕ → ℕ → ℕ → Bool → Figure
-fig p σ v w i z = record { place = p; minus = σ; size = capped v; latest = w; index = i; zero = z }
+fig p σ v w i z = record { place = p; minus = σ; size = capped v; word = w; index = i; zero = z }
 
 seen : (l p : ℕ) (σ : Bool) (v w i : ℕ) (z f h : Bool) → distance l w i ≡ f → vital l w i z ≡ h → Seen l (fig p σ v w i z) (mark f h (at p (signed σ v)))
 seen l p σ v w i z f h d e = record { place = refl; size = ap capped (sym (abs_signed σ v)); far = d; vital = e }
@@ -80,12 +80,12 @@ turns-count (a_mirror_y r) = let e = turns-count r in omega arith
 turns-count (a_rotation (tells p σ v) (tells q τ u) r) = let e = turns-count r in omega arith
 
 -- names
-pub letters_words : (l : List ℕ) → letters (map Further l) ≡ l
+pub letters_words : (l : List ℕ) → letters (map Word l) ≡ l
 unfolding letters
 letters_words [] = refl
 letters_words (b ∷ l) = ap (λ (x : List ℕ). b ∷ x) (letters_words l)
 
-no_figures : (l : List ℕ) (w i : ℕ) (z : Bool) → figures w i z (map Further l) ≡ []
+no_figures : (l : List ℕ) (w i : ℕ) (z : Bool) → figures w i z (map Word l) ≡ []
 unfolding figures
 no_figures [] w i z = refl
 no_figures (b ∷ l) w i z = no_figures l b i z

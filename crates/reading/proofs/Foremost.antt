@@ -10,7 +10,7 @@ use native.Mathlib.Omega.{arith}
 use borrow.Author.Tests.{lt-ltb, le-ltb, eqb-true, eqb-false}
 use lib.Dec.{ltb, eqb}
 use lib.IntN.{ℤ}
-use Rattle.definition.specs.Words.{if◌then◌else◌, at, those}
+use Rattle.definition.specs.Words.{if◌then◌else◌, those}
 use Rattle.definition.specs.Commands.{Number}
 use Rattle.definition.specs.declared.Refusal.{Refusal}
 use Rattle.definition.specs.Rules.{Rule, number_of, refuse}

@@ -13,12 +13,12 @@ use lib.ListN.{length}
 use Rattle.grammar.specs.Steps.{choose}
 use Rattle.definition.specs.Limits.{largest}
 use Rattle.pieces.specs.declared.Piece.{Piece}
-use Rattle.pieces.specs.declared.Piece.TheVariants.{First, Second, Number, Further, Stop}
+use Rattle.pieces.specs.declared.Piece.TheVariants.{First, Second, Number, Word, Stop}
 use Rattle.rules.specs.Letters.{no_refusal, byte_unit, first_unit}
 use Rattle.rules.specs.Written.{Written, items_of, stops, written_at, written, Figure, figures, letters, size_at, last_of, packed_by, one, turning, turns_of}
 use Rattle.rules.specs.Rules.{shapely, distance, scaled_by, rounded_by, vital, scaleless, few, bare, many, number_refusal, whole_refusal}
 use Rattle.checking.specs.Account.{layer_of, refusal, Blame, blame, when, of_number, of_numbers, of_whole, blames, sooner, foremost, fault_by, scope_by, scope_after, rounded_of, fault_from}
-use Rattle.checking.specs.Along.{lower, blamed, kept, fresh, begun, idle, counted, with_letter, after_doing, finished, onward, runs}
+use Rattle.checking.specs.Along.{lower, blamed, kept, fresh, begun, idle, counted, worded, after_doing, finished, onward, runs}
 use Rattle.checking.specs.declared.Scope.{Scope}
 use Rattle.checking.specs.declared.Doing.{Doing}
 use Rattle.checking.specs.declared.Ended.TheVariants.{Then, Broken}
@@ -73,14 +73,14 @@ module _ (p h : ℕ) (r : List Blame) where
 
 -- the lowest refusal of a number, as the code comes to it
 abbrev no_of : Scope → ℕ → Figure → ℕ
-no_of s l f = number_refusal l f.latest f.index f.zero f.size (scaled_by s.a s.b l f.latest f.index f.size)
+no_of s l f = number_refusal l f.word f.index f.zero f.size (scaled_by s.a s.b l f.word f.index f.size)
 
 number_law : (s : Scope) (p l : ℕ) (f : Figure) (r : List Blame) (a : Blame) → a.no ≤ no_refusal
     → sooner a (foremost (of_number s p l f r)) ≡ sooner (sooner a (blame (no_of s l f) (wherein (no_of s l f) p f.place))) (foremost r)
 unfolding number_refusal
 number_law s p l f r a h =
-    let v = scaled_by s.a s.b l f.latest f.index f.size in
-    chained p f.place r a h (ltb largest f.size) (ltb largest v) (eqb v 0 && vital l f.latest f.index f.zero)
+    let v = scaled_by s.a s.b l f.word f.index f.size in
+    chained p f.place r a h (ltb largest f.size) (ltb largest v) (eqb v 0 && vital l f.word f.index f.zero)
 
 -- of the whole command
 module _ (p : ℕ) where
@@ -117,12 +117,12 @@ ended_by k q n at f s g h e = go (ltb k n) (ltb n no_refusal) (ltb k no_refusal)
     go false false z ex ey ez = rw ey e
 
 finish_is : (s : Scope) (c : Doing) (g : Scope → Fault) → c.busy ≡ true → c.no ≤ no_refusal
-    → onward g (finished s c) ≡ fault_by (sooner (so_far c) (foremost (of_whole c.place c.letter c.latest c.count c.turns c.a c.b (layer_of s)))) (g (after_doing s c))
+    → onward g (finished s c) ≡ fault_by (sooner (so_far c) (foremost (of_whole c.place c.letter c.word c.count c.turns c.a c.b (layer_of s)))) (g (after_doing s c))
 unfolding finished
 finish_is s c g hb h =
-    let k = whole_refusal c.letter c.latest c.count c.turns c.a c.b (layer_of s) in
+    let k = whole_refusal c.letter c.word c.count c.turns c.a c.b (layer_of s) in
     rw hb (ended_by k c.place c.no c.at (g (after_doing s c)) (after_doing s c) g h refl)
-    ∙ ap (λ (x : Blame). fault_by (sooner (so_far c) x) (g (after_doing s c))) (sym (whole_law c.place c.letter c.latest c.count c.turns c.a c.b (layer_of s)))
+    ∙ ap (λ (x : Blame). fault_by (sooner (so_far c) x) (g (after_doing s c))) (sym (whole_law c.place c.letter c.word c.count c.turns c.a c.b (layer_of s)))
 
 -- from within a command on
 said_of : Scope → ℕ → ℕ → Blame → List Figure → ℕ → ℕ → ℕ → ℕ → ℕ → ℕ → ℕ → List Written → Fault
@@ -130,13 +130,13 @@ said_of s p l x ns w n t a b y k cs = fault_by (sooner x (foremost (of_numbers s
 
 -- how many numbers are rounded after the pieces xs
 abbrev rounded_then : Scope → Doing → List Piece → ℕ
-rounded_then s c xs = c.rounded + rounded_of s c.letter (figures c.latest c.count c.zero xs)
+rounded_then s c xs = c.rounded + rounded_of s c.letter (figures c.word c.count c.zero xs)
 
 abbrev within : Scope → Doing → List Piece → List Written → Fault
 within s c xs cs =
-    let ns = figures c.latest c.count c.zero xs in
+    let ns = figures c.word c.count c.zero xs in
     let ls = letters xs in
-    said_of s c.place c.letter (so_far c) ns (last_of c.latest ls) (c.count + length ns) (c.turns + turns_of ls) (size_at c.a ns 1) (size_at c.b ns 2) (c.name + packed_by c.unit ls) (rounded_then s c xs) cs
+    said_of s c.place c.letter (so_far c) ns (last_of c.word ls) (c.count + length ns) (c.turns + turns_of ls) (size_at c.a ns 1) (size_at c.b ns 2) (c.name + packed_by c.unit ls) (rounded_then s c xs) cs
 
 -- a number past its index is not found
 size_at_past : (d : ℕ) (xs : List Piece) (w i : ℕ) (z : Bool) (k : ℕ) → k < i → size_at d (figures w i z xs) k ≡ d
@@ -145,7 +145,7 @@ size_at_past d [] w i z k h = refl
 size_at_past d (First p b ∷ xs) w i z k h = size_at_past d xs w i z k h
 size_at_past d (Number p σ n ∷ xs) w i z k h = let m : i ≡ k → ⊥ = λ e. omega arith in rw (ne_eqb i k m) (size_at_past d xs w (i + 1) (eqb n 0) k (omega arith))
 size_at_past d (Second b ∷ xs) w i z k h = size_at_past d xs b i z k h
-size_at_past d (Further b ∷ xs) w i z k h = size_at_past d xs b i z k h
+size_at_past d (Word b ∷ xs) w i z k h = size_at_past d xs b i z k h
 size_at_past d (Stop ∷ xs) w i z k h = size_at_past d xs w i z k h
 
 size_at-kept : (d n k : ℕ) (xs : List Piece) (w i : ℕ) (z : Bool) → size_at (kept i k n d) (figures w (i + 1) z xs) k ≡ choose (eqb i k) n (size_at d (figures w (i + 1) z xs) k)
@@ -176,26 +176,26 @@ said_same s p l ns w t y cs x x' n n' a a' b b' i i' ex en ea eb ei = cc
 -- the next number is rounded or not
 rounded-next : (s : Scope) (c : Doing) (p : ℕ) (σ : Bool) (n : ℕ) (xs : List Piece) → rounded_then s (counted s c p n) xs ≡ rounded_then s c (Number p σ n ∷ xs)
 unfolding counted figures rounded_of
-rounded-next s c p σ n xs = add_assoc c.rounded (rounded_by s.a s.b c.letter c.latest c.count n) (rounded_of s c.letter (figures c.latest (c.count + 1) (eqb n 0) xs))
+rounded-next s c p σ n xs = add_assoc c.rounded (rounded_by s.a s.b c.letter c.word c.count n) (rounded_of s c.letter (figures c.word (c.count + 1) (eqb n 0) xs))
 
 number_is : (s : Scope) (c : Doing) (p : ℕ) (σ : Bool) (n : ℕ) (xs : List Piece) (cs : List Written) → c.no ≤ no_refusal → within s (counted s c p n) xs cs ≡ within s c (Number p σ n ∷ xs) cs
 unfolding counted figures letters size_at
 number_is s c p σ n xs cs h =
-    let f : Figure = record { place = p; minus = σ; size = n; latest = c.latest; index = c.count; zero = c.zero } in
+    let f : Figure = record { place = p; minus = σ; size = n; word = c.word; index = c.count; zero = c.zero } in
     let k = no_of s c.letter f in
-    let ns = figures c.latest (c.count + 1) (eqb n 0) xs in
+    let ns = figures c.word (c.count + 1) (eqb n 0) xs in
     let m : c.count + 1 + length ns ≡ c.count + suc (length ns) = omega arith in
     said_same s c.place c.letter ns _ _ _ cs _ _ _ _ _ _ _ _ _ _ (so_far_is k c.no p c.place c.at) m
-    (size_at-kept c.a n 1 xs c.latest c.count (eqb n 0))
-    (size_at-kept c.b n 2 xs c.latest c.count (eqb n 0)) (rounded-next s c p σ n xs)
+    (size_at-kept c.a n 1 xs c.word c.count (eqb n 0))
+    (size_at-kept c.b n 2 xs c.word c.count (eqb n 0)) (rounded-next s c p σ n xs)
     ∙ said-number s c.place c.letter (so_far c) f ns _ _ _ _ _ _ _ cs k refl h
 
-letter_is : (s : Scope) (c : Doing) (b : ℕ) (xs : List Piece) (cs : List Written) → within s (with_letter c b) xs cs ≡ within s c (Further b ∷ xs) cs
-unfolding said_of with_letter figures letters last_of turns_of packed_by
+letter_is : (s : Scope) (c : Doing) (b : ℕ) (xs : List Piece) (cs : List Written) → within s (worded c b) xs cs ≡ within s c (Word b ∷ xs) cs
+unfolding said_of worded figures letters last_of turns_of packed_by
 letter_is s c b xs cs = rw (add_assoc c.turns (one (turning b)) (turns_of (letters xs)), add_assoc c.name (b * c.unit) (packed_by (c.unit / byte_unit) (letters xs)))
 
 -- the second letter of a D command is taken as any other
-second_is : (s : Scope) (c : Doing) (b : ℕ) (xs : List Piece) (cs : List Written) → within s c (Further b ∷ xs) cs ≡ within s c (Second b ∷ xs) cs
+second_is : (s : Scope) (c : Doing) (b : ℕ) (xs : List Piece) (cs : List Written) → within s c (Word b ∷ xs) cs ≡ within s c (Second b ∷ xs) cs
 unfolding figures letters
 second_is s c b xs cs = refl
 
@@ -214,7 +214,7 @@ begun_is s p l k xs z cs =
     rw (zero-add (length (figures 0 0 false xs)), zero-add (turns_of (letters xs)), zero-add (packed_by first_unit (letters xs)))
     (none_is (foremost (blames s c)) (fault_from (scope_after s c) (k + rounded_of s l (figures 0 0 false xs)) cs))
 
-no_items : (s : Scope) (c : Doing) (cs : List Written) → within s c [] cs ≡ fault_by (sooner (so_far c) (foremost (of_whole c.place c.letter c.latest c.count c.turns c.a c.b (layer_of s)))) (fault_from (after_doing s c) c.rounded cs)
+no_items : (s : Scope) (c : Doing) (cs : List Written) → within s c [] cs ≡ fault_by (sooner (so_far c) (foremost (of_whole c.place c.letter c.word c.count c.turns c.a c.b (layer_of s)))) (fault_from (after_doing s c) c.rounded cs)
 unfolding said_of figures letters last_of turns_of packed_by size_at of_numbers rounded_of
 no_items s c cs = rw (add-zero c.count, add-zero c.turns, add-zero c.name, add-zero c.rounded)
 
@@ -238,7 +238,7 @@ closes : (s : Scope) (c : Doing) (g : Scope → Fault) (cs : List Written) → c
 unfolding figures rounded_of
 closes s c g cs h e true hb =
     finish_is s c g hb h
-    ∙ ap (λ (f : Fault). fault_by (sooner (so_far c) (foremost (of_whole c.place c.letter c.latest c.count c.turns c.a c.b (layer_of s)))) f) (e (after_doing s c))
+    ∙ ap (λ (f : Fault). fault_by (sooner (so_far c) (foremost (of_whole c.place c.letter c.word c.count c.turns c.a c.b (layer_of s)))) f) (e (after_doing s c))
     ∙ sym (no_items s c cs)
 closes s c g cs h e false hb = finish-idle s c g hb ∙ e s ∙ ap (λ (k : ℕ). fault_from s k cs) (sym (add-zero c.rounded))
 
@@ -258,7 +258,7 @@ none_rounded s w i z [] = refl
 none_rounded s w i z (First p b ∷ xs) = none_rounded s w i z xs
 none_rounded s w i z (Second b ∷ xs) = none_rounded s b i z xs
 none_rounded s w i z (Number p σ n ∷ xs) = let e = none_rounded s w (i + 1) (eqb n 0) xs in omega arith
-none_rounded s w i z (Further b ∷ xs) = none_rounded s b i z xs
+none_rounded s w i z (Word b ∷ xs) = none_rounded s b i z xs
 none_rounded s w i z (Stop ∷ xs) = none_rounded s w i z xs
 
 idle-rounded : (s : Scope) (k : ℕ) (ps : List Piece) → target ps s (idle k) ≡ fault_from s k (written ps)
@@ -266,18 +266,18 @@ unfolding fresh
 idle-rounded s k ps = ap (λ (j : ℕ). fault_from s j (written ps)) (let e = none_rounded s 0 0 false (items_of ps) in omega arith)
 
 runs_is : (ps : List Piece) (s : Scope) (c : Doing) → c.no ≤ no_refusal → runs ps s c ≡ target ps s c
-unfolding runs items_of stops written fresh counted with_letter figures
+unfolding runs items_of stops written fresh counted worded figures
 runs_is [] s c h = closes s c (λ t. Clear c.rounded) [] h (none_left c.rounded) c.busy refl
 runs_is (First p b ∷ xs) s c h =
     closes s c (λ t. runs xs t (begun p b c.rounded)) (written_at p b xs ∷ written xs) h
     (λ t. runs_is xs t (begun p b c.rounded) (omega arith) ∙ begun_is t p b c.rounded (items_of xs) (stops xs) (written xs)) c.busy refl
 runs_is (Second b ∷ xs) s c h =
-    runs_is xs s (with_letter c b) h
+    runs_is xs s (worded c b) h
     ∙ inner c.busy _ _ _ _ (letter_is s c b (items_of xs) (written xs) ∙ second_is s c b (items_of xs) (written xs)) refl
 runs_is (Number p σ n ∷ xs) s c h =
     runs_is xs s (counted s c p n) (no_le _ c.no h)
     ∙ inner c.busy _ _ _ _ (number_is s c p σ n (items_of xs) (written xs) h) (ap (λ (k : ℕ). fault_from s k (written xs)) (rounded-next s c p σ n (items_of xs)))
-runs_is (Further b ∷ xs) s c h = runs_is xs s (with_letter c b) h ∙ inner c.busy _ _ _ _ (letter_is s c b (items_of xs) (written xs)) refl
+runs_is (Word b ∷ xs) s c h = runs_is xs s (worded c b) h ∙ inner c.busy _ _ _ _ (letter_is s c b (items_of xs) (written xs)) refl
 runs_is (Stop ∷ xs) s c h =
     closes s c (λ t. runs xs t (idle c.rounded)) (written xs) h (λ t. runs_is xs t (idle c.rounded) (omega arith) ∙ idle-rounded t c.rounded xs) c.busy refl
 

@@ -13,7 +13,7 @@ use Rattle.definition.specs.Commands.{Number, box, flash, wire, polygon, shape_o
 use Rattle.laws.proofs.Commands.Made.{Name}
 use Rattle.pieces.specs.Pieces.{letter_s, letter_f, capped}
 use Rattle.pieces.specs.declared.Piece.{Piece}
-use Rattle.pieces.specs.declared.Piece.TheVariants.{Second, Further}
+use Rattle.pieces.specs.declared.Piece.TheVariants.{Second, Word}
 use Rattle.pieces.specs.declared.Piece.TheVariants.{Number as Numeral}
 use Rattle.rules.specs.Letters.{letter_b, letter_c, letter_d, letter_l, letter_m, letter_p, letter_r, letter_t, letter_w}
 use Rattle.rules.specs.Written.{Written}
@@ -36,10 +36,10 @@ letter_y = 89
 
 pub data Turns : List Piece → List (Turn Number) → Type 0 where
   no_turns : Turns [] []
-  a_shift : {x y : Piece} {a b : Number} {xs : List Piece} {ts : List (Turn Number)} → Tells x a → Tells y b → Turns xs ts → Turns (Further letter_t ∷ x ∷ y ∷ xs) (translate (point a b) ∷ ts)
-  a_mirror_x : {xs : List Piece} {ts : List (Turn Number)} → Turns xs ts → Turns (Further letter_m ∷ Further letter_x ∷ xs) (mirror_x ∷ ts)
-  a_mirror_y : {xs : List Piece} {ts : List (Turn Number)} → Turns xs ts → Turns (Further letter_m ∷ Further letter_y ∷ xs) (mirror_y ∷ ts)
-  a_rotation : {x y : Piece} {a b : Number} {xs : List Piece} {ts : List (Turn Number)} → Tells x a → Tells y b → Turns xs ts → Turns (Further letter_r ∷ x ∷ y ∷ xs) (rotate (point a b) ∷ ts)
+  a_shift : {x y : Piece} {a b : Number} {xs : List Piece} {ts : List (Turn Number)} → Tells x a → Tells y b → Turns xs ts → Turns (Word letter_t ∷ x ∷ y ∷ xs) (translate (point a b) ∷ ts)
+  a_mirror_x : {xs : List Piece} {ts : List (Turn Number)} → Turns xs ts → Turns (Word letter_m ∷ Word letter_x ∷ xs) (mirror_x ∷ ts)
+  a_mirror_y : {xs : List Piece} {ts : List (Turn Number)} → Turns xs ts → Turns (Word letter_m ∷ Word letter_y ∷ xs) (mirror_y ∷ ts)
+  a_rotation : {x y : Piece} {a b : Number} {xs : List Piece} {ts : List (Turn Number)} → Tells x a → Tells y b → Turns xs ts → Turns (Word letter_r ∷ x ∷ y ∷ xs) (rotate (point a b) ∷ ts)
 
 -- the first letter of a command that does nothing: a comment's, a user extension's, and E. It is neither a command's first letter nor the second of a D command
 pub record Idle (b : ℕ) : Type 0 where
@@ -68,7 +68,7 @@ pub data Says : Written → Placed Command → Type 0 where
       → Says (wrote p letter_r (x ∷ y ∷ z ∷ []) true) (at p (draw (shape_of flash (a ∷ []) (point b c ∷ []) [])))
   a_wire : {p : ℕ} {x : Piece} {a : Number} {xs : List Piece} {ps : List (Point Number)} → Tells x a → Points xs ps → 0 < length ps
       → Says (wrote p letter_w (x ∷ xs) true) (at p (draw (shape_of wire (a ∷ []) ps [])))
-  a_layer : {p : ℕ} {l : List ℕ} → 0 < length l → Name l → Says (wrote p letter_l (map Further l) true) (at p (layer l))
+  a_layer : {p : ℕ} {l : List ℕ} → 0 < length l → Name l → Says (wrote p letter_l (map Word l) true) (at p (layer l))
   a_call : {p : ℕ} {x : Piece} {a : Number} {xs : List Piece} {ts : List (Turn Number)} → Tells x a → Turns xs ts
       → Says (wrote p letter_c (x ∷ xs) true) (at p (call a ts))
   a_start : {p : ℕ} {x : Piece} {a : Number} → Tells x a

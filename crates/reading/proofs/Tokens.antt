@@ -17,7 +17,7 @@ use Rattle.definition.specs.Commands.{Number, box, flash, wire, polygon, shape_o
 use Rattle.definition.specs.Commands.{worth, numbers, nth, paired, next, named, turn_at, turns, command_at}
 use Rattle.pieces.specs.Pieces.{capped, digit_of, place_after, with_piece, pieces}
 use Rattle.pieces.specs.declared.Piece.{Piece}
-use Rattle.pieces.specs.declared.Piece.TheVariants.{Second, Further}
+use Rattle.pieces.specs.declared.Piece.TheVariants.{Second, Word}
 use Rattle.pieces.specs.declared.Piece.TheVariants.{Number as Numeral}
 use Rattle.rules.specs.Written.{items_of, stops}
 use Rattle.commands.specs.Words.{signed}
@@ -73,9 +73,9 @@ Closed (l ∷ m) = ClosedBy l.role l.byte (Closed m)
 abbrev pub piece_of : Token → Piece
 piece_of (figure p σ v) = Numeral p σ (capped v)
 piece_of (seconded b) = Second b
-piece_of (turned n b) = Further b
-piece_of (axled b) = Further b
-piece_of (lettered b) = Further b
+piece_of (turned n b) = Word b
+piece_of (axled b) = Word b
+piece_of (lettered b) = Word b
 
 abbrev pub pieces_of : List Token → List Piece
 pieces_of [] = []
@@ -99,12 +99,12 @@ items_are (l ∷ m) n p = go l.role (items_are m (n + 1) (place_after l.role n))
     go skip h = h
     go head h = refl
     go second h = ap (λ (x : List Piece). Second l.byte ∷ x) h
-    go turn h = ap (λ (x : List Piece). Further l.byte ∷ x) h
-    go axis h = ap (λ (x : List Piece). Further l.byte ∷ x) h
+    go turn h = ap (λ (x : List Piece). Word l.byte ∷ x) h
+    go axis h = ap (λ (x : List Piece). Word l.byte ∷ x) h
     go sign h = h
     go lead h = ap (λ (x : List Piece). Numeral p (ltb p n) (capped v) ∷ x) h
     go later h = h
-    go name h = ap (λ (x : List Piece). Further l.byte ∷ x) h
+    go name h = ap (λ (x : List Piece). Word l.byte ∷ x) h
     go stop h = refl
 
 pub stops_are : (m : List Letter) → Closed m → (n p : ℕ) → stops (pieces n p m) ≡ true

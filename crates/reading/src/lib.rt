@@ -1,6 +1,7 @@
 // The first of refusals 2 to 9: `refusal` gives the definition's own answer. That the account by which crate checking goes is the definition's
 // on every text of the grammar is proved here.
 #![tactic(auto)]
+
 ghost use Rattle.grammar.specs.Steps.{KindsLent, NextLent};
 ghost use Rattle.reading.specs.Refusal.{Checked, Refuses};
 

@@ -1,12 +1,12 @@
 -- The commands of a text as they are written: each with its place, its first letter, and its pieces up to its semicolon. A running account, not to be
 -- believed: what a text means stands in crates/definition.
 -- Assumes nothing.
-use Rattle.std.specs.Prelude.{Bool, true, false, List, [], ◌∷◌, ℕ, ◌+◌, ◌*◌, ◌/◌, eqb}
+use Rattle.std.specs.Prelude.{Bool, true, false, List, [], ◌∷◌, ℕ, ◌+◌, eqb}
 use Rattle.definition.specs.Words.{if◌then◌else◌}
 unfoldable pub use Rattle.names.specs.Names.{packed_by}
 use Rattle.pieces.specs.Pieces.{inside_after}
 use Rattle.pieces.specs.declared.Piece.{Piece}
-use Rattle.pieces.specs.declared.Piece.TheVariants.{First, Second, Number, Further, Stop}
+use Rattle.pieces.specs.declared.Piece.TheVariants.{First, Second, Number, Word, Stop}
 use Rattle.rules.specs.Letters.{letter_t, letter_m, letter_r}
 
 -- a command: its place, its first letter, its other pieces, and whether a semicolon ends it
@@ -22,7 +22,7 @@ items_of [] = []
 items_of (First p b ∷ xs) = []
 items_of (Second b ∷ xs) = Second b ∷ items_of xs
 items_of (Number p σ n ∷ xs) = Number p σ n ∷ items_of xs
-items_of (Further b ∷ xs) = Further b ∷ items_of xs
+items_of (Word b ∷ xs) = Word b ∷ items_of xs
 items_of (Stop ∷ xs) = []
 
 unfoldable pub stops : List Piece → Bool
@@ -30,7 +30,7 @@ stops [] = false
 stops (First p b ∷ xs) = false
 stops (Second b ∷ xs) = stops xs
 stops (Number p σ n ∷ xs) = stops xs
-stops (Further b ∷ xs) = stops xs
+stops (Word b ∷ xs) = stops xs
 stops (Stop ∷ xs) = true
 
 abbrev pub written_at : ℕ → ℕ → List Piece → Written
@@ -42,7 +42,7 @@ written [] = []
 written (First p b ∷ xs) = written_at p b xs ∷ written xs
 written (Second b ∷ xs) = written xs
 written (Number p σ n ∷ xs) = written xs
-written (Further b ∷ xs) = written xs
+written (Word b ∷ xs) = written xs
 written (Stop ∷ xs) = written xs
 
 -- a number of a command: its place, its minus sign, its distance from zero, the last letter before it, how many numbers came before it, and whether
@@ -51,7 +51,7 @@ pub record Figure : Type 0 where
   pub place : ℕ
   pub minus : Bool
   pub size : ℕ
-  pub latest : ℕ
+  pub word : ℕ
   pub index : ℕ
   pub zero : Bool
 
@@ -60,8 +60,8 @@ unfoldable pub figures : ℕ → ℕ → Bool → List Piece → List Figure
 figures w i z [] = []
 figures w i z (First p b ∷ xs) = figures w i z xs
 figures w i z (Second b ∷ xs) = figures b i z xs
-figures w i z (Number p σ n ∷ xs) = record { place = p; minus = σ; size = n; latest = w; index = i; zero = z } ∷ figures w (i + 1) (eqb n 0) xs
-figures w i z (Further b ∷ xs) = figures b i z xs
+figures w i z (Number p σ n ∷ xs) = record { place = p; minus = σ; size = n; word = w; index = i; zero = z } ∷ figures w (i + 1) (eqb n 0) xs
+figures w i z (Word b ∷ xs) = figures b i z xs
 figures w i z (Stop ∷ xs) = figures w i z xs
 
 abbrev pub numbers : Written → List Figure
@@ -78,7 +78,7 @@ letters [] = []
 letters (First p b ∷ xs) = letters xs
 letters (Second b ∷ xs) = b ∷ letters xs
 letters (Number p σ n ∷ xs) = letters xs
-letters (Further b ∷ xs) = b ∷ letters xs
+letters (Word b ∷ xs) = b ∷ letters xs
 letters (Stop ∷ xs) = letters xs
 
 -- the last of letters, or w

@@ -1,6 +1,7 @@
 // The rules for one command of a CIF text, in refusals 3 to 9: the lowest that a number meets, and the lowest that a whole command meets; and what is
 // scaled. They stand below both passes over a text, the check and the drawing, so that both go by the same rules.
 #![tactic(auto)]
+
 ghost use Rattle.std.specs.Prelude.{◌≡◌, not, ◌+◌, ◌*◌, ◌%◌, ◌≤◌, eqb};
 ghost use Rattle.definition.specs.Standing.{nearest};
 ghost use Rattle.pieces.specs.Pieces.{too_large};
@@ -29,14 +30,14 @@ pub fn is_shape(letter: u8) -> bool
 }
 
 // What is scaled: all but symbol numbers, a and b, and the directions of boxes and of R.
-pub fn is_distance(letter: u8, latest: u8, index: usize) -> bool
-    ensures { result ≡ distance letter latest index }
+pub fn is_distance(letter: u8, word: u8, index: usize) -> bool
+    ensures { result ≡ distance letter word index }
 {
     if letter == b'B' {
         return index < 4;
     }
     if letter == b'C' {
-        return latest == b'T';
+        return word == b'T';
     }
     is_shape(letter)
 }
@@ -73,22 +74,22 @@ fn scaled_distance(a: usize, b: usize, n: usize) -> AtScale
 }
 
 // A number at a scale. At a = b, and so outside definitions, nothing is divided.
-pub fn scaled(a: usize, b: usize, letter: u8, latest: u8, index: usize, n: usize) -> AtScale
+pub fn scaled(a: usize, b: usize, letter: u8, word: u8, index: usize, n: usize) -> AtScale
     requires { (a ≤ too_large) × (1 ≤ b) × (n ≤ too_large) }
-    ensures { result ≡ scaled_to (scaled_by a b letter latest index n) (rounded_by a b letter latest index n) }
+    ensures { result ≡ scaled_to (scaled_by a b letter word index n) (rounded_by a b letter word index n) }
 {
     if a == b {
         return scaled_to(n, 0);
     }
-    if is_distance(letter, latest, index) {
+    if is_distance(letter, word, index) {
         return scaled_distance(a, b, n);
     }
     scaled_to(n, 0)
 }
 
 // What may not be 0: a length, a width, a diameter, or the second number of a direction whose first is 0.
-fn is_vital(letter: u8, latest: u8, index: usize, zero: bool) -> bool
-    ensures { result ≡ vital letter latest index zero }
+fn is_vital(letter: u8, word: u8, index: usize, zero: bool) -> bool
+    ensures { result ≡ vital letter word index zero }
 {
     if letter == b'B' {
         if index < 2 {
@@ -100,7 +101,7 @@ fn is_vital(letter: u8, latest: u8, index: usize, zero: bool) -> bool
         return false;
     }
     if letter == b'C' {
-        if latest == b'R' {
+        if word == b'R' {
             if index % 2 == 0 {
                 return zero;
             }
@@ -117,11 +118,11 @@ fn is_vital(letter: u8, latest: u8, index: usize, zero: bool) -> bool
     false
 }
 
-fn empty_no(letter: u8, latest: u8, index: usize, zero: bool, n: usize) -> usize
-    ensures { result ≡ empty_no letter latest index zero n }
+fn empty_no(letter: u8, word: u8, index: usize, zero: bool, n: usize) -> usize
+    ensures { result ≡ empty_no letter word index zero n }
 {
     if n == 0 {
-        if is_vital(letter, latest, index, zero) {
+        if is_vital(letter, word, index, zero) {
             return 7;
         }
         return NO_REFUSAL;
@@ -130,8 +131,8 @@ fn empty_no(letter: u8, latest: u8, index: usize, zero: bool, n: usize) -> usize
 }
 
 // The lowest refusal that a number of size n meets, which is v after scaling.
-pub fn number_no(letter: u8, latest: u8, index: usize, zero: bool, n: usize, v: usize) -> usize
-    ensures { result ≡ number_refusal letter latest index zero n v }
+pub fn number_no(letter: u8, word: u8, index: usize, zero: bool, n: usize, v: usize) -> usize
+    ensures { result ≡ number_refusal letter word index zero n v }
 {
     if definition::LARGEST < n {
         return 3;
@@ -139,14 +140,14 @@ pub fn number_no(letter: u8, latest: u8, index: usize, zero: bool, n: usize, v: 
     if definition::LARGEST < v {
         return 6;
     }
-    empty_no(letter, latest, index, zero, v)
+    empty_no(letter, word, index, zero, v)
 }
 
-fn is_scaleless(letter: u8, latest: u8, a: usize, b: usize) -> bool
-    ensures { result ≡ scaleless letter latest a b }
+fn is_scaleless(letter: u8, word: u8, a: usize, b: usize) -> bool
+    ensures { result ≡ scaleless letter word a b }
 {
     if letter == b'D' {
-        if latest == b'S' {
+        if word == b'S' {
             if a == 0 {
                 return true;
             }
@@ -203,16 +204,16 @@ fn is_many(letter: u8, count: usize, turns: usize) -> bool
 // The lowest refusal that a whole command meets.
 pub fn whole_no(
     letter: u8,
-    latest: u8,
+    word: u8,
     count: usize,
     turns: usize,
     a: usize,
     b: usize,
     layer: usize,
 ) -> usize
-    ensures { result ≡ whole_refusal letter latest count turns a b layer }
+    ensures { result ≡ whole_refusal letter word count turns a b layer }
 {
-    if is_scaleless(letter, latest, a, b) {
+    if is_scaleless(letter, word, a, b) {
         return 4;
     }
     if is_few(letter, count) {

@@ -6,7 +6,7 @@ use mathlib.Core.List.{List, ◌++◌}
 use Prim.Native.Nat.{ℕ, ◌+◌}
 use lib.ListN.{length}
 use lib.Seq.{sets}
-use Rattle.definition.specs.Drawing.{Chain, Event, called, Drawn}
+use Rattle.definition.specs.Drawing.{Chain, Event, called, Drawn as Shown}
 use Rattle.definition.specs.Counts.{End, finished, stopped, counted}
 use Rattle.definition.specs.Counts.{Counts as Tally}
 use Rattle.definition.specs.Flat.{lines}
@@ -14,8 +14,8 @@ use Rattle.laws.proofs.Story.Lean.{Alike, no_more, same, same-call, alike_ending
 use Rattle.pen.specs.Names.{name_of}
 use Rattle.counts.specs.Counting.{tally}
 use Rattle.shapes.specs.declared.Ink.{Ink}
-use Rattle.shapes.specs.declared.DrawEnd.{DrawEnd}
-use Rattle.shapes.specs.declared.DrawEnd.TheVariants.{Done, Refused}
+use Rattle.shapes.specs.declared.Drawn.{Drawn}
+use Rattle.shapes.specs.declared.Drawn.TheVariants.{Done, Refused}
 use Rattle.shapes.specs.Painting.{going_by, until, Goes, Answered, Painted}
 
 -- the events before the first refusal are alike
@@ -40,18 +40,18 @@ module _ {a b : List Event} (h : Alike a b) (ink : Ink) where
       let l = name_of ink.pen.layer in
       record {
         ends = sym (alike_ending h (tally ink.counts)) ∙ g.ends;
-        next = g.next ∙ ap (λ (s : List Drawn). ink.pen.at + length (lines l s)) (alike_shapes h);
-        on = subst (λ (s : List Drawn). (ds : List Drawn) → lines l (s ++ ds) ≡ lines l s ++ lines (name_of ink'.pen.layer) ds) (alike_shapes h) g.on;
+        next = g.next ∙ ap (λ (s : List Shown). ink.pen.at + length (lines l s)) (alike_shapes h);
+        on = subst (λ (s : List Shown). (ds : List Shown) → lines l (s ++ ds) ≡ lines l s ++ lines (name_of ink'.pen.layer) ds) (alike_shapes h) g.on;
         reached = g.reached;
       }
 
-  alike_answer : (chain : Chain) (r : DrawEnd) → Answered ink a chain r → Answered ink b chain r
+  alike_answer : (chain : Chain) (r : Drawn) → Answered ink a chain r → Answered ink b chain r
   unfolding Answered
   alike_answer chain (Done ink') g = alike_goes g
   alike_answer chain (Refused why) g = sym (alike_ending h (tally ink.counts)) ∙ g
 
-  pub alike_painted : {room : List ℕ} {chain : Chain} {r : DrawEnd} {room' : List ℕ} → Painted ink a room chain r room' → Painted ink b room chain r room'
+  pub alike_painted : {room : List ℕ} {chain : Chain} {r : Drawn} {room' : List ℕ} → Painted ink a room chain r room' → Painted ink b room chain r room'
   alike_painted {room} {chain} {r} x = record {
     answer = alike_answer chain r x.answer;
-    laid = x.laid ∙ ap (λ (s : List Drawn). sets room ink.pen.at (lines (name_of ink.pen.layer) s)) (alike_shapes (alike_until h (tally ink.counts)));
+    laid = x.laid ∙ ap (λ (s : List Shown). sets room ink.pen.at (lines (name_of ink.pen.layer) s)) (alike_shapes (alike_until h (tally ink.counts)));
   }

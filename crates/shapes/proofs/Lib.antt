@@ -2,4 +2,3 @@ pub mod Painting
 pub mod Sole
 pub mod Alike
 pub mod Shapes
-pub mod Magnitudes

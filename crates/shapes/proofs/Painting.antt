@@ -7,7 +7,7 @@ use native.Mathlib.Nat.{add-zero}
 use native.Mathlib.Omega.{arith}
 use lib.ListN.{length, length-append}
 use lib.Seq.{sets, length-sets}
-use Rattle.definition.specs.Drawing.{Chain, Event, Drawn}
+use Rattle.definition.specs.Drawing.{Chain, Event, Drawn as Shown}
 use Rattle.definition.specs.Counts.{End, finished, stopped, counted, go_on, ending, shapes_of}
 use Rattle.definition.specs.Counts.{Counts as Tally}
 use Rattle.definition.specs.Flat.{lines}
@@ -18,8 +18,8 @@ use Rattle.digits.specs.Writes.{Writes}
 use Rattle.digits.proofs.Writing.{both, written}
 use Rattle.counts.specs.declared.Counts.{Counts}
 use Rattle.shapes.specs.declared.Ink.{Ink}
-use Rattle.shapes.specs.declared.DrawEnd.{DrawEnd}
-use Rattle.shapes.specs.declared.DrawEnd.TheVariants.{Done, Refused}
+use Rattle.shapes.specs.declared.Drawn.{Drawn}
+use Rattle.shapes.specs.declared.Drawn.TheVariants.{Done, Refused}
 use Rattle.counts.specs.Counting.{tally}
 use Rattle.shapes.specs.Painting.{going_by, until, inked, bytes_of, Reached, Goes, Answered, Painted}
 
@@ -134,7 +134,7 @@ module _ {ink : Ink} {a : List Event} {room : List ℕ} {chain : Chain} where
           next = omega (arith, g.next, went.next, ap length split, length-append (lines l (shapes_of a)) (lines (name_of ink'.pen.layer) (shapes_of b)));
           on =
               λ ds.
-              ap (λ (s : List Drawn). lines l (s ++ ds)) (shapes_of-++ a b)
+              ap (λ (s : List Shown). lines l (s ++ ds)) (shapes_of-++ a b)
               ∙ (ap (lines l) (append_assoc (shapes_of a) (shapes_of b) ds)
               ∙ (went.on (shapes_of b ++ ds)
               ∙ (ap (λ (s : List ℕ). lines l (shapes_of a) ++ s) (g.on ds)
@@ -143,12 +143,12 @@ module _ {ink : Ink} {a : List Event} {room : List ℕ} {chain : Chain} where
           reached = g.reached;
         }
 
-    answer_then : (b : List Event) (open_calls : Chain) (r : DrawEnd) → Answered ink' b open_calls r → Answered ink (a ++ b) open_calls r
+    answer_then : (b : List Event) (open_calls : Chain) (r : Drawn) → Answered ink' b open_calls r → Answered ink (a ++ b) open_calls r
     unfolding Answered
     answer_then b open_calls (Done ink'') g = goes_then b g
     answer_then b open_calls (Refused why) g = ends_then b ∙ g
 
-    pub next_drawn : (b : List Event) {open_calls : Chain} {r : DrawEnd} {room'' : List ℕ} → Painted ink' b room' open_calls r room'' → Painted ink (a ++ b) room open_calls r room''
+    pub next_drawn : (b : List Event) {open_calls : Chain} {r : Drawn} {room'' : List ℕ} → Painted ink' b room' open_calls r room'' → Painted ink (a ++ b) room open_calls r room''
     next_drawn b {open_calls} {r} y = record { answer = answer_then b open_calls r y.answer; laid = laid_both b y.laid }
 
 -- ---- a loop that draws: what is to be drawn in all, and what of it is left. Nothing is refused yet, so that the calls of a refusal are told as none

@@ -29,7 +29,7 @@ use Rattle.counts.specs.Counting.{tally, CountsShape}
 use Rattle.counts.proofs.ByValue.{shape-goes, shape-stops, shape-more}
 use Rattle.shapes.specs.declared.Pen.{Pen}
 use Rattle.shapes.specs.declared.Ink.{Ink}
-use Rattle.shapes.specs.declared.DrawEnd.TheVariants.{Done, Refused}
+use Rattle.shapes.specs.declared.Drawn.TheVariants.{Done, Refused}
 use Rattle.moves.specs.Moves.{most_values, ShapedAt, Judges, MovesShape}
 use Rattle.shapes.specs.Painting.{going_by, until, inked, Reached, Answered, Painted}
 use Rattle.shapes.proofs.Painting.{refusal}

@@ -10,7 +10,7 @@ use lib.Dec.{T}
 use lib.ListN.{length, length-append}
 use Rattle.definition.specs.Words.{if◌then◌else◌, same}
 use Rattle.definition.specs.Commands.{polygon, shape_of}
-use Rattle.definition.specs.Drawing.{Chain, Event, Drawn}
+use Rattle.definition.specs.Drawing.{Chain, Event, Drawn as Shown}
 use Rattle.definition.specs.Counts.{finished, stopped, shapes_of}
 use Rattle.definition.specs.Flat.{letter_of, line, spaced, said, lines}
 use Rattle.definition.specs.declared.Refusal.{Refusal}
@@ -20,22 +20,22 @@ use Rattle.pen.proofs.Names.{name-same, same_refl}
 use Rattle.counts.specs.declared.Counts.{Counts}
 use Rattle.counts.specs.Counting.{tally}
 use Rattle.shapes.specs.declared.Ink.{Ink}
-use Rattle.shapes.specs.declared.DrawEnd.{DrawEnd}
-use Rattle.shapes.specs.declared.DrawEnd.TheVariants.{Done, Refused}
+use Rattle.shapes.specs.declared.Drawn.{Drawn}
+use Rattle.shapes.specs.declared.Drawn.TheVariants.{Done, Refused}
 use Rattle.shapes.specs.Painting.{inked, Goes, Answered, Painted}
 use Rattle.shapes.proofs.Painting.{never}
 
 -- ---- the last layer
 
 -- a shape of this layer
-abbrev probe : List ℕ → Drawn
+abbrev probe : List ℕ → Shown
 probe l = record { place = 0; chain = []; net = []; layer_of = l; itself = shape_of polygon [] [] [] }
 
 abbrev own : List ℕ
 own = line (letter_of polygon) (spaced [])
 
 -- two layers after which the same is always written are one: an L line would tell them apart
-pub layer-told : (l m : List ℕ) → ((ds : List Drawn) → lines l ds ≡ lines m ds) → l ≡ m
+pub layer-told : (l m : List ℕ) → ((ds : List Shown) → lines l ds ≡ lines m ds) → l ≡ m
 unfolding lines said
 layer-told l m f = go (same m l) refl (sym (simp (same_refl, append-nil) at (f (probe l ∷ []))))
   where
@@ -52,14 +52,14 @@ counts-told a b e =
 
 goes_once : {ink : Ink} {es : List Event} {a b : Ink} → Goes ink es a → Goes ink es b → a ≡ b
 goes_once {ink} {es} {a} {b} x y =
-    let names-so : (ds : List Drawn) → lines (name_of a.pen.layer) ds ≡ lines (name_of b.pen.layer) ds =
+    let names-so : (ds : List Shown) → lines (name_of a.pen.layer) ds ≡ lines (name_of b.pen.layer) ds =
     λ ds. append_cancel_left (lines (name_of ink.pen.layer) (shapes_of es)) _ _ (sym (x.on ds) ∙ y.on ds) in
     let counts : a.counts ≡ b.counts = counts-told a.counts b.counts (sym x.ends ∙ y.ends) in
     let place : a.pen.at ≡ b.pen.at = x.next ∙ sym y.next in
     let layer : a.pen.layer ≡ b.pen.layer = name-same a.pen.layer b.pen.layer (layer-told (name_of a.pen.layer) (name_of b.pen.layer) names-so) in
     λ i. inked (counts i) (record { at = place i; layer = layer i })
 
-answered_once : (ink : Ink) (es : List Event) (chain open_calls : Chain) (r s : DrawEnd) → Answered ink es chain r → Answered ink es open_calls s → r ≡ s
+answered_once : (ink : Ink) (es : List Event) (chain open_calls : Chain) (r s : Drawn) → Answered ink es chain r → Answered ink es open_calls s → r ≡ s
 unfolding Answered
 answered_once ink es chain open_calls (Done a) (Done b) x y = ap Done (goes_once x y)
 answered_once ink es chain open_calls (Done a) (Refused why) x y = absurd (never why open_calls (tally a.counts) (sym y ∙ x.ends))
@@ -67,7 +67,7 @@ answered_once ink es chain open_calls (Refused why) (Done b) x y = absurd (never
 answered_once ink es chain open_calls (Refused why) (Refused other) x y = let e : stopped why chain ≡ stopped other open_calls = sym x ∙ y in cc
 
 module _ {ink : Ink} {es : List Event} {room : List ℕ} {chain open_calls : Chain} where
-  pub painted_once : {r s : DrawEnd} {room' room'' : List ℕ} → Painted ink es room chain r room' → Painted ink es room open_calls s room'' → (r ≡ s) × (room' ≡ room'')
+  pub painted_once : {r s : Drawn} {room' room'' : List ℕ} → Painted ink es room chain r room' → Painted ink es room open_calls s room'' → (r ≡ s) × (room' ≡ room'')
   painted_once {r} {s} x y = (answered_once ink es chain open_calls r s x.answer y.answer, x.laid ∙ sym y.laid)
 
   -- and the calls that are open where it is refused

@@ -3,7 +3,7 @@
 -- Assumes nothing.
 use Rattle.std.specs.Prelude.{◌≡◌, List, [], ◌∷◌, ◌++◌, ℕ, ◌+◌, ◌*◌, ◌≤◌, ℤ, length}
 use Rattle.std.proofs.lemmas.List.Edits.{sets}
-use Rattle.definition.specs.Drawing.{Chain, Event, drawn_shape, Drawn}
+use Rattle.definition.specs.Drawing.{Chain, Event, drawn_shape, Drawn as Shown}
 use Rattle.definition.specs.Counts.{End, finished, stopped, counted, ending, shapes_of}
 use Rattle.definition.specs.Counts.{Counts as Tally}
 use Rattle.definition.specs.Flat.{lines}
@@ -17,8 +17,8 @@ use Rattle.counts.specs.declared.Counts.{Counts}
 use Rattle.counts.specs.Counting.{tally}
 use Rattle.shapes.specs.declared.Pen.{Pen}
 use Rattle.shapes.specs.declared.Ink.{Ink}
-use Rattle.shapes.specs.declared.DrawEnd.{DrawEnd}
-use Rattle.shapes.specs.declared.DrawEnd.TheVariants.{Done, Refused}
+use Rattle.shapes.specs.declared.Drawn.{Drawn}
+use Rattle.shapes.specs.declared.Drawn.TheVariants.{Done, Refused}
 
 -- the events before the first that is refused
 unfoldable pub going_by : End → Event → (Tally → List Event) → List Event
@@ -50,20 +50,20 @@ pub record Reached (ink : Ink) : Type 0 where
 pub record Goes (ink : Ink) (es : List Event) (ink' : Ink) : Type 0 where
   pub ends : ending (tally ink.counts) es ≡ finished (tally ink'.counts)
   pub next : ink'.pen.at ≡ ink.pen.at + length (lines (name_of ink.pen.layer) (shapes_of es))
-  pub on : (ds : List Drawn) → lines (name_of ink.pen.layer) (shapes_of es ++ ds) ≡ lines (name_of ink.pen.layer) (shapes_of es) ++ lines (name_of ink'.pen.layer) ds
+  pub on : (ds : List Shown) → lines (name_of ink.pen.layer) (shapes_of es ++ ds) ≡ lines (name_of ink.pen.layer) (shapes_of es) ++ lines (name_of ink'.pen.layer) ds
   pub reached : Reached ink'
 
 -- where one of them is refused, these calls are open
-unfoldable pub Answered : Ink → List Event → Chain → DrawEnd → Type 0
+unfoldable pub Answered : Ink → List Event → Chain → Drawn → Type 0
 Answered ink es chain (Done ink') = Goes ink es ink'
 Answered ink es chain (Refused why) = ending (tally ink.counts) es ≡ stopped why chain
 
 -- the contract of every function that draws
-pub record Painted (ink : Ink) (es : List Event) (room : List ℕ) (chain : Chain) (r : DrawEnd) (room' : List ℕ) : Type 0 where
+pub record Painted (ink : Ink) (es : List Event) (room : List ℕ) (chain : Chain) (r : Drawn) (room' : List ℕ) : Type 0 where
   pub answer : Answered ink es chain r
   pub laid : room' ≡ sets room ink.pen.at (bytes_of ink es)
 
 -- the contract of `draw_shape`, whatever calls are open, and for every list that does what the net transformation does
-abbrev pub ShapeDraws : (words : List ℤ) (letter end : ℕ) (net : Net) (layer place : ℕ) → Ink → List ℕ → DrawEnd → List ℕ → Type 0
+abbrev pub ShapeDraws : (words : List ℤ) (letter end : ℕ) (net : Net) (layer place : ℕ) → Ink → List ℕ → Drawn → List ℕ → Type 0
 ShapeDraws words letter end net layer place ink room r room' =
     (h : ShapedAt words letter end) (chain : Chain) (ts : List (Turn ℤ)) → Carries ts net → Painted ink (drawn_shape chain ts place (name_of layer) h.shape ∷ []) room chain r room'

@@ -1,5 +1,6 @@
 // One shape drawn: refusals 16, 20 and 17, or its lines (RULES 8). And what every function that draws takes and gives: the pen, and the answer.
 #![tactic(auto)]
+
 ghost use Rattle.std.specs.Prelude.{◌≡◌, ◌^◌, ◌<◌, ◌≤◌, pos, nat_abs, length, get_or};
 ghost use Rattle.turns.specs.Nets.{Near};
 ghost use Rattle.moves.specs.Moves.{ShapedAt};
@@ -21,7 +22,7 @@ pub struct Ink {
 
 // What a function that draws answers: the ink afterwards, or a refusal.
 #[derive(Clone, Copy)]
-pub enum DrawEnd {
+pub enum Drawn {
     Done(Ink),
     Refused(definition::Refusal),
 }
@@ -37,29 +38,29 @@ pub fn draw_shape(
     layer: u32,
     place: usize,
     ink: Ink,
-) -> DrawEnd
+) -> Drawn
     requires shaped_at { ShapedAt words.now letter end × (end ≤ length numbers.old) }
     requires near { Near (2 ^ 61) net × Reached ink }
     ensures { ShapeDraws words.now letter end net layer place ink room.old result room.new }
 {
     let far = moves::move_shape(words, numbers, letter, end, net);
     if far.x {
-        return DrawEnd::Refused(definition::Refusal { number: 16, place });
+        return Drawn::Refused(definition::Refusal { number: 16, place });
     }
     if far.y {
-        return DrawEnd::Refused(definition::Refusal { number: 20, place });
+        return Drawn::Refused(definition::Refusal { number: 20, place });
     }
     let had = ink.counts;
     match counts::count_shape(had) {
         counts::Counted::Full(number) => {
-            return DrawEnd::Refused(definition::Refusal { number, place });
+            return Drawn::Refused(definition::Refusal { number, place });
         }
         counts::Counted::More(drawn) => {
             let before = ink.pen;
             let next = pen::put_layer_line(room, before.at, before.layer, layer);
             let last = pen::put_line(room, next, letter, &numbers[2..end]);
             let after = Pen { at: last, layer };
-            DrawEnd::Done(Ink {
+            Drawn::Done(Ink {
                 counts: drawn,
                 pen: after,
             })

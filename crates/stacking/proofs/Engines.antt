@@ -8,7 +8,7 @@ use mathlib.Core.Option.{Option, none, some}
 use Prim.Native.Nat.{ℕ, ◌≤◌}
 use native.Mathlib.Omega.{arith}
 use lib.IntN.{ℤ}
-use lib.ListN.{length, replicate}
+use lib.ListN.{length}
 use Rattle.grammar.specs.Notation.{Letter}
 use Rattle.grammar.specs.Viable.{Marked}
 use Rattle.grammar.proofs.Markings.{one_marking}
@@ -22,7 +22,7 @@ use Rattle.definition.specs.Commands.{Turn, Command, commands}
 use Rattle.definition.specs.Faults.{first_fault}
 use Rattle.definition.specs.Table.{Table}
 use Rattle.definition.specs.Drawing.{Chain, Event}
-use Rattle.definition.specs.Counts.{Counts, counts, End, finished, stopped, ending}
+use Rattle.definition.specs.Counts.{Counts, counts, End, stopped, ending}
 use Rattle.definition.specs.Answer
 use Rattle.definition.specs.Answer.{Outcome, accepted, rejected, given_back, room_after, drawing_of, held_drawing, fitted, drawn, outcome_of, Answers, Promised}
 use Rattle.definition.specs.Records.{stacked_drawing, drawn_with, outcome_with, AnswersWith, too_long, not_cif, read, PromisedWith}
@@ -158,11 +158,11 @@ refused_by_records {t} {words} {records} {room} {p} {chain} = (there, back)
   where
     place_of : Outcome → ℕ
     place_of (rejected r x) = r.place
-    place_of (accepted cs c es) = 0
+    place_of (accepted _ _ _) = 0
 
     chain_of : Outcome → Chain
     chain_of (rejected r x) = x
-    chain_of (accepted cs c es) = []
+    chain_of (accepted _ _ _) = []
 
     by_case : WithRecords t words records room (rejected (refuse too_few_records p) chain) → TooFewLent t words records p chain
     by_case (the_same a) = absurd (never-21 a)

@@ -3,7 +3,6 @@
 use mathlib.Core.Path.{◌≡◌, refl, sym, ap, ap₂, ◌∙◌, subst}
 use mathlib.Core.Bool.{Bool, true, false}
 use mathlib.Core.List.{List, [], ◌∷◌, ◌++◌, map, map-append, nil≢cons, head-eq_of_cons-eq, tail-eq_of_cons-eq}
-use mathlib.Core.Logic.{◌↔◌}
 use Prim.Native.Nat.{ℕ, ◌≤◌, ◌<◌}
 use native.Mathlib.Omega.{arith}
 use borrow.Author.Tests.{le-leb, leb-true, leb-false}
@@ -16,7 +15,7 @@ use Rattle.definition.specs.Drawing.{Chain, Event, called, drew, entered, remove
 use Rattle.definition.specs.Counts.{Counts, End, finished, stopped, counted, go_on, ending}
 use Rattle.definition.specs.Records.{stacked_to}
 use Rattle.laws.proofs.Lists.Joined.{ending-++}
-use Rattle.laws.proofs.Lists.Range.{All, all_at}
+use Rattle.laws.proofs.Lists.Range.{All}
 use Rattle.laws.proofs.Story.Counting.{not_finished}
 use Rattle.stacking.proofs.Stacked.{Fits, stacked_one, stacked_all}
 

@@ -1,7 +1,7 @@
 -- Refusal 21 (RULES 8, request 7): a story that is held to the records lent is the story itself where each of its calls has a record, and so wherever 32 are lent: no call is
 -- drawn deeper than 32.
 -- Assumes nothing.
-use mathlib.Core.Path.{◌≡◌, refl, sym, ap₂}
+use mathlib.Core.Path.{◌≡◌, refl, ap₂}
 use mathlib.Core.Bool.{Bool, true, false}
 use mathlib.Core.List.{List, [], ◌∷◌, ◌++◌, map}
 use mathlib.Core.Option.{Option, none, some}

@@ -1,61 +1,53 @@
-// Standard input and output for the programs. The kit's `read_full` gives a short count both where the input ends and where a read fails; here the two
-// are told apart, and a read or a write that fails is said on standard error, so that no program takes the first part of a text for all of it. No
-// contract can say which bytes are read or written.
+// Standard input and output for the programs. A read gives a short count only where the input ends: a read that fails is an error, so that no program
+// takes the first part of a text for all of it. What a reader or a writer over memory gives or takes is said byte by byte; of standard input and output
+// no contract can say it.
 #![tactic(auto)]
-ghost use Rattle.streams.specs.Fits.{Fits};
 
-use libc::{STDERR_FILENO, STDIN_FILENO, STDOUT_FILENO};
+ghost use Rattle.std.specs.Prelude.{◌<◌, ◌++◌, IfOk, OnOk, decimal, length, take};
+ghost use Rattle.std.specs.Io.{ReadsAtMost};
+ghost use Rattle.std.specs.Io.KnownBytes.{Appends, Consumes, IsAtEnd};
 
-// What was read: so many bytes, fewer than were asked for only where the input ends. Or a read failed, which has been said.
-#[derive(Clone, Copy)]
-pub enum Input {
-    Bytes(usize),
-    Failed,
+use std::io;
+use std::io::{Read, Write};
+use thiserror::Error;
+
+// Why a program stops.
+#[derive(Debug, Drop, Error)]
+pub enum Failure {
+    #[error("standard input could not be read: {0}")]
+    Unread(io::Error),
+    #[error("standard output could not be written: {0}")]
+    Unwritten(io::Error),
 }
 
-fn say_unread() {
-    io::write_all(STDERR_FILENO, b"standard input could not be read\n");
-}
-
-fn say_unwritten() {
-    io::write_all(STDERR_FILENO, b"standard output could not be written\n");
-}
-
-// Reads until the buffer is full or the input ends.
-pub fn read(buffer: &mut [u8]) -> Input
-    ensures { Fits result buffer.new }
+// Reads until the buffer is full or the input ends, and gives how many bytes were read.
+pub fn read<R: Read>(input: &mut R, buffer: &mut [u8]) -> Result<usize, Failure>
+    ensures within { ReadsAtMost result buffer.new }
+    ensures bytes { IfOk result (λ n. Consumes (R.remaining input.old) (R.remaining input.new) (take n buffer.new)) }
+    ensures end { IfOk result (λ n. n < length buffer.new → IsAtEnd (R.remaining input.new)) }
 {
     let mut done: usize = 0;
     while done < buffer.len() {
-        let got = libc::read(STDIN_FILENO, &mut buffer[done..]);
-        if got < 0 {
-            say_unread();
-            return Input::Failed;
-        }
-        let more = io::count(got, &buffer[done..]);
+        let more = input.read(&mut buffer[done..]).map_err(Failure::Unread)?;
         if more == 0 {
-            return Input::Bytes(done);
+            break;
         }
         done += more;
     }
-    Input::Bytes(done)
+    Ok(done)
 }
 
-// Writes all bytes and says whether it could; where not, the program is to stop.
-pub fn write(bytes: &[u8]) -> bool {
-    if io::write_all(STDOUT_FILENO, bytes) {
-        return true;
-    }
-    say_unwritten();
-    false
+// Writes all bytes.
+pub fn write<W: Write>(output: &mut W, bytes: &[u8]) -> Result<(), Failure>
+    ensures { OnOk result (Appends (W.contents output.old) (W.contents output.new) bytes.now) }
+{
+    output.write_all(bytes).map_err(Failure::Unwritten)
 }
 
 // Writes a number in shortest decimals, and what follows it.
-pub fn write_number(n: usize, after: &[u8]) -> bool {
-    let mut digits = [0u8; 20];
-    let count = io::decimal(n as u64, &mut digits);
-    if !write(&digits[..count]) {
-        return false;
-    }
-    write(after)
+pub fn write_number<W: Write>(output: &mut W, n: usize, after: &[u8]) -> Result<(), Failure>
+    ensures { OnOk result (Appends (W.contents output.old) (W.contents output.new) (decimal n ++ after.now)) }
+{
+    write!(output, "{n}").map_err(Failure::Unwritten)?;
+    write(output, after)
 }

@@ -17,7 +17,7 @@ use Rattle.definition.specs.declared.Refusal.{Refusal}
 use Rattle.turns.specs.Nets.{Carries, Near}
 use Rattle.counts.specs.declared.Counts.{Counts}
 use Rattle.shapes.specs.declared.Ink.{Ink}
-use Rattle.shapes.specs.declared.DrawEnd.TheVariants.{Done, Refused}
+use Rattle.shapes.specs.declared.Drawn.TheVariants.{Done, Refused}
 use Rattle.shapes.specs.Painting.{inked, Reached, Painted}
 use Rattle.shapes.proofs.Painting.{PaintedSoFar, quiet, refusal, goes_on}
 use Rattle.library.specs.Memory.{definition_at, body_at, table_of}

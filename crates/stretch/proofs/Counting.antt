@@ -17,7 +17,7 @@ use Rattle.laws.proofs.Story.Counting.{counted_all}
 use Rattle.counts.specs.declared.Counts.{Counts}
 use Rattle.counts.specs.Counting.{tally}
 use Rattle.shapes.specs.declared.Ink.{Ink}
-use Rattle.shapes.specs.declared.DrawEnd.TheVariants.{Done}
+use Rattle.shapes.specs.declared.Drawn.TheVariants.{Done}
 use Rattle.shapes.specs.Painting.{Goes, Answered, Painted}
 use Rattle.shapes.proofs.Painting.{PaintedSoFar}
 

@@ -21,8 +21,8 @@ use Rattle.names.specs.Names.{name_of, packed}
 use Rattle.moves.specs.Moves.{ShapedAt}
 use Rattle.counts.specs.declared.Counts.{Counts}
 use Rattle.shapes.specs.declared.Ink.{Ink}
-use Rattle.shapes.specs.declared.DrawEnd.{DrawEnd}
-use Rattle.shapes.specs.declared.DrawEnd.TheVariants.{Done, Refused}
+use Rattle.shapes.specs.declared.Drawn.{Drawn}
+use Rattle.shapes.specs.declared.Drawn.TheVariants.{Done, Refused}
 use Rattle.shapes.specs.Painting.{inked, Reached, Painted, ShapeDraws}
 use Rattle.shapes.proofs.Painting.{PaintedSoFar, begun, goes_on, skips, stops, over, so_far, room-kept}
 use Rattle.library.specs.Memory.{call_letter, layer_letter, words_at, layer_after, steps_of, table_of}
@@ -185,13 +185,13 @@ module _ {records : ℕ} {rows : List ℕ} {b : List ℤ} {live : ℕ} {drawing 
       pub shape_asked : ShapedAt (take (h.next - here) (drop here b)) h.kind (h.next - here)
       shape_asked = shape_words m fits e f
 
-      module _ {room' : List ℕ} {d : DrawEnd}
+      module _ {room' : List ℕ} {d : Drawn}
           (drawn : ShapeDraws (take (h.next - here) (drop here b)) h.kind (h.next - here) net l h.place ink room d room') where
         abbrev figure : Shape ℤ
         figure = (shape_is m fits e f).0
 
-        painted : (outer : List (Turn ℤ)) → Carries outer net → {y : DrawEnd} → d ≡ y → Painted ink (drawn_shape chain outer h.place (name_of l) figure ∷ []) room chain y room'
-        painted outer k q = subst (λ (y : DrawEnd). Painted ink (drawn_shape chain outer h.place (name_of l) figure ∷ []) room chain y room') q (drawn (shape_words m fits e f) chain outer k)
+        painted : (outer : List (Turn ℤ)) → Carries outer net → {y : Drawn} → d ≡ y → Painted ink (drawn_shape chain outer h.place (name_of l) figure ∷ []) room chain y room'
+        painted outer k q = subst (λ (y : Drawn). Painted ink (drawn_shape chain outer h.place (name_of l) figure ∷ []) room chain y room') q (drawn (shape_words m fits e f) chain outer k)
 
         shape-next : (outer : List (Turn ℤ)) → held outer w.steps ≡ (drawn_shape chain outer h.place (name_of l) figure ∷ []) ++ held outer m.rest
         shape-next outer = left_is outer (shape_is m fits e f).1 ∙ shape-left records table left chain outer h.place (name_of l) figure m.rest

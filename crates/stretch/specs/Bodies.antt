@@ -11,7 +11,7 @@ use Rattle.definition.specs.Records.{stacked_to}
 use Rattle.names.specs.Names.{name_of}
 use Rattle.turns.specs.Nets.{Carries, Near}
 use Rattle.shapes.specs.declared.Ink.{Ink}
-use Rattle.shapes.specs.declared.DrawEnd.TheVariants.{Done, Refused}
+use Rattle.shapes.specs.declared.Drawn.TheVariants.{Done, Refused}
 use Rattle.shapes.specs.Painting.{Reached, Painted}
 use Rattle.shapes.proofs.Painting.{PaintedSoFar}
 use Rattle.library.specs.Memory.{words_at, steps_of, body_at, table_of, most_words}

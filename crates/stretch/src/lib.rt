@@ -1,6 +1,7 @@
 // What a body draws between two calls, for an engine that keeps its open calls itself: from where it stands up to the next call that is opened, to its end, or to
 // a refusal (RULES 8). Nothing here calls itself. Refusal 21 (RULES 8, request 7) stands here, after 11 to 14 and before 15.
 #![tactic(auto)]
+
 ghost use Rattle.std.specs.Prelude.{◌≡◌, ℕ, ◌-◌, ◌*◌, ◌^◌, ◌<◌, ◌≤◌, pos, nat_abs, length, get_or};
 ghost use Rattle.definition.specs.Limits.{deepest};
 ghost use Rattle.turns.specs.Nets.{Near};
@@ -12,7 +13,7 @@ ghost use Rattle.stretch.specs.Opening.{OpensWith};
 ghost use Rattle.stretch.specs.Bodies.{Rests, Poised, BodyComes, Grows};
 
 use opening::{Call, Opened};
-use shapes::{DrawEnd, Ink};
+use shapes::{Drawn, Ink};
 
 // Where an open body goes on: its words from `at` to `end`, the layer that is set in it, and what the open calls do together.
 #[derive(Clone, Copy)]
@@ -46,7 +47,7 @@ pub fn draw_shape(
     layer: u32,
     place: usize,
     ink: Ink,
-) -> DrawEnd
+) -> Drawn
     requires { ShapedAt words.now letter end × Near (2 ^ 61) net × Reached ink }
     ensures { ShapeDraws words.now letter end net layer place ink room.old result room.new }
 {
@@ -159,10 +160,10 @@ pub fn draw_body(
                 place,
                 ink,
             ) {
-                DrawEnd::Done(shown) => {
+                Drawn::Done(shown) => {
                     ink = shown;
                 }
-                DrawEnd::Refused(refusal) => {
+                Drawn::Refused(refusal) => {
                     return Body::Stops(refusal);
                 }
             }

@@ -47,7 +47,7 @@ use Rattle.keeping.specs.declared.Defined.{Defined}
 use Rattle.keeping.specs.declared.Defined.TheVariants.{Taken, Overfull, Short}
 use Rattle.passing.specs.Passed.{Passed, outputs, start_in, Deletes}
 use Rattle.passing.proofs.Letters.{is_layer, is_delete}
-use Rattle.passing.proofs.Reading.{Met, run-kept, read_none, third_word, none_met}
+use Rattle.passing.proofs.Reading.{Met, run_kept, read_none, third_word, none_met}
 use Rattle.passing.proofs.Outer.{is_output, is_idle}
 use Rattle.passing.proofs.Stands.{Stands, nothing_kept, to_do, at_start, deletable, met, deeds_are, past_layer, layer-left, past_delete, delete-left, past_other, open_there, made, define-left, past_define, start-within, may_define, comes, takes}
 use Rattle.columns.specs.Columns.{More, Enters, Afresh}
@@ -185,7 +185,7 @@ module _ {t : List ℕ} {w : ℕ} {words₀ : List ℤ} {names : List ℕ} {coun
 
   module _ {account : Written} {kind place n : ℕ} {to : Spot} {words' : List ℤ} (big : most_values + 2 ≤ length words₀) (r : DecodedOne t spot 1 1 account words kind place n to words') where
     pub words_then : most_values + 2 ≤ length words'
-    words_then = let e = run-kept r in omega (arith, big, e, u.words_kept)
+    words_then = let e = run_kept r in omega (arith, big, e, u.words_kept)
 
     abbrev m : Met t s.standing s.commands kind place n to words'
     m = met s (omega (arith, big, u.words_kept)) r
@@ -200,7 +200,7 @@ module _ {t : List ℕ} {w : ℕ} {words₀ : List ℤ} {names : List ℕ} {coun
       stands = s';
       fit = r.fit;
       bodies_kept = u.bodies_kept;
-      words_kept = run-kept r ∙ u.words_kept;
+      words_kept = run_kept r ∙ u.words_kept;
       few = omega (arith, u.few, r.ahead);
       afresh = u.afresh;
       table-left = ap₂ {C = Table} table_then e (sym f) ∙ u.table-left;
@@ -212,16 +212,16 @@ module _ {t : List ℕ} {w : ℕ} {words₀ : List ℤ} {names : List ℕ} {coun
       where
         by_output : (kind ≡ letter_l → ⊥) → (x : Bool) → outputs kind ≡ x → Next rows b figures calls layers to stock counts
         by_output no_l true e =
-            let o = is_output s.closed place m.rest m.read_as e no_l no_d no_s in
+            let o = is_output s.closed place m.rest m.voice e no_l no_d no_s in
             let f : to_do s ≡ output (at place o.step) ∷ deeds s.standing m.rest = deeds_are s m refl ∙ o.deed in
             passes_by (past_other s m o.stays) refl (ap kept_of f ∙ kept-output (at place o.step) (deeds s.standing m.rest))
         by_output no_l false e =
-            let i = is_idle s.closed place m.rest m.read_as e no_l no_d no_s in
+            let i = is_idle s.closed place m.rest m.voice e no_l no_d no_s in
             passes_by (past_other s m i.stays) refl (ap kept_of (deeds_are s m refl ∙ i.deed))
 
         by_layer : (x : Bool) → eqb kind letter_l ≡ x → Next rows b figures calls layers to stock counts
         by_layer true e =
-            let i = is_layer m.read_as (eqb-true kind letter_l e) in
+            let i = is_layer m.voice (eqb-true kind letter_l e) in
             passes_by (past_layer s m i.0 i.1) refl (ap kept_of (layer-left s m i.0 i.1))
         by_layer false e = by_output (eqb-false kind letter_l e) (outputs kind) refl
 
@@ -230,7 +230,7 @@ module _ {t : List ℕ} {w : ℕ} {words₀ : List ℤ} {names : List ℕ} {coun
     pub along_deleted : kind ≡ letter_d → {symbol : ℕ} {left : Stock} → symbol ≡ nat_abs (get_or words' 2 (pos 0)) → Deletes rows stock symbol left
         → Next rows b figures calls layers to left counts
     along_deleted e {symbol} {left} q f =
-        let i = is_delete m.read_as e in
+        let i = is_delete m.voice e in
         let gone : Number = i.0 in
         let fewer : Deletes rows stock (nat_abs gone.what) left = subst (λ (x : ℕ). Deletes rows stock x left) (q ∙ ap nat_abs (third_word m i.2)) f in
         let d = at place (nat_abs gone.what) in
@@ -241,7 +241,7 @@ module _ {t : List ℕ} {w : ℕ} {words₀ : List ℤ} {names : List ℕ} {coun
           stands = past_delete s m gone i.1 fewer;
           fit = r.fit;
           bodies_kept = u.bodies_kept;
-          words_kept = run-kept r ∙ u.words_kept;
+          words_kept = run_kept r ∙ u.words_kept;
           few = omega (arith, u.few, r.ahead);
           afresh = afresh-cut fewer.forgets.parted.within u.afresh;
           table-left = sym (ap (table_then s.table) l ∙ then_remove s.table d (kept_of ds)) ∙ u.table-left;
@@ -294,7 +294,7 @@ module _ {t : List ℕ} {w : ℕ} {words₀ : List ℤ} {names : List ℕ} {coun
                 stands = past_define s m e k;
                 fit = k.fit;
                 bodies_kept = size_then;
-                words_kept = run-kept r ∙ u.words_kept;
+                words_kept = run_kept r ∙ u.words_kept;
                 few = omega (arith, u.few, k.redefined, k.ahead, r.ahead);
                 afresh = afresh-entered new s.kept.holds k.kept.holds same-symbol k.kept.sorted u.afresh x;
                 table-left =

@@ -17,7 +17,7 @@ use Rattle.definition.specs.Commands.{Turn, translate, mirror_x, mirror_y, rotat
 use Rattle.definition.specs.Turns.{off_axes}
 use Rattle.turns.specs.declared.Net.{Net}
 use Rattle.turns.specs.declared.Single.{Single}
-use Rattle.turns.specs.Nets.{net, Carries, Near, Composed, IsSingle, IsListed, Begins, TurnsBetween}
+use Rattle.turns.specs.Nets.{net, Carries, Near, Composed, IsSingle, IsListed, Begins, Written}
 use Rattle.turns.specs.Words.{turn_words, turns_words}
 use Rattle.turns.proofs.Nets.{near-more, carries-both, askew-both}
 
@@ -77,7 +77,7 @@ module _ (words : List ℤ) (at : ℕ) (h : Begins words at) where
   long a b = omega (arith, room, ap (λ (t : Turn ℤ). length (turn_words t)) decoded, with_numbers (of_z w32 (get_or words at (pos 0))) (get_or words (at + 1) (pos 0)) (get_or words (at + 2) (pos 0)) a b)
 
 -- what is done and what is left of the list at this place, with the net transformation of what is done
-pub record ComposedSoFar (words : List ℤ) (from end : ℕ) (h : TurnsBetween words from end) (at : ℕ) (n : Net) (off : Bool) : Type 0 where
+pub record ComposedSoFar (words : List ℤ) (from end : ℕ) (h : Written words from end) (at : ℕ) (n : Net) (off : Bool) : Type 0 where
   pub done : List (Turn ℤ)
   pub left : List (Turn ℤ)
   pub all : done ++ left ≡ h.turns
@@ -87,7 +87,7 @@ pub record ComposedSoFar (words : List ℤ) (from end : ℕ) (h : TurnsBetween w
   pub near : Near (length done * 2 ^ 31) n
   pub askew : off ≡ off_axes done
 
-pub start : {words : List ℤ} {from end : ℕ} (h : TurnsBetween words from end) (n : Net) → Carries [] n → Near 0 n → ComposedSoFar words from end h from n false
+pub start : {words : List ℤ} {from end : ℕ} (h : Written words from end) (n : Net) → Carries [] n → Near 0 n → ComposedSoFar words from end h from n false
 unfolding off_axes any
 start h n carried near = record { done = []; left = h.turns; all = refl; are = h.are; ends = h.ends; carries = carried; near = near; askew = refl }
 
@@ -96,7 +96,7 @@ record Ahead (left : List (Turn ℤ)) : Type 0 where
   later : List (Turn ℤ)
   is : left ≡ turn ∷ later
 
-module _ {words : List ℤ} {from end : ℕ} {h : TurnsBetween words from end} {at : ℕ} {n : Net} {off : Bool} (g : ComposedSoFar words from end h at n off) where
+module _ {words : List ℤ} {from end : ℕ} {h : Written words from end} {at : ℕ} {n : Net} {off : Bool} (g : ComposedSoFar words from end h at n off) where
   pub few-done : length g.done ≤ 32
   few-done = omega (arith, h.few, ap (λ (l : List (Turn ℤ)). length l) g.all, length-append g.done g.left)
 

@@ -79,7 +79,7 @@ pub record Begins (words : List ℤ) (from : ℕ) : Type 0 where
   pub are : drop from words ≡ turn_words turn ++ rest
 
 -- the words from this place up to that one are a call's list, of at most 32 transformations (RULES 12, refusal 9)
-pub record TurnsBetween (words : List ℤ) (from end : ℕ) : Type 0 where
+pub record Written (words : List ℤ) (from end : ℕ) : Type 0 where
   pub turns : List (Turn ℤ)
   pub rest : List ℤ
   pub are : drop from words ≡ turns_words turns ++ rest

@@ -2,6 +2,7 @@
 // of a shape are held to the range, by `is_beyond`. A transformation adds a step of 32 bits, 32 of them a level and 32 levels at most 2^41,
 // so that i64 never wraps: the contracts carry the longest step along as `Near`.
 #![tactic(auto)]
+
 ghost use Rattle.std.specs.Prelude.{◌≡◌, ◌||◌, ◌∷◌, [], ◌+◌, ◌^◌, ◌<◌, ◌≤◌, pos, nat_abs, ◌+ℤ◌, length};
 ghost use Rattle.definition.specs.Words.{if◌then◌else◌, point};
 ghost use Rattle.definition.specs.Commands.{translate, rotate};
@@ -9,7 +10,7 @@ ghost use Rattle.definition.specs.Faults.{beyond};
 ghost use Rattle.definition.specs.Turns.{off_axes};
 ghost use Rattle.turns.specs.Words.{turn_words};
 ghost use Rattle.turns.specs.Nets.{as_point, signed, turned, apply, Carries, Near, Composed};
-ghost use Rattle.turns.specs.Nets.{Begins, TurnsBetween, IsSingle, IsListed, net, differ};
+ghost use Rattle.turns.specs.Nets.{Begins, Written, IsSingle, IsListed, net, differ};
 
 // A point or a direction.
 #[derive(Clone, Copy)]
@@ -254,8 +255,8 @@ fn single_at(words: &[i32], at: usize) -> Single
 
 // A call's list acts in written order.
 pub fn list_net(words: &[i32], from: usize, end: usize) -> Listed
-    requires { TurnsBetween words.now from end }
-    ensures { (h : TurnsBetween words.now from end) → IsListed h.turns result }
+    requires { Written words.now from end }
+    ensures { (h : Written words.now from end) → IsListed h.turns result }
 {
     let mut net = still();
     let mut askew = false;

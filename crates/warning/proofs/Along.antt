@@ -43,7 +43,7 @@ use Rattle.keeping.specs.declared.Defined.{Defined}
 use Rattle.keeping.specs.declared.Defined.TheVariants.{Taken, Overfull, Short}
 use Rattle.passing.specs.Passed.{Passed, outputs, start_in, Deletes}
 use Rattle.passing.proofs.Letters.{is_layer, is_delete}
-use Rattle.passing.proofs.Reading.{Met, run-kept, read_none, third_word, none_met}
+use Rattle.passing.proofs.Reading.{Met, run_kept, read_none, third_word, none_met}
 use Rattle.passing.proofs.Outer.{is_output, is_idle}
 use Rattle.passing.proofs.Stands.{Stands, nothing_kept, to_do, at_start, deletable, met, deeds_are, past_layer, layer-left, past_delete, delete-left, past_other, open_there, made, define-left, past_define, start-within, may_define, comes, takes}
 use Rattle.dangling.specs.Searched.{Searched}
@@ -185,7 +185,7 @@ module _ {t : List ℕ} {w : ℕ} {words₀ : List ℤ} {old : List ℕ} {from :
 
   module _ {account : Written} {kind place n : ℕ} {to : Spot} {words' : List ℤ} (big : most_values + 2 ≤ length words₀) (r : DecodedOne t spot 1 1 account words kind place n to words') where
     pub words_then : most_values + 2 ≤ length words'
-    words_then = let e = run-kept r in omega (arith, big, e, u.words_kept)
+    words_then = let e = run_kept r in omega (arith, big, e, u.words_kept)
 
     abbrev m : Met t s.standing s.commands kind place n to words'
     m = met s (omega (arith, big, u.words_kept)) r
@@ -198,7 +198,7 @@ module _ {t : List ℕ} {w : ℕ} {words₀ : List ℤ} {old : List ℕ} {from :
       stands = s';
       fit = r.fit;
       bodies_kept = u.bodies_kept;
-      words_kept = run-kept r ∙ u.words_kept;
+      words_kept = run_kept r ∙ u.words_kept;
       few = omega (arith, u.few, r.ahead);
       searched = u.searched;
       going = subst (λ (l : List ℕ). WrittenSoFar old out from at' (warned_of w u.passed) l) (f ∙ ap (λ (x : Table). warned_from w x (to_do s')) (sym e)) u.going;
@@ -213,18 +213,18 @@ module _ {t : List ℕ} {w : ℕ} {words₀ : List ℤ} {old : List ℕ} {from :
       where
         by_output : (kind ≡ letter_l → ⊥) → (x : Bool) → outputs kind ≡ x → Next rows b words' out to stock counts known found at'
         by_output no_l true e =
-            let o = is_output s.closed place m.rest m.read_as e no_l no_d no_s in
+            let o = is_output s.closed place m.rest m.voice e no_l no_d no_s in
             let f : to_do s ≡ output (at place o.step) ∷ deeds s.standing m.rest = deeds_are s m refl ∙ o.deed in
             passes_by (past_other s m o.stays) refl
             (ap (warned_from w s.table) f ∙ output-left w s.table (at place o.step) (deeds s.standing m.rest))
             (ap dear f ∙ dear_output (at place o.step) (deeds s.standing m.rest))
         by_output no_l false e =
-            let i = is_idle s.closed place m.rest m.read_as e no_l no_d no_s in
+            let i = is_idle s.closed place m.rest m.voice e no_l no_d no_s in
             left-same (past_other s m i.stays) refl (deeds_are s m refl ∙ i.deed)
 
         by_layer : (x : Bool) → eqb kind letter_l ≡ x → Next rows b words' out to stock counts known found at'
         by_layer true e =
-            let i = is_layer m.read_as (eqb-true kind letter_l e) in
+            let i = is_layer m.voice (eqb-true kind letter_l e) in
             left-same (past_layer s m i.0 i.1) refl (layer-left s m i.0 i.1)
         by_layer false e = by_output (eqb-false kind letter_l e) (outputs kind) refl
 
@@ -232,13 +232,13 @@ module _ {t : List ℕ} {w : ℕ} {words₀ : List ℤ} {old : List ℕ} {from :
 
     module _ (e : kind ≡ letter_d) {symbol : ℕ} {left : Stock} (q : symbol ≡ nat_abs (get_or words' 2 (pos 0))) (f : Deletes rows stock symbol left) where
       abbrev gone : Number
-      gone = (is_delete m.read_as e).0
+      gone = (is_delete m.voice e).0
 
       is_gone : m.command ≡ delete gone
-      is_gone = (is_delete m.read_as e).1
+      is_gone = (is_delete m.voice e).1
 
       fewer : Deletes rows stock (nat_abs gone.what) left
-      fewer = subst (λ (x : ℕ). Deletes rows stock x left) (q ∙ ap nat_abs (third_word m (is_delete m.read_as e).2)) f
+      fewer = subst (λ (x : ℕ). Deletes rows stock x left) (q ∙ ap nat_abs (third_word m (is_delete m.voice e).2)) f
 
       abbrev after_it : Stands t rows b left to
       after_it = past_delete s m gone is_gone fewer
@@ -257,7 +257,7 @@ module _ {t : List ℕ} {w : ℕ} {words₀ : List ℤ} {old : List ℕ} {from :
             stands = after_it;
             fit = r.fit;
             bodies_kept = u.bodies_kept;
-            words_kept = run-kept r ∙ u.words_kept;
+            words_kept = run_kept r ∙ u.words_kept;
             few = omega (arith, u.few, r.ahead);
             searched = λ z. k;
             going =
@@ -302,7 +302,7 @@ module _ {t : List ℕ} {w : ℕ} {words₀ : List ℤ} {old : List ℕ} {from :
               stands = past_define s m e k;
               fit = k.fit;
               bodies_kept = size_then;
-              words_kept = run-kept r ∙ u.words_kept;
+              words_kept = run_kept r ∙ u.words_kept;
               few = omega (arith, u.few, k.redefined, k.ahead, r.ahead);
               searched = λ y. absurd (never y);
               going =

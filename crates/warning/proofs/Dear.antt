@@ -17,7 +17,7 @@ use Rattle.definition.specs.Drawing.{step_of, Deed, output, define, remove, deed
 use Rattle.laws.proofs.Commands.NumberPlaces.{as_long}
 use Rattle.pieces.specs.Pieces.{place_after, with_piece, pieces}
 use Rattle.pieces.specs.declared.Piece.{Piece}
-use Rattle.pieces.specs.declared.Piece.TheVariants.{First, Second, Further, Stop}
+use Rattle.pieces.specs.declared.Piece.TheVariants.{First, Second, Word, Stop}
 use Rattle.pieces.specs.declared.Piece.TheVariants.{Number as Numeral}
 use Rattle.rules.specs.Written.{Written, items_of, stops, written, one}
 use Rattle.reading.proofs.Says.{Says, a_polygon, a_box, a_turned_box, a_flash, a_wire, a_layer, a_call, a_start, a_scaled-start, a_finish, a_deletion, a_nothing, AllSay, none_said, one_said}
@@ -53,7 +53,7 @@ weight_within [] = omega arith
 weight_within (First p b ∷ xs) = let h = weight_within xs in omega (arith, h)
 weight_within (Second b ∷ xs) = let h = weight_within xs in omega (arith, h)
 weight_within (Numeral p σ n ∷ xs) = let h = weight_within xs in omega (arith, h)
-weight_within (Further b ∷ xs) = let h = weight_within xs in omega (arith, h)
+weight_within (Word b ∷ xs) = let h = weight_within xs in omega (arith, h)
 weight_within (Stop ∷ xs) = let h = weight_within xs in omega (arith, h)
 
 pieces-within : (n p : ℕ) (m : List Letter) → length (pieces n p m) ≤ length m

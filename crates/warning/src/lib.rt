@@ -1,6 +1,7 @@
 // The warnings of a text (RULES 13, request 1), by a pass that enters and deletes as the drawing does, and draws nothing: a line for each, in the order of their
 // commands. What is live is asked of crate dangling, and not again before the table changes.
 #![tactic(auto)]
+
 ghost use Rattle.std.specs.Prelude.{◌≡◌, true, ◌+◌, ◌^◌, ◌≤◌, length};
 ghost use Rattle.grammar.specs.Steps.{KindsLent, NextLent};
 ghost use Rattle.moves.specs.Moves.{most_values};
@@ -28,9 +29,9 @@ fn put_redefined(out: &mut [u8], at: usize, symbol: usize, before: usize, after:
     ensures { Writes out.old out.new at result (redefined_line symbol before after) × (result ≤ at + 48) }
 {
     if before < after {
-        let first = digits::put_bytes(out, at, b"Warning: symbol ");
+        let first = digits::put_word(out, at, b"Warning: symbol ");
         let second = digits::put_digits(out, first, symbol as u64);
-        return digits::put_bytes(out, second, b" redefined.\n");
+        return digits::put_word(out, second, b" redefined.\n");
     }
     at
 }
@@ -43,7 +44,7 @@ fn put_dangling(out: &mut [u8], at: usize, found: Dangling) -> usize
     match found {
         Dangling::Nowhere => at,
         Dangling::At(place) => {
-            let first = digits::put_bytes(out, at, b"Warning: dangling references after DD.\t");
+            let first = digits::put_word(out, at, b"Warning: dangling references after DD.\t");
             let second = digits::put_digits(out, first, place as u64);
             digits::put(out, second, LINE_FEED)
         }

@@ -45,7 +45,7 @@ use Rattle.checking.specs.declared.Fault.{Fault}
 use Rattle.checking.specs.declared.Fault.TheVariants.{Clear, Refused}
 use Rattle.reader.specs.Screened.{Screened, over, within}
 use Rattle.shapes.specs.declared.Ink.{Ink}
-use Rattle.shapes.specs.declared.DrawEnd.TheVariants as drawing
+use Rattle.shapes.specs.declared.Drawn.TheVariants as drawing
 use Rattle.shapes.specs.Painting.{Goes, Answered, Painted}
 use Rattle.passing.specs.Passed.{Passed}
 use Rattle.machine.specs.declared.Frame.{Frame}

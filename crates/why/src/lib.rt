@@ -1,6 +1,7 @@
 // Why is this shape here? (RULES 20, request 11). Two runs, and no walk of its own: the reader refuses the text or lets it pass; then the machine of open calls draws it with so many shapes
 // counted before that refusal 17 comes at the shape with the count, and keeps the net transformation that stands there.
 #![tactic(auto)]
+
 ghost use Rattle.std.specs.Prelude.{◌≡◌, length};
 ghost use Rattle.definition.specs.Why.{PromisedWhy};
 ghost use Rattle.why.specs.Telling.{why_of, found_by, missing_in, told_of, Drawable, Zeroed};

@@ -1,5 +1,4 @@
 -- `by_words` meets its contract: one word for each field, and the chain by `chain_by_words`.
-use borrow.Author.Rules.{rules}
 use Rattle.answer.proofs.by_words.Goals as goal
 
 pub returns : goal.returns

@@ -1,8 +1,7 @@
 -- `chain_by_words` meets its contract: one word for each place.
 use Prim.Native.Nat.{◌-◌}
 use native.Mathlib.Omega.{arith}
-use Rattle.answer.specs.Words.{zeros, chain_by}
-use Rattle.answer.proofs.Places.{Copied, none_read, one_read, all_read}
+use Rattle.answer.proofs.Places.{none_read, one_read, all_read}
 use Rattle.answer.proofs.chain_by_words.Goals as goal
 
 pub loop-i-init : goal.loop-i-init

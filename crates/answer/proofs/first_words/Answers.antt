@@ -1,6 +1,5 @@
 -- `first_words` meets its contract: ten words are set, and all others are zero.
 use mathlib.Core.Path.{refl}
-use borrow.Author.Rules.{rules}
 use Rattle.answer.proofs.first_words.Goals as goal
 
 pub returns : goal.returns

@@ -1,6 +1,5 @@
 -- `refused` meets its contract: what is cleared is zero in every field, and the place is found in the text.
 use Rattle.definition.specs.Answer.{failure}
-use borrow.Author.Rules.{rules}
 use Rattle.answer.proofs.refused.Goals as goal
 
 pub returns : goal.returns

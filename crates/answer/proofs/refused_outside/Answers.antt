@@ -1,6 +1,5 @@
 -- `refused_outside` meets its contract: a run of zeros tells that no call is open.
 use Rattle.chain.specs.Chain.{open_calls}
-use borrow.Author.Rules.{rules}
 use Rattle.answer.proofs.refused_outside.Goals as goal
 
 pub returns : goal.returns

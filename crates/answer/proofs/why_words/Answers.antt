@@ -3,9 +3,13 @@ use mathlib.Core.Path.{ap, ◌∙◌}
 use borrow.Author.Rules.{rules}
 use Rattle.definition.specs.declared.Answer.{Answer}
 use Rattle.answer.specs.Words.{answer_words}
-use Rattle.answer.proofs.Places.{as_many}
+use native.Mathlib.Omega.{arith}
 use Rattle.answer.proofs.Signs.{signed_as, why_told}
 use Rattle.answer.proofs.why_words.Goals as goal
 
 pub returns : goal.returns
-returns c = why_told c.args.why (c.words-said.ensures ∙ ap (λ (a : Answer). answer_words a) c.why_answer.ensures) (as_many c.args.why.chain UNTURNED.c.before.before.before.before.before.before.before.before.before.before.before.before.before.before.well-formed.0.1.1.1.1.1.1.1.0.1.0.1) (signed_as c.args.why.a (search rules) c.signed_word.ensures) (signed_as c.args.why.b (search rules) c.signed_word-2.ensures) (signed_as c.args.why.c (search rules) c.signed_word-3.ensures) (signed_as c.args.why.d (search rules) c.signed_word-4.ensures) (signed_as c.args.why.tx (search (rules, UNTURNED.c.before.before.before.before.before.before.before.before.before.before.before.before.before.before.well-formed.0.1.1.1.1.1.1.1.1.1.1.1.1.1)) c.signed_word-5.ensures) (signed_as c.args.why.ty (search (rules, UNTURNED.c.before.before.before.before.before.before.before.before.before.before.before.before.before.before.well-formed.0.1.1.1.1.1.1.1.1.1.1.1.1.1)) c.signed_word-6.ensures)
+returns c =
+    why_told c.args.why (c.words-said.ensures ∙ ap (λ (a : Answer). answer_words a) c.why_answer.ensures) (omega arith)
+    (signed_as c.args.why.a (search rules) c.signed_word.ensures) (signed_as c.args.why.b (search rules) c.signed_word-2.ensures)
+    (signed_as c.args.why.c (search rules) c.signed_word-3.ensures) (signed_as c.args.why.d (search rules) c.signed_word-4.ensures)
+    (signed_as c.args.why.tx (search rules) c.signed_word-5.ensures) (signed_as c.args.why.ty (search rules) c.signed_word-6.ensures)

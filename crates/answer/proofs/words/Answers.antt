@@ -1,12 +1,13 @@
 -- `words` meets its contract: the first words by `first_words`, and the places of the open calls one after the other.
-use borrow.Author.Rules.{rules}
 use Prim.Native.Nat.{◌-◌}
 use native.Mathlib.Omega.{arith}
-use Rattle.answer.proofs.Places.{Copied, none_copied, one_copied, as_many, all_told}
+use mathlib.Core.Path.{◌≡◌}
+use lib.ListN.{length}
+use Rattle.answer.proofs.Places.{none_copied, one_copied, all_told}
 use Rattle.answer.proofs.words.Goals as goal
 
 pub loop-i-init : goal.loop-i-init
-loop-i-init c = let many = as_many c.args.answer.chain UNTURNED.c.before.before.well-formed.0.1.1.1.1.1.1.1.1.1.1.1.1.0.1.0.1 in none_copied _ 16 _ (rw c.first_words-told.ensures (omega arith)) (omega (arith, many))
+loop-i-init c = let many : length c.args.answer.chain ≡ 32 = omega arith in none_copied _ 16 _ (rw c.first_words-told.ensures (omega arith)) (omega (arith, many))
 
 pub offset_bounds-chain-i : goal.offset_bounds-chain-i
 offset_bounds-chain-i c = omega (arith, c.loop-i-test.true)
@@ -33,4 +34,4 @@ pub loop-i-preserved : goal.loop-i-preserved
 loop-i-preserved c = one_copied c.loop-i.invariant c.loop-i-test.true
 
 pub returns : goal.returns
-returns c = all_told c.first_words-told.ensures c.loop-i.invariant c.loop-i-test.false (as_many c.args.answer.chain UNTURNED.c.before.before.before.before.well-formed.0.1.1.1.1.1.1.1.1.1.1.1.1.0.1.0.1)
+returns c = all_told c.first_words-told.ensures c.loop-i.invariant c.loop-i-test.false (omega arith)

@@ -1,8 +1,6 @@
 -- `words` meets its contract: the first words by `first_words`, and the places of the open calls one after the other.
-use borrow.Author.Rules.{rules}
 use Prim.Native.Nat.{◌-◌}
-use native.Mathlib.Omega.{arith}
-use Rattle.answer.proofs.Places.{Copied, none_copied, one_copied, as_many, all_told}
+use Rattle.answer.proofs.Places.{Copied}
 use Rattle.answer.proofs.words.Given as goal
 
 abbrev pub invariant-loop-i : goal.invariant-loop-i

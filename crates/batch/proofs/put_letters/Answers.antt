@@ -1,7 +1,6 @@
 -- `put_letters` meets its contract: a name has at most four letters.
 use native.Mathlib.Omega.{arith}
 use Rattle.pen.proofs.Names.{name-length}
-use borrow.Author.Rules.{rules}
 use Rattle.batch.proofs.put_letters.Goals as goal
 
 pub returns : goal.returns

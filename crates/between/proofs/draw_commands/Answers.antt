@@ -22,13 +22,13 @@ pub slice_copy_out-layer : goal.slice_copy_out-layer
 slice_copy_out-layer c = omega (arith, (long_now c.loop-kind.invariant c.requires.most_values_in_bounds.0 (read_one c.read_command.ensures c.in-Decoded.is).1))
 
 pub overflow_cast-layer : goal.overflow_cast-layer
-overflow_cast-layer c = layer_fits (now-paused c.loop-kind.invariant) (big_now c.loop-kind.invariant c.requires.most_values_in_bounds.0) (read_one c.read_command.ensures c.in-Decoded.is).1 c.if-kind-eq76.true (record { sfits = c.layer-1.given })
+overflow_cast-layer c = layer_fits (now-paused c.loop-kind.invariant) (big_now c.loop-kind.invariant c.requires.most_values_in_bounds.0) (read_one c.read_command.ensures c.in-Decoded.is).1 c.if-kind-eq76.true (search rules)
 
 pub loop-kind-smaller-then-kind-eq76 : goal.loop-kind-smaller-then-kind-eq76
 loop-kind-smaller-then-kind-eq76 c = let one = (read_one c.read_command.ensures c.in-Decoded.is).1 in omega (arith, one.ahead, one.fit.within)
 
 pub loop-kind-preserved-then-kind-eq76 : goal.loop-kind-preserved-then-kind-eq76
-loop-kind-preserved-then-kind-eq76 c = goes-along c.loop-kind.invariant (run-kept (read_one c.read_command.ensures c.in-Decoded.is).1) (omega arith) (λ w all r₀ p. text-layer p (big_now c.loop-kind.invariant c.requires.most_values_in_bounds.0) (read_one c.read_command.ensures c.in-Decoded.is).1 c.if-kind-eq76.true (record { sfits = c.layer-1.given }))
+loop-kind-preserved-then-kind-eq76 c = goes-along c.loop-kind.invariant (run-kept (read_one c.read_command.ensures c.in-Decoded.is).1) (omega arith) (λ w all r₀ p. text-layer p (big_now c.loop-kind.invariant c.requires.most_values_in_bounds.0) (read_one c.read_command.ensures c.in-Decoded.is).1 c.if-kind-eq76.true (search rules))
 
 pub size_at-symbol-requires : goal.size_at-symbol-requires
 size_at-symbol-requires c = omega (arith, (long_now c.loop-kind.invariant c.requires.most_values_in_bounds.0 (read_one c.read_command.ensures c.in-Decoded.is).1))

@@ -10,4 +10,4 @@ unfolding kinds table
 draw_commands-requires c = record { kinds_lent = (record { is = refl }, record { is = refl }); most_values_in_bounds = (omega arith, c.requires.0); pausing = c.requires.1 }
 
 pub returns : goal.returns
-returns c = UNTURNED c.draw_commands.ensures
+returns c = record { text_comes = c.draw_commands.ensures.text_comes; text_grows = c.draw_commands.ensures.text_grows }

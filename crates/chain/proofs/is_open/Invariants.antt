@@ -1,9 +1,8 @@
 -- `is_open` meets its contract. The invariant: none of the calls looked at is one of this symbol.
-use mathlib.Core.Path.{◌≡◌, sym}
+use mathlib.Core.Path.{◌≡◌}
 use mathlib.Core.Bool.{false}
 use Prim.Native.Nat.{◌-◌, ◌≤◌}
-use native.Mathlib.Omega.{arith}
-use Rattle.chain.proofs.Runs.{among, among_none, not_here, is_here, among_all}
+use Rattle.chain.proofs.Runs.{among}
 use Rattle.chain.proofs.is_open.Given as goal
 
 abbrev pub invariant-loop-i : goal.invariant-loop-i

@@ -1,6 +1,6 @@
 -- `places` meets its contract. The invariant: the places of the first calls are told, and after them stand zeros.
 use native.Mathlib.Omega.{arith}
-use Rattle.chain.proofs.Telling.{PlacesSoFar, none_told, few-told, one_told, all_told}
+use Rattle.chain.proofs.Telling.{none_told, few-told, one_told, all_told}
 use Rattle.chain.proofs.places.Goals as goal
 
 pub opened-left-requires : goal.opened-left-requires
@@ -17,6 +17,9 @@ overflow_mul-told c = omega (arith, few-told c.loop-left.invariant, c.loop-left-
 
 pub offset_bounds-run-next : goal.offset_bounds-run-next
 offset_bounds-run-next c = omega (arith, few-told c.loop-left.invariant, c.loop-left-test.true)
+
+pub bounds-run-next : goal.bounds-run-next
+bounds-run-next c = omega (arith, few-told c.loop-left.invariant, c.loop-left-test.true)
 
 pub offset_bounds-told-next : goal.offset_bounds-told-next
 offset_bounds-told-next c = omega (arith, few-told c.loop-left.invariant, c.loop-left-test.true)

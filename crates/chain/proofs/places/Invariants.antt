@@ -1,6 +1,5 @@
 -- `places` meets its contract. The invariant: the places of the first calls are told, and after them stand zeros.
-use native.Mathlib.Omega.{arith}
-use Rattle.chain.proofs.Telling.{PlacesSoFar, none_told, few-told, one_told, all_told}
+use Rattle.chain.proofs.Telling.{PlacesSoFar}
 use Rattle.chain.proofs.places.Given as goal
 
 abbrev pub invariant-loop-left : goal.invariant-loop-left

@@ -2,7 +2,6 @@
 use Prim.Native.Nat.{◌+◌, ◌*◌}
 use native.Mathlib.Omega.{arith}
 use lib.Seq.{lt-length-set}
-use borrow.Author.Rules.{rules}
 use Rattle.chain.proofs.Runs.{pushed}
 use Rattle.chain.proofs.push.Goals as goal
 

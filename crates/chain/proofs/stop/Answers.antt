@@ -1,6 +1,5 @@
 -- `stop` meets its contract (proofs/Telling.antt).
 use native.Mathlib.Omega.{arith}
-use borrow.Author.Rules.{rules}
 use Rattle.chain.proofs.Telling.{stopped}
 use Rattle.chain.proofs.stop.Goals as goal
 

@@ -1,5 +1,4 @@
 -- `add_letter` meets its contract: field by field.
-use borrow.Author.Rules.{rules}
 use Rattle.checking.proofs.Checking.{with_letter_is}
 use Rattle.checking.proofs.add_letter.Goals as goal
 

@@ -1,7 +1,6 @@
 -- `add_number` meets its contract: field by field.
 use native.Mathlib.Omega.{arith}
 use Rattle.checking.proofs.Checking.{counted_is, one_le_rounded}
-use borrow.Author.Rules.{rules}
 use Rattle.checking.proofs.add_number.Goals as goal
 
 pub overflow_add-result-2 : goal.overflow_add-result-2

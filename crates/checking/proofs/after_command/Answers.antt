@@ -1,6 +1,5 @@
 -- `after_command` meets its contract: one return for each way through the tests.
 use borrow.Author.Tests.{eq-eqb, ne_eqb}
-use borrow.Author.Rules.{rules}
 use Rattle.checking.proofs.after_command.Goals as goal
 
 pub returns-then-w-eq83 : goal.returns-then-w-eq83

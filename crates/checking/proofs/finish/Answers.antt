@@ -1,5 +1,4 @@
 -- `finish` meets its contract: the refusal of the whole command, then that of a number, then what stands.
-use borrow.Author.Rules.{rules}
 use Rattle.checking.proofs.Checking.{finish-whole, finish-number, finish_then, finish_none}
 use Rattle.checking.proofs.finish.Goals as goal
 

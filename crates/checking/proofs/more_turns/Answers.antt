@@ -1,7 +1,6 @@
 -- `more_turns` meets its contract: one return for each way through the tests.
 use mathlib.Core.Path.{sym, ◌∙◌}
 use native.Mathlib.Omega.{arith}
-use borrow.Author.Rules.{rules}
 use Rattle.checking.proofs.more_turns.Goals as goal
 
 pub returns-then-is_turning : goal.returns-then-is_turning

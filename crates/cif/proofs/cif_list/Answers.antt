@@ -1,17 +1,14 @@
 -- `cif_list` meets its contract: what `list` lists, and then all words are cleared.
 use mathlib.Core.Path.{ap, ◌∙◌}
-use mathlib.Core.List.{List}
 use Prim.Native.Nat.{ℕ}
-use lib.IntN.{ℤ, pos}
+use lib.IntN.{pos}
 use lib.ListN.{replicate}
-use borrow.Author.Rules.{rules}
 use Rattle.cif.proofs.cif_list.Goals as goal
-
-}
 
 pub returns : goal.returns
 returns c = record {
   given = c.by_words.result;
   read = c.by_words.ensures;
   listed = c.list-length.ensures;
-  cleared = c.clear.ensures ∙ ap (λ (n : ℕ). replicate n (pos 0)) c.list-length.auto.1.0;
+  cleared = c.clear.ensures ∙ ap (λ (n : ℕ). replicate n (pos 0)) c.list-length.auto.words;
+}

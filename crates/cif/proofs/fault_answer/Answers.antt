@@ -5,7 +5,6 @@ use Rattle.counts.specs.declared.Counts.{Counts}
 use Rattle.counts.specs.Counting.{tally}
 use Rattle.checking.specs.declared.Fault.{Fault}
 use Rattle.cif.specs.Told.{answer_of_fault}
-use borrow.Author.Rules.{rules}
 use Rattle.cif.proofs.fault_answer.Goals as goal
 
 pub returns-in-Clear : goal.returns-in-Clear

@@ -6,7 +6,6 @@ use borrow.Author.Tests.{eq-eqb, ne_eqb}
 use Rattle.definition.specs.declared.Answer.{Answer}
 use Rattle.definition.specs.Answer.{failure}
 use Rattle.answer.specs.Words.{words_about}
-use borrow.Author.Rules.{rules}
 use Rattle.cif.proofs.refusal_words.Goals as goal
 
 pub returns-then-text-eq-SECOND : goal.returns-then-text-eq-SECOND

@@ -2,7 +2,6 @@
 use mathlib.Core.Path.{sym, ap, ◌∙◌}
 use Rattle.grammar.specs.declared.Verdict.{Verdict}
 use Rattle.cif.specs.Told.{answer_of_verdict}
-use borrow.Author.Rules.{rules}
 use Rattle.cif.proofs.verdict_answer.Goals as goal
 
 pub returns-in-InGrammar : goal.returns-in-InGrammar

@@ -1,5 +1,4 @@
 -- `close` meets its contract: what is left out, then the two words in front.
-use borrow.Author.Rules.{rules}
 use Rattle.commands.proofs.Wording.{closed_is}
 use Rattle.commands.proofs.close.Goals as goal
 

@@ -1,6 +1,5 @@
 -- `put_letter` meets its contract: a call has its letters as words, M not.
 use borrow.Author.Tests.{eq-eqb, ne_eqb}
-use borrow.Author.Rules.{rules}
 use Rattle.commands.specs.Words.{letter_words}
 use Rattle.commands.proofs.Wording.{nothing, same_words}
 use Rattle.commands.proofs.put_letter.Goals as goal

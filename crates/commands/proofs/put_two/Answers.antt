@@ -1,6 +1,5 @@
 -- `put_two` meets its contract: one word after the other.
 use native.Mathlib.Omega.{arith}
-use borrow.Author.Rules.{rules}
 use Rattle.commands.proofs.Wording.{both}
 use Rattle.commands.proofs.put_two.Goals as goal
 

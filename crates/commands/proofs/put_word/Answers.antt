@@ -1,5 +1,4 @@
 -- `put_word` meets its contract: stored where the run reaches, dropped past it.
-use borrow.Author.Rules.{rules}
 use Rattle.commands.proofs.Wording.{put_in, put_out}
 use Rattle.commands.proofs.put_word.Goals as goal
 

@@ -1,13 +1,9 @@
 -- `read_command` meets its contract: Seeking holds up to a first letter, the run is as it was, and what is left of the text falls.
-use mathlib.Core.Path.{◌≡◌, refl, ap, ◌∙◌}
-use mathlib.Core.List.{List}
-use Prim.Native.Nat.{◌-◌}
-use lib.IntN.{ℤ}
-use lib.ListN.{length}
+use mathlib.Core.Path.{refl, ap}
 use Rattle.grammar.specs.Steps.{number}
 use Rattle.pieces.specs.declared.Begun.{Begun}
 use Rattle.pieces.proofs.Finds.{finds, mark-less}
-use Rattle.commands.proofs.Wording.{Seeking, seeking_start, seeking_ended, seeking_past, seeking_found}
+use Rattle.commands.proofs.Wording.{seeking_start, seeking_ended, seeking_past, seeking_found}
 use Rattle.commands.proofs.read_command.Goals as goal
 
 pub loop-m-init : goal.loop-m-init

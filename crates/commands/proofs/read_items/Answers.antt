@@ -1,12 +1,8 @@
 -- `read_items` meets its contract: Wording holds before each piece, and what is left of the text falls.
-use mathlib.Core.Path.{◌∙◌}
-use Prim.Native.Nat.{◌-◌}
 use native.Mathlib.Omega.{arith}
-use borrow.Author.Rules.{rules}
-use lib.ListN.{length}
 use Rattle.grammar.specs.Steps.{number}
 use Rattle.pieces.proofs.Finds.{finds, step_less, mark-less}
-use Rattle.commands.proofs.Wording.{Wording, wording_start, words_length, wording_number, wording_letter, wording_ended, wording_stop, number_end, letter_end}
+use Rattle.commands.proofs.Wording.{wording_start, wording_number, wording_letter, wording_ended, wording_stop, number_end, letter_end}
 use Rattle.commands.proofs.read_items.Goals as goal
 
 pub loop-spot-init : goal.loop-spot-init
@@ -15,9 +11,9 @@ loop-spot-init c = wording_start _ _ _ _ _ _ c.requires.fit.0
 pub next_mark-m-requires : goal.next_mark-m-requires
 next_mark-m-requires c = record { kinds_lent = c.requires.kinds_lent; fit = c.loop-spot.invariant.fit }
 
-pub add_number-c-requires : goal.add_number-c-requires
+pub line_number-c-requires : goal.line_number-c-requires
 unfolding number
-add_number-c-requires c = record { a_le_too_large = (c.requires.fit.1, c.requires.fit.2, (c.read_number-n.ensures.step _ (c.next_mark-m.ensures.led c.if-mark-eq-LEAD.true)).small); at_lt_outmost = (omega arith, omega arith) }
+line_number-c-requires c = record { a_le_too_large = (c.requires.fit.1, c.requires.fit.2, (c.read_number-n.ensures.step _ (c.next_mark-m.ensures.led c.if-mark-eq-LEAD.true)).small); at_lt_outmost = (omega arith, omega arith) }
 
 pub loop-spot-smaller-then-mark-eq-LEAD : goal.loop-spot-smaller-then-mark-eq-LEAD
 unfolding number
@@ -25,10 +21,10 @@ loop-spot-smaller-then-mark-eq-LEAD c = step_less (c.read_number-n.ensures.step 
 
 pub loop-spot-preserved-then-mark-eq-LEAD : goal.loop-spot-preserved-then-mark-eq-LEAD
 unfolding number
-loop-spot-preserved-then-mark-eq-LEAD c = wording_number c.loop-spot.invariant (c.read_number-n.ensures.step _ (c.next_mark-m.ensures.led c.if-mark-eq-LEAD.true)) (number_end c.next_mark-m.ensures c.if-mark-eq-LEAD.true c.read_number-n.ensures.value) c.add_number-c.ensures
+loop-spot-preserved-then-mark-eq-LEAD c = wording_number c.loop-spot.invariant (c.read_number-n.ensures.step _ (c.next_mark-m.ensures.led c.if-mark-eq-LEAD.true)) (number_end c.next_mark-m.ensures c.if-mark-eq-LEAD.true c.read_number-n.ensures.value) c.line_number-c.ensures
 
-pub add_letter-c-requires : goal.add_letter-c-requires
-add_letter-c-requires c = (omega arith, c.loop-spot.invariant.roomy)
+pub line_letter-c-requires : goal.line_letter-c-requires
+line_letter-c-requires c = (omega arith, c.loop-spot.invariant.roomy)
 
 pub loop-spot-smaller : goal.loop-spot-smaller
 unfolding number
@@ -36,7 +32,7 @@ loop-spot-smaller c = mark-less c.next_mark-m.ensures (λ e. omega arith)
 
 pub loop-spot-preserved : goal.loop-spot-preserved
 unfolding number
-loop-spot-preserved c = wording_letter c.loop-spot.invariant (c.next_mark-m.ensures.letter c.if-mark-gt-HEAD.true) (letter_end c.next_mark-m.ensures c.if-mark-eq-LEAD.false) c.add_letter-c.ensures
+loop-spot-preserved c = wording_letter c.loop-spot.invariant (c.next_mark-m.ensures.letter c.if-mark-gt-HEAD.true) (letter_end c.next_mark-m.ensures c.if-mark-eq-LEAD.false) c.line_letter-c.ensures
 
 pub close-requires : goal.close-requires
 close-requires c = (omega arith, omega arith)

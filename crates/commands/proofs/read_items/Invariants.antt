@@ -1,12 +1,7 @@
 -- `read_items` meets its contract: Wording holds before each piece, and what is left of the text falls.
-use mathlib.Core.Path.{◌∙◌}
 use Prim.Native.Nat.{◌-◌}
-use native.Mathlib.Omega.{arith}
-use borrow.Author.Rules.{rules}
 use lib.ListN.{length}
-use Rattle.grammar.specs.Steps.{number}
-use Rattle.pieces.proofs.Finds.{finds, step_less, mark-less}
-use Rattle.commands.proofs.Wording.{Wording, wording_start, words_length, wording_number, wording_letter, wording_ended, wording_stop, number_end, letter_end}
+use Rattle.commands.proofs.Wording.{Wording}
 use Rattle.commands.proofs.read_items.Given as goal
 
 abbrev pub invariant-loop-spot : goal.invariant-loop-spot

@@ -1,5 +1,4 @@
 -- `word_of` meets its contract: a word holds the number that is held, with its sign.
-use borrow.Author.Rules.{rules}
 use Rattle.commands.proofs.Wording.{minus-fits, word_minus, word_plus}
 use Rattle.commands.proofs.word_of.Goals as goal
 

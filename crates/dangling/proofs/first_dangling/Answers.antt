@@ -1,7 +1,6 @@
 -- `first_dangling` meets its contract: `Between` holds before each definition, and `Within` before each of its commands.
-use Prim.Native.Nat.{◌-◌}
 use native.Mathlib.Omega.{arith}
-use Rattle.dangling.proofs.Searching.{Between, Within, begin, row_fits, enters, searched_all, two_more, met, leaves, passes_other, symbol_there, passes-call, found_call}
+use Rattle.dangling.proofs.Searching.{begin, row_fits, enters, searched_all, two_more, met, leaves, passes_other, symbol_there, passes-call, found_call}
 use Rattle.dangling.proofs.first_dangling.Goals as goal
 
 pub definitions-init : goal.definitions-init

@@ -1,10 +1,7 @@
 -- `digits::digit_count` meets its contract: each comparison tells one digit more; from nine digits on, what is counted and what is left have one digit more than the
 -- number. The measure is what is left.
-use mathlib.Core.Path.{◌≡◌, sym}
-use Prim.Native.Nat.{◌+◌}
+use mathlib.Core.Path.{sym}
 use native.Mathlib.Omega.{arith}
-use lib.ListN.{length}
-use Rattle.definition.specs.Flat.{shortest}
 use Rattle.digits.specs.Tens.{tens}
 use Rattle.digits.proofs.Digits.{counts_one, counts-more, counts_between, digits-64}
 use Rattle.digits.proofs.digit_count.Goals as goal

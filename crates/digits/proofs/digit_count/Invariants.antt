@@ -1,12 +1,9 @@
 -- `digits::digit_count` meets its contract: each comparison tells one digit more; from nine digits on, what is counted and what is left have one digit more than the
 -- number. The measure is what is left.
-use mathlib.Core.Path.{◌≡◌, sym}
+use mathlib.Core.Path.{◌≡◌}
 use Prim.Native.Nat.{◌+◌}
-use native.Mathlib.Omega.{arith}
 use lib.ListN.{length}
 use Rattle.definition.specs.Flat.{shortest}
-use Rattle.digits.specs.Tens.{tens}
-use Rattle.digits.proofs.Digits.{counts_one, counts-more, counts_between, digits-64}
 use Rattle.digits.proofs.digit_count.Given as goal
 
 abbrev pub invariant-loop-high : goal.invariant-loop-high

@@ -2,7 +2,6 @@
 use mathlib.Core.Path.{sym, ◌∙◌}
 use native.Mathlib.Omega.{arith}
 use mir.Facts.{to_z-of_z}
-use borrow.Author.Rules.{rules}
 use Rattle.digits.proofs.Writing.{nothing, same_bytes}
 use Rattle.digits.proofs.Signs.{negative, positive, minus, no_minus, signed}
 use Rattle.digits.proofs.lay_decimal.Goals as goal
@@ -14,7 +13,7 @@ pub lay_digits-requires : goal.lay_digits-requires
 lay_digits-requires c = let w = c.lay-first.ensures in (omega (arith, w.ends, w.kept, c.requires.0), omega (arith, w.ends, c.requires.1))
 
 pub returns-then-is_negative : goal.returns-then-is_negative
-returns-then-is_negative c = signed c.args.z (same_bytes (minus c.args.z (negative c.args.z c.ranges.z (sym c.is_negative.ensures ∙ c.if-is_negative.true))) c.lay-first.ensures) (rw (UNTURNED.c.before.before.before.type_size.ensures, to_z-of_z c.ranges.z) at c.lay_digits.ensures)
+returns-then-is_negative c = signed c.args.z (same_bytes (minus c.args.z (negative c.args.z c.ranges.z (sym c.is_negative.ensures ∙ c.if-is_negative.true))) c.lay-first.ensures) (rw (c.size_of.ensures, to_z-of_z c.ranges.z) at c.lay_digits.ensures)
 
 pub lay_digits-requires-2 : goal.lay_digits-requires-2
 lay_digits-requires-2 c = (omega (arith, c.requires.0), omega (arith, c.requires.1))

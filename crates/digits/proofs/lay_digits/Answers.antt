@@ -1,7 +1,6 @@
 -- `digits::lay_digits` meets its contract: one digit is its own byte, up to nine fall out of a product, and more are written in parts.
 use mathlib.Core.Path.{sym}
 use native.Mathlib.Omega.{arith}
-use borrow.Author.Rules.{rules}
 use Rattle.digits.proofs.Writing.{same_bytes}
 use Rattle.digits.proofs.Digits.{one_digit, below_wide, all_wide}
 use Rattle.digits.proofs.lay_digits.Goals as goal

@@ -1,9 +1,7 @@
 -- `digits::lay_short` meets its contract, as `put_short` does: all digits lie within the room, so the loop ends with the last.
-use Prim.Native.Nat.{◌+◌, ◌-◌}
-use native.Mathlib.Omega.{arith}
-use mathlib.Core.List.{[]}
+use Prim.Native.Nat.{◌-◌}
 use Rattle.digits.specs.Tens.{lasts}
-use Rattle.digits.proofs.Digits.{Falling, begins_to_fall, falls_by, fallen, lasts-length}
+use Rattle.digits.proofs.Digits.{Falling}
 use Rattle.digits.proofs.lay_short.Given as goal
 
 abbrev pub invariant-loop-i : goal.invariant-loop-i

@@ -1,6 +1,5 @@
 -- `digits::put_first` meets its contract: as many digits as the number has.
 use native.Mathlib.Omega.{arith}
-use borrow.Author.Rules.{rules}
 use Rattle.digits.proofs.Writing.{same_bytes}
 use Rattle.digits.proofs.Digits.{below_wide, all_wide}
 use Rattle.digits.proofs.put_first.Goals as goal

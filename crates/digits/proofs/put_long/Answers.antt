@@ -1,7 +1,6 @@
 -- `digits::put_long` meets its contract: the first digits, and after them nine at a time.
 use Prim.Native.Nat.{◌/◌, ◌%◌}
 use native.Mathlib.Omega.{arith}
-use borrow.Author.Rules.{rules}
 use Rattle.digits.proofs.Writing.{both, same_bytes}
 use Rattle.digits.proofs.Digits.{nine, below_nine, ends_with_nine, digits-64, lasts-length}
 use Rattle.digits.proofs.put_long.Goals as goal

@@ -1,10 +1,7 @@
 -- `digits::put_short` meets its contract: the digits that are left and the product from which they fall out agree, up to the room's end.
-use Prim.Native.Nat.{◌+◌, ◌-◌}
 use native.Mathlib.Omega.{arith}
-use borrow.Author.Rules.{rules}
 use mathlib.Core.List.{[]}
-use Rattle.digits.specs.Tens.{lasts}
-use Rattle.digits.proofs.Digits.{Falling, begins_to_fall, falls, fallen, lasts-length}
+use Rattle.digits.proofs.Digits.{begins_to_fall, falls, fallen, lasts-length}
 use Rattle.digits.proofs.put_short.Goals as goal
 
 pub overflow_add-end : goal.overflow_add-end

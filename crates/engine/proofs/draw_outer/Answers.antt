@@ -2,7 +2,6 @@
 use native.Mathlib.Omega.{arith}
 use Rattle.turns.proofs.Nets.{near-more}
 use Rattle.engine.proofs.Outer.{ready_at, said-call, said-shape, shape-fits, call-painted, shape-painted}
-use borrow.Author.Rules.{rules}
 use Rattle.engine.proofs.draw_outer.Goals as goal
 
 pub read_call-call-requires : goal.read_call-call-requires
@@ -18,7 +17,7 @@ pub stop-requires : goal.stop-requires
 stop-requires c = (omega arith, c.requires.ready.levels)
 
 pub draw_shape-requires : goal.draw_shape-requires
-draw_shape-requires c = UNTURNED let h = said-shape c.requires.says.1 c.if-kind-eq67.false in ((h, shape-fits h c.requires.ready.roomy), (near-more (omega arith) c.still-still.ensures.1, c.requires.ready.reached))
+draw_shape-requires c = let h = said-shape c.requires.says.1 c.if-kind-eq67.false in record { shaped_at = (h, shape-fits h c.requires.ready.roomy); near = (near-more (omega arith) c.still-still.ensures.1, c.requires.ready.reached) }
 
 pub returns : goal.returns
 returns c = shape-painted c.args.rows.now c.args.bodies.now c.args.live c.args.layer c.args.place c.still-still.ensures.0 c.args.drawing.now _ c.if-kind-eq67.false c.stop.ensures c.draw_shape.ensures

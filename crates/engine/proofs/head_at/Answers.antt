@@ -1,6 +1,5 @@
 -- `head_at` meets its contract.
 use Rattle.engine.proofs.Heads.{head_is}
-use borrow.Author.Rules.{rules}
 use Rattle.engine.proofs.head_at.Goals as goal
 
 pub returns : goal.returns

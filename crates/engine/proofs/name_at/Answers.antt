@@ -4,4 +4,4 @@ use borrow.Author.Rules.{rules}
 use Rattle.engine.proofs.name_at.Goals as goal
 
 pub overflow_cast-result : goal.overflow_cast-result
-overflow_cast-result c = natural_fits _ c.requires.1.0 c.requires.1.1 (record { sfits = c.result-1.given })
+overflow_cast-result c = natural_fits _ c.requires.1.0 c.requires.1.1 (search rules)

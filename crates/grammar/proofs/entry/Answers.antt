@@ -7,7 +7,6 @@ use lib.ListN.{get_or}
 use Rattle.grammar.specs.Tables.{kind_count}
 use Rattle.grammar.specs.Steps.{entry_of, NextLent}
 use Rattle.grammar.proofs.Automaton.{entry_below}
-use borrow.Author.Rules.{rules}
 use Rattle.grammar.proofs.entry.Goals as goal
 
 lent_entry : (n : List ℕ) (q k : ℕ) → NextLent n → get_or n (q * kind_count + k) 0 ≡ entry_of q k

@@ -1,7 +1,6 @@
 -- `entry_at` meets its contract: the entry at the byte's kind.
 use mathlib.Core.Path.{ap, ◌∙◌}
 use Prim.Native.Nat.{ℕ}
-use borrow.Author.Rules.{rules}
 use Rattle.grammar.specs.Steps.{entry_of}
 use Rattle.grammar.proofs.entry_at.Goals as goal
 

@@ -4,10 +4,9 @@ use mathlib.Core.List.{List}
 use Prim.Native.Nat.{ℕ, ◌<◌}
 use native.Mathlib.Omega.{arith}
 use lib.ListN.{get_or}
-use Rattle.grammar.specs.Tables.{kind_count, kinds}
+use Rattle.grammar.specs.Tables.{kind_count}
 use Rattle.grammar.specs.Steps.{kind_of, KindsLent}
 use Rattle.grammar.proofs.Automaton.{kind-below}
-use borrow.Author.Rules.{rules}
 use Rattle.grammar.proofs.kind.Goals as goal
 
 lent-kind : (k : List ℕ) (b : ℕ) → KindsLent k → b < 256 → (get_or k b 0 ≡ kind_of b) × (get_or k b 0 < kind_count)

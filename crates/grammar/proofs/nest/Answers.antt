@@ -1,7 +1,6 @@
 -- `nest` meets its contract: its four ways out are the four cases of `within`.
 use borrow.Author.Tests.{eq-eqb, ne_eqb}
 use mathlib.Core.Path.{refl}
-use borrow.Author.Rules.{rules}
 use Rattle.grammar.proofs.nest.Goals as goal
 
 pub returns-then-k-eq-LPAR_KIND : goal.returns-then-k-eq-LPAR_KIND

@@ -1,6 +1,5 @@
 -- `plain_next` meets its contract: it takes the role off the entry.
 use Rattle.grammar.proofs.Ahead.{next_is}
-use borrow.Author.Rules.{rules}
 use Rattle.grammar.proofs.plain_next.Goals as goal
 
 pub returns : goal.returns

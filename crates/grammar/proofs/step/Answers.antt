@@ -1,7 +1,6 @@
 -- `step` meets its contract: outside comments by the table, within them by the byte's kind.
 use mathlib.Core.Path.{◌∙◌}
 use Rattle.grammar.proofs.Steps.{outside_is, within_is, mark_out, mark_in}
-use borrow.Author.Rules.{rules}
 use Rattle.grammar.proofs.step.Goals as goal
 
 pub returns-then-d-eq0 : goal.returns-then-d-eq0

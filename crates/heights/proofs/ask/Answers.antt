@@ -10,4 +10,4 @@ pub reply_to-requires : goal.reply_to-requires
 reply_to-requires c = (ready-first _ _ _ _ c.requires.0 c.requires.1 c.requires.2 refl refl (all_zero 512) (omega arith), ([], none_open _ _ _ _ _ (all_zero 512)))
 
 pub returns : goal.returns
-returns c = UNTURNED let e = c.reply_to.ensures.reply [] (none_open _ _ _ _ _ (all_zero 512)) in (is_told _ _ _ _ _ e, e)
+returns c = let e = c.reply_to.ensures.reply [] (none_open _ _ _ _ _ (all_zero 512)) in record { symbol_replies = is_told _ _ _ _ _ e; value = e }

@@ -2,7 +2,6 @@
 use native.Mathlib.Omega.{arith}
 use Rattle.heights.specs.Kept.{undefined, is_open, too_tall, known, too_deep, fresh}
 use Rattle.heights.proofs.Kept.{not_live, at_row, row_low}
-use borrow.Author.Rules.{rules}
 use Rattle.heights.proofs.look_up.Goals as goal
 
 pub returns-in-Nothing : goal.returns-in-Nothing
@@ -10,6 +9,9 @@ returns-in-Nothing c = undefined (not_live _ _ _ c.find.ensures c.in-Nothing.is)
 
 pub offset_bounds-heights-row : goal.offset_bounds-heights-row
 offset_bounds-heights-row c = let z = row_low (at_row _ _ _ c.find.ensures c.in-Live.is) c.requires in omega (arith, z)
+
+pub bounds-heights-row : goal.bounds-heights-row
+bounds-heights-row c = row_low (at_row _ _ _ c.find.ensures c.in-Live.is) c.requires
 
 pub returns-then-height-eq-OPEN : goal.returns-then-height-eq-OPEN
 returns-then-height-eq-OPEN c = is_open (at_row _ _ _ c.find.ensures c.in-Live.is) c.if-height-eq-OPEN.true
@@ -19,6 +21,9 @@ returns-then-left-height c = too_tall (at_row _ _ _ c.find.ensures c.in-Live.is)
 
 pub offset_bounds-layers-row : goal.offset_bounds-layers-row
 offset_bounds-layers-row c = let z = row_low (at_row _ _ _ c.find.ensures c.in-Live.is) c.requires in omega (arith, z)
+
+pub bounds-layers-row : goal.bounds-layers-row
+bounds-layers-row c = row_low (at_row _ _ _ c.find.ensures c.in-Live.is) c.requires
 
 pub returns-then-height-ne-UNKNOWN : goal.returns-then-height-ne-UNKNOWN
 returns-then-height-ne-UNKNOWN c = known (at_row _ _ _ c.find.ensures c.in-Live.is) c.if-height-eq-OPEN.false (omega (arith, c.if-height-ne-UNKNOWN.true)) (omega (arith, c.if-left-height.false))

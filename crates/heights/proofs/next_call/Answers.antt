@@ -1,7 +1,6 @@
 -- `next_call` meets its contract: `Ahead` holds before each command.
-use Prim.Native.Nat.{◌-◌}
 use native.Mathlib.Omega.{arith}
-use Rattle.heights.proofs.Nexts.{Ahead, at_start, two_more, met, symbol_there, passes, found_call, no_more}
+use Rattle.heights.proofs.Nexts.{at_start, two_more, met, symbol_there, passes, found_call, no_more}
 use Rattle.heights.proofs.next_call.Goals as goal
 
 pub loop-at-init : goal.loop-at-init

@@ -1,7 +1,6 @@
 -- `next_call` meets its contract: `Ahead` holds before each command.
 use Prim.Native.Nat.{◌-◌}
-use native.Mathlib.Omega.{arith}
-use Rattle.heights.proofs.Nexts.{Ahead, at_start, two_more, met, symbol_there, passes, found_call, no_more}
+use Rattle.heights.proofs.Nexts.{Ahead}
 use Rattle.heights.proofs.next_call.Given as goal
 
 abbrev pub invariant-loop-at : goal.invariant-loop-at

@@ -1,9 +1,7 @@
 -- `copy` meets its contract: the loop's invariant says what is left to write, and the measure how many bytes are.
-use Prim.Native.Nat.{◌-◌, ◌≤◌}
+use Prim.Native.Nat.{◌-◌}
 use native.Mathlib.Omega.{arith}
-use lib.ListN.{take}
-use lib.Seq.{slice}
-use Rattle.digits.proofs.Writing.{WrittenSoFar, begun, goes_on, over}
+use Rattle.digits.proofs.Writing.{begun, goes_on, over}
 use Rattle.join.proofs.Copied.{next-byte, no_byte, room-left}
 use Rattle.join.proofs.copy.Goals as goal
 

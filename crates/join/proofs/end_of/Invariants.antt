@@ -1,6 +1,5 @@
 -- `end_of` meets its contract: no letter E stands from the loop's place on.
-use native.Mathlib.Omega.{arith}
-use Rattle.join.proofs.LastE.{NoneFrom, none_at_end, one_less, found, none_found}
+use Rattle.join.proofs.LastE.{NoneFrom}
 use Rattle.join.proofs.end_of.Given as goal
 
 abbrev pub invariant-loop-i : goal.invariant-loop-i

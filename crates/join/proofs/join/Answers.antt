@@ -2,7 +2,6 @@
 use mathlib.Core.Path.{refl}
 use Rattle.join.specs.Made.{first_too_long, second_too_long}
 use Rattle.join.proofs.Making.{left_alone}
-use borrow.Author.Rules.{rules}
 use Rattle.join.proofs.join.Goals as goal
 
 pub returns-then-first-gt-MOST_BYTES : goal.returns-then-first-gt-MOST_BYTES

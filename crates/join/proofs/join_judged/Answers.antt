@@ -1,6 +1,5 @@
 -- `join_judged` meets its contract: by the verdicts on the two texts.
 use Rattle.join.proofs.Making.{first-stuck, second_stuck, both-sound}
-use borrow.Author.Rules.{rules}
 use Rattle.join.proofs.join_judged.Goals as goal
 
 pub returns-in-StuckAt : goal.returns-in-StuckAt

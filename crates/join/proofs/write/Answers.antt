@@ -2,13 +2,7 @@
 use native.Mathlib.Omega.{arith}
 use Rattle.definition.specs.Words.{bytes_of}
 use Rattle.join.proofs.Making.{next_place, three_parts}
-use borrow.Author.Rules.{rules}
 use Rattle.join.proofs.write.Goals as goal
-
--- UNTURNED: 6 needs are listed, and 5 are named
-
-slice-aggregate-copy : tie.Need-slice-aggregate-copy
-slice-aggregate-copy c = search rules
 
 pub copy-next-requires : goal.copy-next-requires
 copy-next-requires c = (c.requires.0.within, omega (arith, c.requires.1))

@@ -1,5 +1,4 @@
 -- `is_step` meets its contract.
-use borrow.Author.Rules.{rules}
 use borrow.Author.Tests.{eq-eqb, ne_eqb}
 use Rattle.keeping.proofs.is_step.Goals as goal
 

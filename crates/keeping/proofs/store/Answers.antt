@@ -1,5 +1,4 @@
 -- `store` meets its contract.
-use borrow.Author.Rules.{rules}
 use Rattle.keeping.proofs.Onward.{stores_idle, stores_plain}
 use Rattle.keeping.proofs.store.Goals as goal
 

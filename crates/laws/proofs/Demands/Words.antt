@@ -27,7 +27,7 @@ use Rattle.laws.proofs.Story.Held.{TooFew, too_few-needed, too_few-stops, EndsHe
 use Rattle.laws.proofs.Story.HeldStory.{stopped_by_words}
 use Rattle.laws.proofs.Rules.FaultRules.{no_first-fault}
 use Rattle.laws.proofs.Rules.DrawingRules.{drawing_stops}
-use Rattle.laws.proofs.Rules.Outcomes.{Passed, end_of, by_drawing, Accepting, refusal, acceptance}
+use Rattle.laws.proofs.Rules.Outcomes.{Passed, by_drawing, Accepting, refusal, acceptance}
 use Rattle.laws.proofs.Demands.Demand2.{refused_by_drawing}
 
 -- refusals 1 to 9 let the text pass; and of its drawing a definition with its DS here is the first for which the words lent are too few, and nothing stops it before

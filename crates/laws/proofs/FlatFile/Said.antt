@@ -1,7 +1,7 @@
 -- Of an accepted text every shape drawn can be said: so its flat file is grammatical, and read again it draws the same shapes.
 -- Assumes nothing.
 use mathlib.Core.Path.{◌≡◌, refl, sym, ap, ap₂, ◌∙◌, subst}
-use mathlib.Core.Bool.{Bool, true, false, not, ◌&&◌, ◌||◌}
+use mathlib.Core.Bool.{Bool, true, false, ◌&&◌, ◌||◌}
 use mathlib.Core.List.{List, [], ◌∷◌, ◌++◌, map, nil≢cons}
 use mathlib.Core.Option.{Option, none, some}
 use Prim.Native.Nat.{ℕ, suc, ◌≤◌, ◌<◌}
@@ -24,7 +24,6 @@ use Rattle.definition.specs.Drawing.{step_of, Drawn}
 use Rattle.definition.specs.Counts.{shapes_of}
 use Rattle.definition.specs.Answer.{drawing_of}
 use Rattle.laws.proofs.Lists.Range.{All, Within}
-use Rattle.laws.proofs.Commands.Sizes
 use Rattle.laws.proofs.Commands.Sizes.{Fits, Fits₂, Fit, FitStep, nil-left, nil-right, abs_neg, fit-moved, fit-step, no_fault}
 use Rattle.laws.proofs.FlatFile.Shapes
 use Rattle.laws.proofs.FlatFile.Shapes.{Formed}

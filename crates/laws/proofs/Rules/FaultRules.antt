@@ -2,17 +2,17 @@
 -- text order, within a command by number, within a number by place.
 -- Assumes nothing.
 use mathlib.Core.Path.{◌≡◌, refl, sym, ap, ◌∙◌, subst, ap₂}
-use mathlib.Core.Bool.{Bool, true, false, not, ◌&&◌, ◌||◌}
+use mathlib.Core.Bool.{Bool, true, false, ◌&&◌, ◌||◌}
 use mathlib.Core.List.Memᴰ
 use mathlib.Core.List.{List, [], ◌∷◌, ◌++◌, map, Memᴰ, nil≢cons, append_assoc}
 use mathlib.Core.Logic.{◌⊎◌, inl, inr, ◌↔◌}
 use mathlib.Core.Option.{Option, none, some}
-use Prim.Native.Nat.{ℕ, suc, ◌*◌, ◌/◌, ◌%◌, ◌≤◌, ◌<◌}
+use Prim.Native.Nat.{ℕ, suc, ◌*◌, ◌≤◌, ◌<◌}
 use native.Mathlib.Omega.{arith}
-use native.Mathlib.Nat.{zero-mod, zero-div, mul-zero}
-use borrow.Author.Tests.{ltb-true, eqb-true, eqb-false, lt-ltb, eq-eqb, ne_eqb, le-ltb, not-true}
+use native.Mathlib.Nat.{mul-zero}
+use borrow.Author.Tests.{ltb-true, eqb-true, lt-ltb, eq-eqb, le-ltb}
 use lib.Dec.{T, ltb, eqb}
-use lib.IntN.{ℤ, pos, negsuc, nat_abs}
+use lib.IntN.{ℤ, nat_abs}
 use lib.ListN.{length}
 use Rattle.grammar.specs.Notation.{Letter}
 use Rattle.grammar.specs.Viable.{Marked}
@@ -28,7 +28,7 @@ use Rattle.definition.specs.Faults.{at_numbers, at_command, faults, all_faults, 
 use Rattle.definition.proofs.Nearest.{nearest_zero, abs_scaled}
 use Rattle.laws.proofs.Lists.Range.{All, all-++}
 use Rattle.laws.proofs.Rules.Order.{rank_in, rank, Earlier, ByCommand, one_rank, one_rule}
-use Rattle.laws.proofs.Commands.Sizes.{abs_neg, nil-left, nil-right, all_right, no_fault, all_left}
+use Rattle.laws.proofs.Commands.Sizes.{nil-left, nil-right, all_right, no_fault, all_left}
 use Rattle.laws.proofs.FlatFile.Said.{length-map, all_both}
 use Rattle.laws.proofs.Commands.NumberPlaces.{Rising, done, idle, stands, Small, Null, Stands, as_long, commands_stand}
 use Rattle.laws.proofs.Commands.Wires.{Pathed, commands_pathed}

@@ -13,7 +13,7 @@ use Rattle.definition.specs.Turns.{off_axes}
 use Rattle.definition.specs.Words.{any}
 use Rattle.definition.specs.Drawing.{Chain, Passage, barred, leads, passage_to, passage_of}
 use Rattle.definition.specs.Lean.{lean, lean_definition, lean_table}
-use Rattle.definition.specs.Summary.{Names, Reply, bars, stands, both_reply, step_reply, body_reply, higher, reply_by, reply_to, shape?, call?, layers_of, own_shapes, own_calls, own_layers, body_found}
+use Rattle.definition.specs.Summary.{Reply, bars, stands, both_reply, step_reply, body_reply, higher, reply_by, reply_to, shape?, call?, layers_of, own_shapes, own_calls, own_layers, body_found}
 use Rattle.laws.proofs.Lists.Joined.{kept_if, those-flat}
 use Rattle.laws.proofs.Story.Tables.{passage_then, passage_map}
 use Rattle.laws.proofs.Story.Lean.{Setting, lean-same, lean_none, lean-find}

@@ -6,10 +6,10 @@ use mathlib.Core.List.{List, [], ◌∷◌, ◌++◌}
 use mathlib.Core.Option.{Option, none, some}
 use Prim.Native.Nat.{ℕ, zero, suc, ◌+◌, ◌*◌, ◌/◌, ◌%◌, ◌^◌, ◌≤◌, ◌<◌, max}
 use native.Mathlib.Omega.{arith}
-use native.Mathlib.Nat.{pow-suc, le_of_suc-le-suc}
+use native.Mathlib.Nat.{pow-suc}
 use lib.Dec.{T, eqb, eqb_refl}
 use lib.Bits.{bit_or, or_step}
-use lib.Count.{ones, ones_step, count_trailing_zeros, under, trailing_of_zero}
+use lib.Count.{ones, ones_step, count_trailing_zeros, under}
 use lib.ListN.{length, get_or}
 use Rattle.definition.specs.Words.{if◌then◌else◌, any, those, first, same}
 use Rattle.definition.specs.Summary.{Names, among, appearing}

@@ -1,6 +1,5 @@
 -- `at_most` meets its contract.
 use borrow.Author.Tests.{lt-ltb, le-ltb}
-use borrow.Author.Rules.{rules}
 use Rattle.library.proofs.at_most.Goals as goal
 
 pub returns-then-i-live : goal.returns-then-i-live

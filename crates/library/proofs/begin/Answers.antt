@@ -1,9 +1,8 @@
 -- `begin` meets its contract: a row put over one of its number, or between the others (proofs/Entering.antt).
 use Rattle.library.specs.Rows.{Begins}
 use Rattle.library.proofs.Entering.{at_place, begins_over, begins_full, begins_in}
-use mathlib.Core.Path.{◌≡◌, sym, ap, subst}
+use mathlib.Core.Path.{sym, subst}
 use native.Mathlib.Omega.{arith}
-use borrow.Author.Rules.{rules}
 use Rattle.library.proofs.begin.Goals as goal
 
 pub seek-i-requires : goal.seek-i-requires

@@ -1,8 +1,5 @@
 -- `clear` meets its contract, part by part.
 use Rattle.library.proofs.Clearing.{clear-start, clear-part, clear-again, cleared}
-use Rattle.library.specs.Clearing.{Cleared}
-use lib.ListN.{length}
-use Prim.Native.Nat.{◌-◌}
 use native.Mathlib.Omega.{arith}
 use Rattle.library.proofs.clear.Goals as goal
 

@@ -1,9 +1,7 @@
 -- `clear` meets its contract, part by part.
-use Rattle.library.proofs.Clearing.{clear-start, clear-part, clear-again, cleared}
 use Rattle.library.specs.Clearing.{Cleared}
 use lib.ListN.{length}
 use Prim.Native.Nat.{◌-◌}
-use native.Mathlib.Omega.{arith}
 use Rattle.library.proofs.clear.Given as goal
 
 abbrev pub invariant-loop-i : goal.invariant-loop-i

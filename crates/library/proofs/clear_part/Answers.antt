@@ -1,8 +1,5 @@
 -- `clear_part` meets its contract: all words passed are zero.
 use Rattle.library.proofs.Clearing.{clear_on, clear_to}
-use Rattle.library.specs.Clearing.{Cleared}
-use Prim.Native.Nat.{◌-◌, ◌≤◌}
-use borrow.Author.Rules.{rules}
 use native.Mathlib.Omega.{arith}
 use Rattle.library.proofs.clear_part.Goals as goal
 

@@ -1,6 +1,5 @@
 -- `compact` meets its contract: rows are numbered, and then the walk goes.
 use mathlib.Core.Path.{refl}
-use borrow.Author.Rules.{rules}
 use Rattle.library.proofs.compact.Goals as goal
 
 pub number_rows-requires : goal.number_rows-requires

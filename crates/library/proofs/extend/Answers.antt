@@ -1,6 +1,5 @@
 -- `extend` meets its contract.
 use Rattle.library.proofs.Storing.{extend_is}
-use borrow.Author.Rules.{rules}
 use Rattle.library.proofs.extend.Goals as goal
 
 pub returns : goal.returns

@@ -1,7 +1,6 @@
 -- `find` meets its contract: the number stands at the nearest number's row or nowhere.
 use Rattle.library.proofs.Seeking.{standing, not_standing}
 use Rattle.library.proofs.Looking.{here, nowhere}
-use borrow.Author.Rules.{rules}
 use Rattle.library.proofs.find.Goals as goal
 
 pub returns-then-stands : goal.returns-then-stands

@@ -1,6 +1,5 @@
 -- `forget` meets its contract (proofs/Forgetting.antt).
 use Rattle.library.proofs.Forgetting.{forgets}
-use borrow.Author.Rules.{rules}
 use Rattle.library.proofs.forget.Goals as goal
 
 pub returns : goal.returns

@@ -1,5 +1,4 @@
 -- `move_down` meets its contract: four by four, and then the rest.
-use mathlib.Core.Path.{◌∙◌}
 use Rattle.library.proofs.Runs.{moved_on, stays}
 use native.Mathlib.Omega.{arith}
 use Rattle.library.proofs.move_down.Goals as goal

@@ -1,7 +1,6 @@
 -- `move_fours` meets its contract, four by four (proofs/Runs.antt).
 use mathlib.Core.Path.{refl}
-use Rattle.library.proofs.Runs.{Sinking, sink_start, sink_part, sunk}
-use Prim.Native.Nat.{◌≤◌, ◌-◌}
+use Rattle.library.proofs.Runs.{sink_start, sink_part, sunk}
 use native.Mathlib.Omega.{arith}
 use Rattle.library.proofs.move_fours.Goals as goal
 

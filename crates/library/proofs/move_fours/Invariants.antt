@@ -1,8 +1,6 @@
 -- `move_fours` meets its contract, four by four (proofs/Runs.antt).
-use mathlib.Core.Path.{refl}
-use Rattle.library.proofs.Runs.{Sinking, sink_start, sink_part, sunk}
+use Rattle.library.proofs.Runs.{Sinking}
 use Prim.Native.Nat.{◌≤◌, ◌-◌}
-use native.Mathlib.Omega.{arith}
 use Rattle.library.proofs.move_fours.Given as goal
 
 abbrev pub invariant-loop-k : goal.invariant-loop-k

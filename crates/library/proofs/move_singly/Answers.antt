@@ -1,7 +1,5 @@
 -- `move_singly` meets its contract: words go down from the first on (proofs/Runs.antt).
-use Rattle.library.proofs.Runs.{Sinking, sink_start, sink_by, sunk}
-use Prim.Native.Nat.{◌≤◌, ◌-◌}
-use borrow.Author.Rules.{rules}
+use Rattle.library.proofs.Runs.{sink_start, sink_by, sunk}
 use native.Mathlib.Omega.{arith}
 use Rattle.library.proofs.move_singly.Goals as goal
 

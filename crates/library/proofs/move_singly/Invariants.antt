@@ -1,8 +1,6 @@
 -- `move_singly` meets its contract: words go down from the first on (proofs/Runs.antt).
-use Rattle.library.proofs.Runs.{Sinking, sink_start, sink_by, sunk}
+use Rattle.library.proofs.Runs.{Sinking}
 use Prim.Native.Nat.{◌≤◌, ◌-◌}
-use borrow.Author.Rules.{rules}
-use native.Mathlib.Omega.{arith}
 use Rattle.library.proofs.move_singly.Given as goal
 
 abbrev pub invariant-loop-k : goal.invariant-loop-k

@@ -1,8 +1,7 @@
 -- `nearest` meets its contract: each comparison halves the rows at which the number can stand.
-use Prim.Native.Nat.{◌+◌, ◌/◌, ◌≤◌}
+use Prim.Native.Nat.{◌+◌, ◌/◌}
 use native.Mathlib.Omega.{arith}
-use Rattle.library.specs.Memory.{most}
-use Rattle.library.proofs.Seeking.{Seeking, not_higher, higher, seek_up, seek_down, sought}
+use Rattle.library.proofs.Seeking.{not_higher, higher, seek_up, seek_down, sought}
 use Rattle.library.proofs.nearest.Goals as goal
 
 pub loop-reach-init : goal.loop-reach-init

@@ -1,8 +1,7 @@
 -- `nearest` meets its contract: each comparison halves the rows at which the number can stand.
-use Prim.Native.Nat.{◌+◌, ◌/◌, ◌≤◌}
-use native.Mathlib.Omega.{arith}
+use Prim.Native.Nat.{◌≤◌}
 use Rattle.library.specs.Memory.{most}
-use Rattle.library.proofs.Seeking.{Seeking, not_higher, higher, seek_up, seek_down, sought}
+use Rattle.library.proofs.Seeking.{Seeking}
 use Rattle.library.proofs.nearest.Given as goal
 
 abbrev pub invariant-loop-reach : goal.invariant-loop-reach

@@ -1,8 +1,5 @@
 -- `needed_between` meets its contract: what is counted so far is what the rows passed need (proofs/Forgetting.antt).
-use mathlib.Core.Path.{◌≡◌}
-use Prim.Native.Nat.{◌+◌, ◌-◌, ◌≤◌}
 use native.Mathlib.Omega.{arith}
-use Rattle.library.specs.Memory.{needed_in}
 use Rattle.library.proofs.Forgetting.{count_fits, count_on, count_end}
 use Rattle.library.proofs.needed_between.Goals as goal
 

@@ -3,7 +3,6 @@ use mathlib.Core.Path.{◌∙◌}
 use Rattle.library.proofs.Runs.{back}
 use Rattle.library.proofs.Walking.{number_word, number_none, number_some}
 use native.Mathlib.Omega.{arith}
-use borrow.Author.Rules.{rules}
 use Rattle.library.proofs.number_row.Goals as goal
 
 pub returns-then-length_at-eq0 : goal.returns-then-length_at-eq0

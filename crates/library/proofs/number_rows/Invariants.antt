@@ -1,8 +1,6 @@
 -- `number_rows` meets its contract, row by row (proofs/Walking.antt).
 use Rattle.library.specs.Moving.{Tagged}
-use Rattle.library.proofs.Walking.{tag_start, tag_on, tag_all}
 use Prim.Native.Nat.{◌≤◌, ◌-◌}
-use native.Mathlib.Omega.{arith}
 use Rattle.library.proofs.number_rows.Given as goal
 
 abbrev pub invariant-loop-i : goal.invariant-loop-i

@@ -3,7 +3,6 @@ use mathlib.Core.Path.{◌∙◌}
 use Rattle.library.proofs.Runs.{back}
 use Rattle.library.proofs.Walking.{owned_not}
 use native.Mathlib.Omega.{arith}
-use borrow.Author.Rules.{rules}
 use Rattle.library.proofs.owner.Goals as goal
 
 pub returns-then-live-i : goal.returns-then-live-i

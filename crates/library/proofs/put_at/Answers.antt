@@ -2,7 +2,6 @@
 use mathlib.Core.Path.{ap}
 use lib.ListN.{set}
 use Rattle.library.proofs.Runs.{back}
-use borrow.Author.Rules.{rules}
 use Rattle.library.proofs.put_at.Goals as goal
 
 pub returns : goal.returns

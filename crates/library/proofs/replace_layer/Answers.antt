@@ -1,6 +1,5 @@
 -- `replace_layer` meets its contract.
 use Rattle.library.proofs.Storing.{relayered_by}
-use borrow.Author.Rules.{rules}
 use Rattle.library.proofs.replace_layer.Goals as goal
 
 pub returns : goal.returns

@@ -1,6 +1,5 @@
 -- `seek` meets its contract: the numbers part at the nearest number, or after it where that one is lower.
 use Rattle.library.proofs.Seeking.{lower, not_lower, part-after, part-here}
-use borrow.Author.Rules.{rules}
 use Rattle.library.proofs.seek.Goals as goal
 
 pub returns-then-below : goal.returns-then-below

@@ -1,7 +1,6 @@
 -- `settle` meets its contract.
 use Rattle.library.proofs.Runs.{back}
 use Rattle.library.proofs.Walking.{settled}
-use borrow.Author.Rules.{rules}
 use Rattle.library.proofs.settle.Goals as goal
 
 pub returns : goal.returns

@@ -1,6 +1,5 @@
 -- `shift` meets its contract: numbers go up from the last on (proofs/Entering.antt).
-use Rattle.library.proofs.Entering.{Shifting, shift_start, shift_on, shifted}
-use Prim.Native.Nat.{◌*◌, ◌≤◌}
+use Rattle.library.proofs.Entering.{shift_start, shift_on, shifted}
 use native.Mathlib.Omega.{arith}
 use Rattle.library.proofs.shift.Goals as goal
 

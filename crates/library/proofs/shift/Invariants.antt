@@ -1,7 +1,6 @@
 -- `shift` meets its contract: numbers go up from the last on (proofs/Entering.antt).
-use Rattle.library.proofs.Entering.{Shifting, shift_start, shift_on, shifted}
+use Rattle.library.proofs.Entering.{Shifting}
 use Prim.Native.Nat.{◌*◌, ◌≤◌}
-use native.Mathlib.Omega.{arith}
 use Rattle.library.proofs.shift.Given as goal
 
 abbrev pub invariant-loop-k : goal.invariant-loop-k

@@ -1,6 +1,5 @@
 -- `start_for` meets its contract.
 use Rattle.library.proofs.Storing.{start-empty, start_some}
-use borrow.Author.Rules.{rules}
 use Rattle.library.proofs.start_for.Goals as goal
 
 pub returns-then-length_at-eq0 : goal.returns-then-length_at-eq0

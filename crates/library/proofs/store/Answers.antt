@@ -1,7 +1,6 @@
 -- `store` meets its contract.
 use native.Mathlib.Omega.{arith}
 use Rattle.library.proofs.Storing.{stores_again, stores_after}
-use borrow.Author.Rules.{rules}
 use Rattle.library.proofs.store.Goals as goal
 
 pub replace_layer-requires : goal.replace_layer-requires

@@ -1,12 +1,7 @@
 -- `walk` meets its contract: it meets the bodies in order, and each is moved down (proofs/Walking.antt).
 use mathlib.Core.Path.{◌∙◌}
-use mathlib.Core.List.{List}
-use lib.IntN.{ℤ}
-use lib.ListN.{length}
-use Rattle.library.specs.Moving.{Laid, Tagged}
 use Rattle.library.proofs.Runs.{back}
-use Rattle.library.proofs.Walking.{Walking, walk_start, walk_past, walk_on, walked, at_a_body}
-use Prim.Native.Nat.{◌-◌}
+use Rattle.library.proofs.Walking.{walk_start, walk_past, walk_on, walked, at_a_body}
 use native.Mathlib.Omega.{arith}
 use Rattle.library.proofs.walk.Goals as goal
 

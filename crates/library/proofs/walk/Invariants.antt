@@ -1,13 +1,10 @@
 -- `walk` meets its contract: it meets the bodies in order, and each is moved down (proofs/Walking.antt).
-use mathlib.Core.Path.{◌∙◌}
 use mathlib.Core.List.{List}
 use lib.IntN.{ℤ}
 use lib.ListN.{length}
 use Rattle.library.specs.Moving.{Laid, Tagged}
-use Rattle.library.proofs.Runs.{back}
-use Rattle.library.proofs.Walking.{Walking, walk_start, walk_past, walk_on, walked, at_a_body}
+use Rattle.library.proofs.Walking.{Walking}
 use Prim.Native.Nat.{◌-◌}
-use native.Mathlib.Omega.{arith}
 use Rattle.library.proofs.walk.Given as goal
 
 abbrev pub invariant-loop-at : goal.invariant-loop-at

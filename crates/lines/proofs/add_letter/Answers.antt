@@ -1,6 +1,5 @@
 -- `lines::add_letter` meets its contract: a name of 32 bits has room for its letter.
 use borrow.Author.Tests.{eq-eqb, ne_eqb}
-use borrow.Author.Rules.{rules}
 use native.Mathlib.Omega.{arith}
 use Rattle.lines.specs.Followed.{named}
 use Rattle.lines.proofs.Steps.{letter-room}

@@ -1,5 +1,4 @@
 -- `lines::after` meets its contract: each part by the function that follows it.
-use borrow.Author.Rules.{rules}
 use Rattle.lines.specs.Followed.{seen_after}
 use Rattle.lines.proofs.after.Goals as goal
 

@@ -1,6 +1,5 @@
 -- `lines::axis_after_size` meets its contract: the first number is a size.
 use borrow.Author.Tests.{eq-eqb, ne_eqb}
-use borrow.Author.Rules.{rules}
 use Rattle.lines.proofs.axis_after_size.Goals as goal
 
 pub returns-then-index-eq0 : goal.returns-then-index-eq0

@@ -1,6 +1,5 @@
 -- `lines::axis_of` meets its contract: one return for each way through the tests.
 use borrow.Author.Tests.{eq-eqb, ne_eqb}
-use borrow.Author.Rules.{rules}
 use Rattle.lines.specs.Followed.{axis_of}
 use Rattle.lines.proofs.axis_of.Goals as goal
 

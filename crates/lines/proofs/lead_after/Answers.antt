@@ -1,7 +1,6 @@
 -- `lines::lead_after` meets its contract: a line feed clears, and a number that ends is kept.
 use mathlib.Core.Path.{sym, ◌∙◌}
 use borrow.Author.Tests.{eq-eqb, ne_eqb}
-use borrow.Author.Rules.{rules}
 use Rattle.lines.specs.Followed.{lead_after}
 use Rattle.lines.proofs.lead_after.Goals as goal
 

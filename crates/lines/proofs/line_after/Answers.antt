@@ -1,6 +1,5 @@
 -- `lines::line_after` meets its contract: one return for each place in a line.
 use borrow.Author.Tests.{eq-eqb, ne_eqb}
-use borrow.Author.Rules.{rules}
 use Rattle.lines.specs.Followed.{line_after}
 use Rattle.lines.proofs.line_after.Goals as goal
 

@@ -1,7 +1,6 @@
 -- `lines::numeral_after` meets its contract: one return for each kind of byte.
 use borrow.Author.Tests.{eq-eqb, ne_eqb}
 use mathlib.Core.Path.{sym, ◌∙◌}
-use borrow.Author.Rules.{rules}
 use Rattle.lines.specs.Followed.{numeral_after}
 use Rattle.lines.proofs.numeral_after.Goals as goal
 

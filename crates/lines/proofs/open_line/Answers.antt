@@ -1,6 +1,5 @@
 -- `lines::open_line` meets its contract: one return for each letter.
 use borrow.Author.Tests.{eq-eqb, ne_eqb}
-use borrow.Author.Rules.{rules}
 use Rattle.lines.specs.Followed.{opened}
 use Rattle.lines.proofs.open_line.Goals as goal
 

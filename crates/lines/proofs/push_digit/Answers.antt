@@ -1,6 +1,5 @@
 -- `lines::push_digit` meets its contract: one return for each way through the tests.
 use borrow.Author.Tests.{lt-ltb, le-ltb}
-use borrow.Author.Rules.{rules}
 use Rattle.lines.proofs.push_digit.Goals as goal
 
 pub returns-then-b-lt48 : goal.returns-then-b-lt48

@@ -1,8 +1,6 @@
 -- `lines::span_after` meets its contract: a number that ends is taken by its axis, a box at its last number.
 use mathlib.Core.Path.{sym, ◌∙◌}
-use native.Mathlib.Omega.{arith}
 use borrow.Author.Tests.{eq-eqb, ne_eqb}
-use borrow.Author.Rules.{rules}
 use Rattle.lines.proofs.Steps.{still_near, stretched_as}
 use Rattle.lines.specs.Followed.{span_after, taken}
 use Rattle.lines.proofs.span_after.Goals as goal

@@ -1,5 +1,4 @@
 -- `lines::start` meets its contract: nothing is read.
-use borrow.Author.Rules.{rules}
 use Rattle.lines.proofs.start.Goals as goal
 
 pub returns : goal.returns

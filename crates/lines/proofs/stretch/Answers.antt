@@ -1,6 +1,4 @@
 -- `lines::stretch` meets its contract: the number is doubled, and the reach goes to both sides; nothing wraps.
-use native.Mathlib.Omega.{arith}
-use borrow.Author.Rules.{rules}
 use mir.Facts.{to_z-of_z}
 use Rattle.lines.specs.Followed.{stretched}
 use Rattle.lines.proofs.Steps.{doubled_fits, low_fits, high_fits}

@@ -1,7 +1,5 @@
 -- `lines::take_box` meets its contract: a box is taken at its last number, and else the span stays.
-use native.Mathlib.Omega.{arith}
 use borrow.Author.Tests.{eq-eqb, ne_eqb}
-use borrow.Author.Rules.{rules}
 use Rattle.lines.proofs.Steps.{still_near, stretched_as}
 use Rattle.lines.specs.Followed.{box_taken}
 use Rattle.lines.proofs.take_box.Goals as goal

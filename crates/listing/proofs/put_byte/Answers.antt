@@ -4,7 +4,6 @@ use mathlib.Core.Path.{sym, ◌∙◌}
 use native.Mathlib.Omega.{arith}
 use Rattle.listing.specs.Account.{wrote}
 use Rattle.digits.proofs.Writing.{same_bytes, nothing}
-use borrow.Author.Rules.{rules}
 use Rattle.listing.proofs.put_byte.Goals as goal
 
 pub returns-then-b-eq-LINE_FEED : goal.returns-then-b-eq-LINE_FEED

@@ -1,5 +1,4 @@
 -- `put_ending` meets its contract: the total's line, and after it the window's.
-use borrow.Author.Rules.{rules}
 use native.Mathlib.Omega.{arith}
 use Rattle.digits.proofs.Writing.{both}
 use Rattle.listing.proofs.put_ending.Goals as goal

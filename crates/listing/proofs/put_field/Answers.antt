@@ -3,7 +3,6 @@ use native.Mathlib.Omega.{arith}
 use Rattle.digits.proofs.Digits.{digits-64}
 use Rattle.definition.specs.Flat.{decimal}
 use Rattle.digits.proofs.Writing.{both}
-use borrow.Author.Rules.{rules}
 use Rattle.listing.proofs.put_field.Goals as goal
 
 pub returns : goal.returns

@@ -3,14 +3,8 @@ use native.Mathlib.Omega.{arith}
 use Rattle.definition.specs.Words.{bytes_of}
 use Rattle.listing.specs.Account.{heading}
 use Rattle.digits.proofs.Writing.{both}
-use borrow.Author.Rules.{rules}
 use Rattle.listing.proofs.put_heading.Goals as goal
-
--- UNTURNED: 7 needs are listed, and 6 are named
-
-slice-aggregate-put-bytes : tie.Need-slice-aggregate-put-bytes
-slice-aggregate-put-bytes c = search rules
 
 pub returns : goal.returns
 unfolding bytes_of heading
-returns c = record { writes = both c.put_bytes-first.ensures (both c.put_field-second.ensures.writes (both c.put_name_field-third.ensures.writes c.put_kind_field.ensures)); upper_bound = omega (arith, c.put_bytes-first.ensures.ends, c.put_field-second.ensures.upper_bound, c.put_name_field-third.ensures.upper_bound, c.put_kind_field.ensures.ends) }
+returns c = record { writes = both c.put_word-first.ensures (both c.put_field-second.ensures.writes (both c.put_name_field-third.ensures.writes c.put_kind_field.ensures)); upper_bound = omega (arith, c.put_word-first.ensures.ends, c.put_field-second.ensures.upper_bound, c.put_name_field-third.ensures.upper_bound, c.put_kind_field.ensures.ends) }

@@ -1,6 +1,5 @@
 -- `listing::put_kind_field` meets its contract: one write after the other.
 use Rattle.digits.proofs.Writing.{both}
-use borrow.Author.Rules.{rules}
 use Rattle.listing.proofs.put_kind_field.Goals as goal
 
 pub returns : goal.returns

@@ -2,7 +2,6 @@
 use native.Mathlib.Omega.{arith}
 use Rattle.pen.proofs.Names.{name-length}
 use Rattle.digits.proofs.Writing.{both}
-use borrow.Author.Rules.{rules}
 use Rattle.listing.proofs.put_name_field.Goals as goal
 
 pub returns : goal.returns

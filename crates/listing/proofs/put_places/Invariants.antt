@@ -1,8 +1,7 @@
 -- `listing::put_places` meets its contract: `Telling` says what is written, and the measure is how many places are left.
 use Prim.Native.Nat.{◌-◌}
-use native.Mathlib.Omega.{arith}
 use lib.ListN.{length}
-use Rattle.listing.proofs.Places.{Telling, none_told, one_told, all_told, all_there}
+use Rattle.listing.proofs.Places.{Telling}
 use Rattle.listing.proofs.put_places.Given as goal
 
 abbrev pub invariant-loop-i : goal.invariant-loop-i

@@ -1,9 +1,7 @@
 -- `listing::put_shapes` meets its contract: `Walking` says what is written and what is left, and the measure is how many bytes are.
 use Prim.Native.Nat.{◌-◌}
 use native.Mathlib.Omega.{arith}
-use lib.ListN.{length}
-use borrow.Author.Rules.{rules}
-use Rattle.listing.proofs.Walking.{Walking, first, next, fits, all_walked}
+use Rattle.listing.proofs.Walking.{first, next, fits, all_walked}
 use Rattle.listing.proofs.put_shapes.Goals as goal
 
 pub loop-i-init : goal.loop-i-init

@@ -4,14 +4,8 @@ use Rattle.definition.specs.Words.{bytes_of}
 use Rattle.listing.specs.Account.{total_line}
 use Rattle.definition.specs.Listing.{fields}
 use Rattle.digits.proofs.Writing.{both}
-use borrow.Author.Rules.{rules}
 use Rattle.listing.proofs.put_total.Goals as goal
-
--- UNTURNED: 8 needs are listed, and 7 are named
-
-slice-aggregate-put-bytes : tie.Need-slice-aggregate-put-bytes
-slice-aggregate-put-bytes c = search rules
 
 pub returns : goal.returns
 unfolding bytes_of total_line fields
-returns c = record { writes = both c.put_bytes-first.ensures (both c.put_field-second.ensures.writes (both c.put_field-third.ensures.writes (both c.put_field-last.ensures.writes c.put.ensures))); upper_bound = omega (arith, c.put_bytes-first.ensures.ends, c.put_field-second.ensures.upper_bound, c.put_field-third.ensures.upper_bound, c.put_field-last.ensures.upper_bound, c.put.ensures.ends) }
+returns c = record { writes = both c.put_word-first.ensures (both c.put_field-second.ensures.writes (both c.put_field-third.ensures.writes (both c.put_field-last.ensures.writes c.put.ensures))); upper_bound = omega (arith, c.put_word-first.ensures.ends, c.put_field-second.ensures.upper_bound, c.put_field-third.ensures.upper_bound, c.put_field-last.ensures.upper_bound, c.put.ensures.ends) }

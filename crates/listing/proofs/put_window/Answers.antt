@@ -6,18 +6,10 @@ use Rattle.listing.proofs.Steps.{told-field, some_window, no_window}
 use borrow.Author.Rules.{rules}
 use Rattle.listing.proofs.put_window.Goals as goal
 
--- UNTURNED: 13 needs are listed, and 11 are named
-
-slice-aggregate-put-bytes : tie.Need-slice-aggregate-put-bytes
-slice-aggregate-put-bytes c = search rules
-
-slice-aggregate-put-bytes-2 : tie.Need-slice-aggregate-put-bytes-2
-slice-aggregate-put-bytes-2 c = search rules
-
 pub returns-then-some : goal.returns-then-some
 unfolding bytes_of
-returns-then-some c = record { writes = some_window c.args.xs c.args.ys c.if-some.true (both c.put_bytes-first.ensures (both (told-field c.args.xs.low c.type_inv.xs c.put_signed_field-second.ensures.writes) (both (told-field c.args.ys.low c.type_inv.ys c.put_signed_field-third.ensures.writes) (both (told-field c.args.xs.high c.type_inv.xs c.put_signed_field-fourth.ensures.writes) (both (told-field c.args.ys.high c.type_inv.ys c.put_signed_field-last.ensures.writes) c.put.ensures))))); upper_bound = omega (arith, c.put_bytes-first.ensures.ends, c.put_signed_field-second.ensures.upper_bound, c.put_signed_field-third.ensures.upper_bound, c.put_signed_field-fourth.ensures.upper_bound, c.put_signed_field-last.ensures.upper_bound, c.put.ensures.ends) }
+returns-then-some c = record { writes = some_window c.args.xs c.args.ys c.if-some.true (both c.put_word-first.ensures (both (told-field c.args.xs.low (search rules) c.put_signed_field-second.ensures.writes) (both (told-field c.args.ys.low (search rules) c.put_signed_field-third.ensures.writes) (both (told-field c.args.xs.high (search rules) c.put_signed_field-fourth.ensures.writes) (both (told-field c.args.ys.high (search rules) c.put_signed_field-last.ensures.writes) c.put.ensures))))); upper_bound = omega (arith, c.put_word-first.ensures.ends, c.put_signed_field-second.ensures.upper_bound, c.put_signed_field-third.ensures.upper_bound, c.put_signed_field-fourth.ensures.upper_bound, c.put_signed_field-last.ensures.upper_bound, c.put.ensures.ends) }
 
 pub returns : goal.returns
 unfolding bytes_of
-returns c = record { writes = no_window c.args.xs c.args.ys c.if-some.false (both c.put_bytes-first.ensures c.put_bytes.ensures); upper_bound = omega (arith, c.put_bytes-first.ensures.ends, c.put_bytes.ensures.ends) }
+returns c = record { writes = no_window c.args.xs c.args.ys c.if-some.false (both c.put_word-first.ensures c.put_word.ensures); upper_bound = omega (arith, c.put_word-first.ensures.ends, c.put_word.ensures.ends) }

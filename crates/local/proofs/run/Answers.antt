@@ -1,4 +1,4 @@
--- `local::run` meets its contract: the loop's invariant is `RunSoFar`, and each need is one law of it.
+-- `local::run` meets its contract: the loop's invariant is `RunSoFar`, and each goal is one law of it.
 use mathlib.Core.Path.{refl, ap}
 use native.Mathlib.Omega.{arith}
 use lib.ListN.{replicate}
@@ -6,50 +6,29 @@ use Rattle.machine.specs.Underway.{turns_left}
 use Rattle.local.proofs.RunSoFar.{RunSoFar, begins, slot_low, asks, goes_on, falls, ends}
 use Rattle.local.proofs.run.Goals as goal
 
-pub no_record-none-requires : goal.no_record-none-requires
-no_record-none-requires c = tt
-
--- src/lib.rt:44:5
-
 pub loop-s-init : goal.loop-s-init
 loop-s-init c = begins c.requires.0 c.requires.1 (ap (replicate 64) c.no_record-none.ensures)
-
--- src/lib.rt:46:19
 
 pub offset_bounds-frames-slot : goal.offset_bounds-frames-slot
 offset_bounds-frames-slot c = omega (arith, slot_low c.loop-s.invariant c.loop-s-test.true, c.loop-s.invariant.full)
 
--- src/lib.rt:46:19
-
 pub bounds-frames-slot : goal.bounds-frames-slot
 bounds-frames-slot c = omega (arith, slot_low c.loop-s.invariant c.loop-s-test.true, c.loop-s.invariant.full)
-
--- src/lib.rt:48:9
 
 pub offset_bounds-frames-slot-in-loop-s : goal.offset_bounds-frames-slot-in-loop-s
 offset_bounds-frames-slot-in-loop-s c = omega (arith, slot_low c.loop-s.invariant c.loop-s-test.true, c.loop-s.invariant.full)
 
--- src/lib.rt:48:9
-
 pub bounds-frames-slot-in-loop-s : goal.bounds-frames-slot-in-loop-s
 bounds-frames-slot-in-loop-s c = omega (arith, slot_low c.loop-s.invariant c.loop-s-test.true, c.loop-s.invariant.full)
-
--- src/lib.rt:49:9
 
 pub turn-s-requires : goal.turn-s-requires
 turn-s-requires c = asks c.loop-s.invariant c.loop-s-test.true refl
 
--- src/lib.rt:44:5
-
 pub loop-s-smaller : goal.loop-s-smaller
 loop-s-smaller c = falls c.loop-s.invariant c.loop-s-test.true refl c.turn-s.ensures
 
--- src/lib.rt:44:5
-
 pub loop-s-preserved : goal.loop-s-preserved
-loop-s-preserved c = goes_on c.loop-s.invariant c.loop-s-test.true refl c.turn-s.ensures c.turn-s.auto.1.1.0 c.turn-s.auto.1.1.1.0
-
--- src/lib.rt:30:1
+loop-s-preserved c = goes_on c.loop-s.invariant c.loop-s-test.true refl c.turn-s.ensures c.turn-s.auto.bodies c.turn-s.auto.room
 
 pub returns : goal.returns
 returns c = ends c.loop-s.invariant c.loop-s-test.false

@@ -11,5 +11,3 @@ invariant-loop-s l = RunSoFar l.text l.records l.initial.s l.initial.rows l.init
 
 abbrev pub decreases-loop-s : goal.decreases-loop-s
 decreases-loop-s l = turns_left l.s
-
--- src/lib.rt:41:9

@@ -16,7 +16,7 @@ pub here_of-requires : goal.here_of-requires
 here_of-requires c = back-layer c.requires.1.1 c.if-c-eq0.false
 
 pub body_on-requires : goal.body_on-requires
-body_on-requires c = (_, (_, here_in UNTURNED.c.Here-of.ensures (back-body c.requires.1.1 c.if-c-eq0.false)))
+body_on-requires c = (_, (_, here_in c.here_of.ensures (back-body c.requires.1.1 c.if-c-eq0.false)))
 
 pub returns : goal.returns
-returns c = λ h fs x. c.body_on.ensures h fs (here_in UNTURNED.c.before.before.before.before.Here-of.ensures (back-body x c.if-c-eq0.false))
+returns c = λ h fs x. c.body_on.ensures h fs (here_in c.here_of.ensures (back-body x c.if-c-eq0.false))

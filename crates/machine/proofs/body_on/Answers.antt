@@ -20,7 +20,7 @@ pub returns-in-Stops : goal.returns-in-Stops
 returns-in-Stops c = λ h fs x. body-stopped x _ c.body_stretch.ensures c.in-Stops.is c.stopped.ensures
 
 pub returns-in-Ends : goal.returns-in-Ends
-returns-in-Ends c = λ h fs x. body_ended x _ c.body_stretch.ensures c.in-Ends.is c.body_stretch.auto.1.1.0 c.popped.ensures
+returns-in-Ends c = λ h fs x. body_ended x _ c.body_stretch.ensures c.in-Ends.is c.body_stretch.auto.room c.popped.ensures
 
 pub returns-in-Calls : goal.returns-in-Calls
-returns-in-Calls c = λ h fs x. body-called x _ c.body_stretch.ensures c.in-Calls.is c.body_stretch.auto.1.1.0 c.pushed.ensures
+returns-in-Calls c = λ h fs x. body-called x _ c.body_stretch.ensures c.in-Calls.is c.body_stretch.auto.room c.pushed.ensures

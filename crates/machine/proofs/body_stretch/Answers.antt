@@ -17,4 +17,4 @@ pub draw_body-requires : goal.draw_body-requires
 draw_body-requires c = body_asked c.args.rows.now c.args.bodies.now c.args.c c.args.here c.at_most-lent.ensures c.requires
 
 pub returns : goal.returns
-returns c = stretched c.args.rows.now c.args.bodies.now c.args.c c.args.here c.at_most-lent.ensures c.requires c.args.room.now c.seen-onto.ensures _ _ c.draw_body.auto.1.1.1.1.0 c.draw_body.ensures.body_comes c.draw_body.ensures.grows
+returns c = stretched c.args.rows.now c.args.bodies.now c.args.c c.args.here c.at_most-lent.ensures c.requires c.args.room.now c.seen-onto.ensures _ _ c.draw_body.auto.room c.draw_body.ensures.body_comes c.draw_body.ensures.grows

@@ -24,4 +24,4 @@ pub returns-in-Over : goal.returns-in-Over
 returns-in-Over c = λ h fs x. sooner (c.measured.ensures h fs (text_measured x c.requires.0 _ _ c.text_stretch.ensures c.in-Over.is)) (measure_bound c.args.c c.requires.0)
 
 pub returns-in-Calls : goal.returns-in-Calls
-returns-in-Calls c = λ h fs x. text-called x _ _ c.text_stretch.ensures c.in-Calls.is c.text_stretch.auto.1.1.1.0 c.pushed.ensures
+returns-in-Calls c = λ h fs x. text-called x _ _ c.text_stretch.ensures c.in-Calls.is c.text_stretch.auto.room c.pushed.ensures

@@ -20,4 +20,4 @@ pub overflow_add-course : goal.overflow_add-course
 overflow_add-course c = omega (arith, c.requires.1)
 
 pub returns : goal.returns
-returns c = record { run = _; pushed = c.push.ensures; same = c.push.auto.0; fits = c.frame_of-put.ensures.1; is = rw (c.frame_of-put.ensures.0, c.start_at-from.ensures, c.length_at-size.ensures, c.accepted-none.ensures, c.no_counts.ensures) }
+returns c = record { run = _; pushed = c.push.ensures; same = c.push.auto.run; fits = c.frame_of-put.ensures.1; is = rw (c.frame_of-put.ensures.0, c.start_at-from.ensures, c.length_at-size.ensures, c.accepted-none.ensures, c.no_counts.ensures) }

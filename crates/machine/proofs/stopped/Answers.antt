@@ -9,7 +9,7 @@ pub stop-requires : goal.stop-requires
 stop-requires c = (c.requires.1, c.requires.0)
 
 pub refused-answer-requires : goal.refused-answer-requires
-refused-answer-requires c = c.stop.auto.0 ∙ c.requires.0
+refused-answer-requires c = c.stop.auto.run ∙ c.requires.0
 
 pub returns : goal.returns
 returns c = stopped_so _ _ _ c.refused-answer.ensures c.stop.ensures c.unwind.ensures

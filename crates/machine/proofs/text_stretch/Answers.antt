@@ -14,4 +14,4 @@ pub draw_text-requires : goal.draw_text-requires
 draw_text-requires c = (c.requires.0, text_asked c.args.text.now c.args.rows.now c.args.bodies.now c.args.c c.args.room.now c.at_most-lent.ensures c.seen-onto.ensures c.requires.1)
 
 pub returns : goal.returns
-returns c = text-passed c.args.text.now c.args.rows.now c.args.bodies.now c.args.c c.args.room.now c.at_most-lent.ensures c.seen-onto.ensures _ _ _ _ c.draw_text.auto.1.1.0 c.draw_text.auto.1.1.1.1.0 c.draw_text.ensures.text_comes c.draw_text.ensures.text_grows
+returns c = text-passed c.args.text.now c.args.rows.now c.args.bodies.now c.args.c c.args.room.now c.at_most-lent.ensures c.seen-onto.ensures _ _ _ _ c.draw_text.auto.bodies c.draw_text.auto.room c.draw_text.ensures.text_comes c.draw_text.ensures.text_grows

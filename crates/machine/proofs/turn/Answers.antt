@@ -5,7 +5,7 @@ use Rattle.machine.proofs.Turning.{clear_asks, clear_slot, push_asks, pop_asks, 
 use Rattle.machine.proofs.turn.Goals as goal
 
 pub overflow_add-s : goal.overflow_add-s
-overflow_add-s c = omega (arith, clear_slot c.requires c.in-Clear.is, UNTURNED.c.before.before.before.before.before.before.before.before.before.well-formed)
+overflow_add-s c = let z = clear_slot c.requires c.in-Clear.is in omega arith
 
 pub clear-requires : goal.clear-requires
 clear-requires c = clear_asks c.requires c.in-Clear.is

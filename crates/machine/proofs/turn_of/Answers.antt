@@ -1,5 +1,4 @@
 -- `turn_of` meets its contract: three bits.
-use borrow.Author.Rules.{rules}
 use native.Mathlib.Omega.{arith}
 use Rattle.machine.proofs.Making.{bit_most}
 use Rattle.machine.proofs.turn_of.Goals as goal

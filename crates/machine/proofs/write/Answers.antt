@@ -23,4 +23,4 @@ pub returns-in-Over : goal.returns-in-Over
 returns-in-Over c = λ h fs x. text-written x c.requires.0 _ _ c.text_stretch.ensures c.in-Over.is c.written.ensures
 
 pub returns-in-Calls : goal.returns-in-Calls
-returns-in-Calls c = λ h fs x. text-called x _ _ c.text_stretch.ensures c.in-Calls.is c.text_stretch.auto.1.1.1.0 c.pushed.ensures
+returns-in-Calls c = λ h fs x. text-called x _ _ c.text_stretch.ensures c.in-Calls.is c.text_stretch.auto.room c.pushed.ensures

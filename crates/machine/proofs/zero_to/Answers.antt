@@ -1,5 +1,4 @@
 -- `zero_to` meets its contract: no body goes on by the state.
-use borrow.Author.Rules.{rules}
 use Rattle.machine.proofs.zero_to.Goals as goal
 
 pub returns : goal.returns

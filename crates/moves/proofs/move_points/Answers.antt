@@ -1,9 +1,6 @@
 -- `move_points` meets its contract. The invariant, whatever the points are called: those done stand in their places (`Moving`).
-use Prim.Native.Nat.{◌-◌}
 use native.Mathlib.Omega.{arith}
-use borrow.Author.Rules.{rules}
-use Rattle.moves.specs.Moves.{Pointed}
-use Rattle.moves.proofs.Moves.{Moving, begin, numbers-length, pair_fits, one_point, all_moved}
+use Rattle.moves.proofs.Moves.{begin, numbers-length, pair_fits, one_point, all_moved}
 use Rattle.moves.proofs.move_points.Goals as goal
 
 pub loop-next-init : goal.loop-next-init

@@ -1,7 +1,6 @@
 -- `points_end` meets its contract: only a box has a direction, of two numbers.
 use mathlib.Core.Path.{sym, ◌∙◌}
 use native.Mathlib.Omega.{arith}
-use borrow.Author.Rules.{rules}
 use Rattle.moves.proofs.Moves.{directions_B, directions_other}
 use Rattle.moves.proofs.points_end.Goals as goal
 

@@ -12,7 +12,7 @@ slice_bounds-draw_text-end c = lent_in _ c.at_most-lent.ensures
 
 pub draw_text-requires : goal.draw_text-requires
 unfolding kinds table
-draw_text-requires c = record { kinds_lent = (record { is = refl }, record { is = refl }); passed = (c.requires.0, refl, lent-short (length c.args.bodies.now) c.at_most-lent.ensures c.draw_text-arg-1.given.2); most_values_in_bounds = (omega arith, omega arith, c.requires.1) }
+draw_text-requires c = record { kinds_lent = (record { is = refl }, record { is = refl }); passed = (c.requires.0, refl, lent-short (length c.args.bodies.now) c.at_most-lent.ensures (search rules)); most_values_in_bounds = (omega arith, omega arith, c.requires.1) }
 
 pub returns : goal.returns
-returns c = draws-lent _ c.at_most-lent.ensures c.draw_text-arg-1.given.2 _ c.draw_text.ensures
+returns c = draws-lent _ c.at_most-lent.ensures (search rules) _ c.draw_text.ensures

@@ -1,11 +1,9 @@
 -- `draw_text` meets its contract: `Passing` holds before each command, and what is left of the text falls.
 use mathlib.Core.Path.{sym, ◌∙◌}
-use Prim.Native.Nat.{◌-◌}
 use native.Mathlib.Omega.{arith}
 use borrow.Author.Rules.{rules}
-use lib.ListN.{length}
 use Rattle.passing.proofs.Reading.{read_one}
-use Rattle.passing.proofs.Passing.{Passing, passing_begin, room_there, few-redefined, may_delete, ready, passing_out, words_then, layer_fits, passing_layer, passing_delete, passing_starts, passing_begins, size_then, defined_on, passing_defined, passing_overfull, passing_short, passing_idle, passing_says, passing_drawn, passing_stopped}
+use Rattle.passing.proofs.Passing.{passing_begin, few-redefined, may_delete, ready, passing_out, words_then, layer_fits, passing_layer, passing_delete, passing_starts, passing_begins, defined_on, passing_defined, passing_overfull, passing_short, passing_idle, passing_says, passing_drawn, passing_stopped}
 use Rattle.passing.proofs.draw_text.Goals as goal
 
 pub loop-kind-init : goal.loop-kind-init
@@ -21,13 +19,13 @@ pub slice_copy_out-layer : goal.slice_copy_out-layer
 slice_copy_out-layer c = omega (arith, words_then c.loop-kind.invariant c.requires.most_values_in_bounds.0 (read_one c.read_command.ensures c.in-Decoded.is).1)
 
 pub overflow_cast-layer : goal.overflow_cast-layer
-overflow_cast-layer c = layer_fits c.loop-kind.invariant c.requires.most_values_in_bounds.0 (read_one c.read_command.ensures c.in-Decoded.is).1 c.if-kind-eq76.true (record { sfits = c.layer-1.given })
+overflow_cast-layer c = layer_fits c.loop-kind.invariant c.requires.most_values_in_bounds.0 (read_one c.read_command.ensures c.in-Decoded.is).1 c.if-kind-eq76.true (search rules)
 
 pub loop-kind-smaller-then-kind-eq76 : goal.loop-kind-smaller-then-kind-eq76
 loop-kind-smaller-then-kind-eq76 c = omega (arith, (read_one c.read_command.ensures c.in-Decoded.is).1.ahead, (read_one c.read_command.ensures c.in-Decoded.is).1.fit.within)
 
 pub loop-kind-preserved-then-kind-eq76 : goal.loop-kind-preserved-then-kind-eq76
-loop-kind-preserved-then-kind-eq76 c = passing_layer c.loop-kind.invariant c.requires.most_values_in_bounds.0 (read_one c.read_command.ensures c.in-Decoded.is).1 c.if-kind-eq76.true (record { sfits = c.layer-1.given })
+loop-kind-preserved-then-kind-eq76 c = passing_layer c.loop-kind.invariant c.requires.most_values_in_bounds.0 (read_one c.read_command.ensures c.in-Decoded.is).1 c.if-kind-eq76.true (search rules)
 
 pub size_at-symbol-requires : goal.size_at-symbol-requires
 size_at-symbol-requires c = omega (arith, words_then c.loop-kind.invariant c.requires.most_values_in_bounds.0 (read_one c.read_command.ensures c.in-Decoded.is).1)
@@ -72,7 +70,7 @@ pub loop-kind-smaller-in-Done : goal.loop-kind-smaller-in-Done
 loop-kind-smaller-in-Done c = omega (arith, (read_one c.read_command.ensures c.in-Decoded.is).1.ahead, (read_one c.read_command.ensures c.in-Decoded.is).1.fit.within)
 
 pub loop-kind-preserved-in-Done : goal.loop-kind-preserved-in-Done
-loop-kind-preserved-in-Done c = passing_drawn c.loop-kind.invariant c.requires.most_values_in_bounds.0 (read_one c.read_command.ensures c.in-Decoded.is).1 c.if-kind-eq76.false c.if-kind-eq68.false c.if-kind-eq83.false (sym c.draws.ensures ∙ c.if-draws.true) _ c.draw_outer.ensures c.in-Done.is c.draw_outer.auto.1.1.1.1.0 c.draw_outer.auto.1.1.1.1.1.0
+loop-kind-preserved-in-Done c = passing_drawn c.loop-kind.invariant c.requires.most_values_in_bounds.0 (read_one c.read_command.ensures c.in-Decoded.is).1 c.if-kind-eq76.false c.if-kind-eq68.false c.if-kind-eq83.false (sym c.draws.ensures ∙ c.if-draws.true) _ c.draw_outer.ensures c.in-Done.is c.draw_outer.auto.numbers c.draw_outer.auto.drawing
 
 pub returns-in-Refused : goal.returns-in-Refused
 returns-in-Refused c = passing_stopped c.loop-kind.invariant c.requires.most_values_in_bounds.0 (read_one c.read_command.ensures c.in-Decoded.is).1 c.if-kind-eq76.false c.if-kind-eq68.false c.if-kind-eq83.false (sym c.draws.ensures ∙ c.if-draws.true) _ c.draw_outer.ensures c.in-Refused.is

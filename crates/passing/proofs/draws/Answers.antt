@@ -1,5 +1,4 @@
 -- `draws` meets its contract: a call's letter, or one of a shape.
-use borrow.Author.Rules.{rules}
 use borrow.Author.Tests.{eq-eqb, ne_eqb}
 use Rattle.passing.proofs.draws.Goals as goal
 

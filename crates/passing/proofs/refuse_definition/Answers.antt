@@ -2,7 +2,6 @@
 use mathlib.Core.Path.{refl, ◌∙◌}
 use native.Mathlib.Omega.{arith}
 use Rattle.chain.proofs.Runs.{none_open}
-use borrow.Author.Rules.{rules}
 use Rattle.passing.proofs.refuse_definition.Goals as goal
 
 pub stop-requires : goal.stop-requires

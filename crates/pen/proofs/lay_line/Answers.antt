@@ -1,6 +1,5 @@
 -- `pen::lay_line` meets its contract: the letter, the numbers and the line's end, one write after the other.
 use native.Mathlib.Omega.{arith}
-use borrow.Author.Rules.{rules}
 use Rattle.digits.proofs.Writing.{both}
 use Rattle.pen.proofs.lay_line.Goals as goal
 

@@ -1,10 +1,7 @@
 -- `pen::lay_numbers` meets its contract, by the invariant of `put_numbers`: a number has 21 bytes at most, so what is left fits.
 use Prim.Native.Nat.{◌-◌}
-use native.Mathlib.Omega.{arith}
-use lib.IntN.{pos}
-use lib.ListN.{length, get_or}
-use Rattle.digits.proofs.Signs.{lent}
-use Rattle.pen.proofs.Numbers.{Along, first-along, next-along, all_along}
+use lib.ListN.{length}
+use Rattle.pen.proofs.Numbers.{Along}
 use Rattle.pen.proofs.lay_numbers.Given as goal
 
 abbrev pub invariant-loop-i : goal.invariant-loop-i

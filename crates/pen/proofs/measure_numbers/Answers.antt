@@ -1,14 +1,11 @@
 -- `pen::measure_numbers` meets its contract, by the invariant of `put_numbers` in a room of no bytes.
-use mathlib.Core.List.{[]}
-use Prim.Native.Nat.{◌-◌}
 use native.Mathlib.Omega.{arith}
-use borrow.Author.Rules.{rules}
 use lib.Dec.{eqb}
 use lib.IntN.{pos}
-use lib.ListN.{length, get_or}
+use lib.ListN.{get_or}
 use Rattle.digits.proofs.Writing.{only_counted}
 use Rattle.digits.proofs.Signs.{lent}
-use Rattle.pen.proofs.Numbers.{Along, first-along, next-along, all_along, number-64}
+use Rattle.pen.proofs.Numbers.{first-along, next-along, all_along, number-64}
 use Rattle.pen.proofs.measure_numbers.Goals as goal
 
 pub loop-i-init : goal.loop-i-init
@@ -21,7 +18,7 @@ pub bounds-numbers-i : goal.bounds-numbers-i
 bounds-numbers-i c = omega arith
 
 pub overflow_add-at : goal.overflow_add-at
-overflow_add-at c = let z = lent (get_or c.args.numbers.now c.loop-i.i (pos 0)) c.number_length-arg-1.given in let e = rw z.0 at c.number_length-at.ensures in let l = number-64 (eqb c.loop-i.i 0) (get_or c.args.numbers.now c.loop-i.i (pos 0)) z.1 in omega (arith, e, l, c.loop-i.invariant.short)
+overflow_add-at c = let z = lent (get_or c.args.numbers.now c.loop-i.i (pos 0)) (omega arith) in let e = rw z.0 at c.number_length-at.ensures in let l = number-64 (eqb c.loop-i.i 0) (get_or c.args.numbers.now c.loop-i.i (pos 0)) z.1 in omega (arith, e, l, c.loop-i.invariant.short)
 
 pub overflow_add-i : goal.overflow_add-i
 overflow_add-i c = omega arith
@@ -30,7 +27,7 @@ pub loop-i-smaller : goal.loop-i-smaller
 loop-i-smaller c = omega arith
 
 pub loop-i-preserved : goal.loop-i-preserved
-loop-i-preserved c = let z = lent (get_or c.args.numbers.now c.loop-i.i (pos 0)) c.number_length-arg-1.given in next-along c.loop-i.invariant (omega arith) z.1 (only_counted (omega arith) (let e = rw z.0 at c.number_length-at.ensures in omega (arith, e)))
+loop-i-preserved c = let z = lent (get_or c.args.numbers.now c.loop-i.i (pos 0)) (omega arith) in next-along c.loop-i.invariant (omega arith) z.1 (only_counted (omega arith) (let e = rw z.0 at c.number_length-at.ensures in omega (arith, e)))
 
 pub returns : goal.returns
 returns c = ((all_along c.loop-i.invariant c.loop-i-test.false).ends, omega (arith, c.loop-i.invariant.short))

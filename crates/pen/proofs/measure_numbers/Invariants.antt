@@ -1,14 +1,8 @@
 -- `pen::measure_numbers` meets its contract, by the invariant of `put_numbers` in a room of no bytes.
 use mathlib.Core.List.{[]}
 use Prim.Native.Nat.{◌-◌}
-use native.Mathlib.Omega.{arith}
-use borrow.Author.Rules.{rules}
-use lib.Dec.{eqb}
-use lib.IntN.{pos}
-use lib.ListN.{length, get_or}
-use Rattle.digits.proofs.Writing.{only_counted}
-use Rattle.digits.proofs.Signs.{lent}
-use Rattle.pen.proofs.Numbers.{Along, first-along, next-along, all_along, number-64}
+use lib.ListN.{length}
+use Rattle.pen.proofs.Numbers.{Along}
 use Rattle.pen.proofs.measure_numbers.Given as goal
 
 abbrev pub invariant-loop-i : goal.invariant-loop-i

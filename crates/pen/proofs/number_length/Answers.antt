@@ -1,7 +1,6 @@
 -- `pen::number_length` meets its contract: one byte more for the space before a number that is not the first.
 use native.Mathlib.Omega.{arith}
 use mir.Facts.{to_z-of_z}
-use borrow.Author.Rules.{rules}
 use Rattle.digits.proofs.Signs.{lent}
 use Rattle.digits.proofs.Digits.{decimal-64}
 use Rattle.pen.proofs.number_length.Goals as goal

@@ -1,7 +1,6 @@
 -- `pen::put_cut_line` meets its contract: the letter, the numbers and the line's end, one write after the other.
 use native.Mathlib.Omega.{arith}
 use Rattle.digits.proofs.Writing.{both}
-use borrow.Author.Rules.{rules}
 use Rattle.pen.proofs.put_cut_line.Goals as goal
 
 pub returns : goal.returns

@@ -3,7 +3,6 @@ use mathlib.Core.Path.{sym}
 use native.Mathlib.Omega.{arith}
 use Rattle.digits.proofs.Writing.{both, same_bytes, nothing}
 use Rattle.pen.proofs.Names.{name-length, no_line, a_line}
-use borrow.Author.Rules.{rules}
 use Rattle.pen.proofs.put_layer_line.Goals as goal
 
 pub returns-then-before-layer : goal.returns-then-before-layer

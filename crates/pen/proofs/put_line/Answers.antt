@@ -1,7 +1,6 @@
 -- `pen::put_line` meets its contract: a line is measured, or stored without tests, or byte by byte.
 use mathlib.Core.List.{[], ◌∷◌}
 use native.Mathlib.Omega.{arith}
-use borrow.Author.Rules.{rules}
 use lib.ListN.{length-append}
 use Rattle.definition.specs.Flat.{spaced}
 use Rattle.digits.proofs.Writing.{only_counted}

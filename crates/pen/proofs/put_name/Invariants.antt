@@ -1,11 +1,8 @@
 -- `pen::put_name` meets its contract: what is left to write is the name of what is left of the number, whose length is the measure.
-use mathlib.Core.Path.{ap}
 use Prim.Native.Nat.{◌<◌}
-use native.Mathlib.Omega.{arith}
 use lib.ListN.{length}
 use Rattle.pen.specs.Names.{name_of}
-use Rattle.digits.proofs.Writing.{WrittenSoFar, begun, goes_on, over, reaches}
-use Rattle.pen.proofs.Names.{name-bytes, name-length, no_name}
+use Rattle.digits.proofs.Writing.{WrittenSoFar}
 use Rattle.pen.proofs.put_name.Given as goal
 
 abbrev pub invariant-loop-rest : goal.invariant-loop-rest

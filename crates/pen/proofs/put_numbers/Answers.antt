@@ -1,10 +1,9 @@
 -- `pen::put_numbers` meets its contract: the loop's invariant says how many numbers are written, and the measure how many are left.
-use Prim.Native.Nat.{◌-◌}
 use native.Mathlib.Omega.{arith}
 use lib.IntN.{pos}
-use lib.ListN.{length, get_or}
+use lib.ListN.{get_or}
 use Rattle.digits.proofs.Signs.{lent}
-use Rattle.pen.proofs.Numbers.{Along, first-along, next-along, all_along}
+use Rattle.pen.proofs.Numbers.{first-along, next-along, all_along}
 use Rattle.pen.proofs.put_numbers.Goals as goal
 
 pub loop-i-init : goal.loop-i-init
@@ -26,7 +25,7 @@ pub loop-i-smaller : goal.loop-i-smaller
 loop-i-smaller c = omega arith
 
 pub loop-i-preserved : goal.loop-i-preserved
-loop-i-preserved c = let z = lent (get_or c.args.numbers.now c.loop-i.i (pos 0)) c.put_number-arg-in-loop-i-1.given in next-along c.loop-i.invariant (omega arith) z.1 (rw z.0 at c.put_number-at.ensures)
+loop-i-preserved c = let z = lent (get_or c.args.numbers.now c.loop-i.i (pos 0)) (omega arith) in next-along c.loop-i.invariant (omega arith) z.1 (rw z.0 at c.put_number-at.ensures)
 
 pub returns : goal.returns
 returns c = record { writes = all_along c.loop-i.invariant c.loop-i-test.false; upper_bound = omega arith }

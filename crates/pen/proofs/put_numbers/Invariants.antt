@@ -1,10 +1,7 @@
 -- `pen::put_numbers` meets its contract: the loop's invariant says how many numbers are written, and the measure how many are left.
 use Prim.Native.Nat.{◌-◌}
-use native.Mathlib.Omega.{arith}
-use lib.IntN.{pos}
-use lib.ListN.{length, get_or}
-use Rattle.digits.proofs.Signs.{lent}
-use Rattle.pen.proofs.Numbers.{Along, first-along, next-along, all_along}
+use lib.ListN.{length}
+use Rattle.pen.proofs.Numbers.{Along}
 use Rattle.pen.proofs.put_numbers.Given as goal
 
 abbrev pub invariant-loop-i : goal.invariant-loop-i

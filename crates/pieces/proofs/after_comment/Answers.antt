@@ -1,9 +1,6 @@
 -- `after_comment` meets its contract: Commented holds at each byte, and what is left of the text falls.
-use Prim.Native.Nat.{◌-◌}
 use native.Mathlib.Omega.{arith}
-use borrow.Author.Rules.{rules}
-use lib.ListN.{length}
-use Rattle.pieces.proofs.Comments.{Commented, comment_start, comment_ended, comment_stuck, comment_next, comment_closed}
+use Rattle.pieces.proofs.Comments.{comment_start, comment_ended, comment_stuck, comment_next, comment_closed}
 use Rattle.pieces.proofs.after_comment.Goals as goal
 
 pub loop-i-init : goal.loop-i-init

@@ -1,9 +1,7 @@
 -- `after_comment` meets its contract: Commented holds at each byte, and what is left of the text falls.
 use Prim.Native.Nat.{◌-◌}
-use native.Mathlib.Omega.{arith}
-use borrow.Author.Rules.{rules}
 use lib.ListN.{length}
-use Rattle.pieces.proofs.Comments.{Commented, comment_start, comment_ended, comment_stuck, comment_next, comment_closed}
+use Rattle.pieces.proofs.Comments.{Commented}
 use Rattle.pieces.proofs.after_comment.Given as goal
 
 abbrev pub invariant-loop-i : goal.invariant-loop-i

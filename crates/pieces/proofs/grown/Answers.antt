@@ -1,6 +1,5 @@
 -- `grown` meets its contract: a digit more, capped.
 use mathlib.Core.Path.{sym}
-use borrow.Author.Rules.{rules}
 use Rattle.pieces.proofs.Capped.{cap_low, cap_high}
 use Rattle.pieces.proofs.grown.Goals as goal
 

@@ -1,10 +1,7 @@
 -- `next_mark` meets its contract: until a letter begins a piece Seeking holds, and what is left of the text falls.
-use Prim.Native.Nat.{◌-◌}
 use native.Mathlib.Omega.{arith}
-use borrow.Author.Rules.{rules}
-use lib.ListN.{length}
 use Rattle.grammar.specs.Steps.{number}
-use Rattle.pieces.proofs.Marks.{Seeking, seek_start, seek_ended, seek_stuck, seek_next, seek_found, seek_comment, comment_state}
+use Rattle.pieces.proofs.Marks.{seek_start, seek_ended, seek_stuck, seek_next, seek_found, seek_comment, comment_state}
 use Rattle.pieces.proofs.next_mark.Goals as goal
 
 pub loop-i-init : goal.loop-i-init

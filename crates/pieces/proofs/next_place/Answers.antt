@@ -1,6 +1,5 @@
 -- `next_place` meets its contract.
 use borrow.Author.Tests.{eq-eqb, ne_eqb}
-use borrow.Author.Rules.{rules}
 use Rattle.grammar.specs.Steps.{number}
 use Rattle.pieces.specs.Pieces.{place_beyond}
 use Rattle.pieces.proofs.next_place.Goals as goal

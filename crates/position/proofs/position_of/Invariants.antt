@@ -1,9 +1,7 @@
 -- `position_of` meets its contract: the pass keeps line and column of each place (Passes).
-use borrow.Author.Rules.{rules}
-use native.Mathlib.Omega.{arith}
 use Prim.Native.Nat.{◌-◌}
 use lib.ListN.{length}
-use Rattle.position.proofs.Passes.{CountedSoFar, begin, at_line_end, at_other, found, at_the_end}
+use Rattle.position.proofs.Passes.{CountedSoFar}
 use Rattle.position.proofs.position_of.Given as goal
 
 abbrev pub invariant-loop-i : goal.invariant-loop-i

@@ -1,6 +1,5 @@
 -- `print_refusal` meets its contract: the listing of refusal 1 is the account's, which is computed.
 use Rattle.printout.proofs.Printing.{refusal-laid}
-use borrow.Author.Rules.{rules}
 use Rattle.printout.proofs.print_refusal.Goals as goal
 
 pub returns : goal.returns

@@ -1,6 +1,5 @@
 -- `print_text` meets its contract: a text that is too long is refused before it is read.
 use Rattle.printout.proofs.Printing.{over-printed}
-use borrow.Author.Rules.{rules}
 use Rattle.printout.proofs.print_text.Goals as goal
 
 pub returns-then-text-gt-MOST : goal.returns-then-text-gt-MOST

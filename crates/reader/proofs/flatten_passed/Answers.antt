@@ -2,7 +2,6 @@
 use mathlib.Core.Logic.{inl, inr}
 use native.Mathlib.Omega.{arith}
 use Rattle.reader.proofs.Promises.{far_below, over-told, stopped-told, written-told}
-use borrow.Author.Rules.{rules}
 use Rattle.reader.proofs.flatten_passed.Goals as goal
 
 pub overflow_add-length : goal.overflow_add-length
@@ -18,4 +17,4 @@ pub returns-in-Refused : goal.returns-in-Refused
 returns-in-Refused c = stopped-told _ c.requires.passed (c.draw.ensures c.requires.passed) c.in-Refused.is c.refused.ensures
 
 pub returns-else-length-gt-MOST_BYTES : goal.returns-else-length-gt-MOST_BYTES
-returns-else-length-gt-MOST_BYTES c = written-told _ c.requires.passed (c.draw.ensures c.requires.passed) c.in-Done.is c.draw.auto.1.0 c.requires.is (omega (arith, c.if-room-length.false)) (omega (arith, c.if-length-gt-MOST_BYTES.false)) (c.write_file.ensures c.requires.passed) c.accepted.ensures
+returns-else-length-gt-MOST_BYTES c = written-told _ c.requires.passed (c.draw.ensures c.requires.passed) c.in-Done.is c.draw.auto.bodies c.requires.is (omega (arith, c.if-room-length.false)) (omega (arith, c.if-length-gt-MOST_BYTES.false)) (c.write_file.ensures c.requires.passed) c.accepted.ensures

@@ -1,6 +1,5 @@
 -- `read_text` meets its contract: refusals 1 to 9 as `first_fault` finds them, and else as `flatten_passed` answers.
 use Rattle.reader.proofs.Promises.{fault-told, passes}
-use borrow.Author.Rules.{rules}
 use Rattle.reader.proofs.read_text.Goals as goal
 
 pub flatten_passed-requires : goal.flatten_passed-requires

@@ -1,5 +1,4 @@
 -- `too_long` meets its contract: 18 at place 0, outside of every call.
-use borrow.Author.Rules.{rules}
 use Rattle.reader.proofs.too_long.Goals as goal
 
 pub returns : goal.returns

@@ -1,6 +1,5 @@
 -- `check_by` meets its contract: the marking that the code reads is the only one, what it keeps comes to the account, and the account to the definition.
 use mathlib.Core.Path.{sym, ap, ◌∙◌}
-use borrow.Author.Rules.{rules}
 use mathlib.Core.List.{List}
 use Rattle.grammar.specs.Notation.{Letter}
 use Rattle.grammar.proofs.Markings.{marking_is}

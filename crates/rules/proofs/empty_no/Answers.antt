@@ -1,7 +1,6 @@
 -- `empty_no` meets its contract: one return for each way through the tests.
 use mathlib.Core.Path.{sym, ◌∙◌}
 use borrow.Author.Tests.{eq-eqb, ne_eqb}
-use borrow.Author.Rules.{rules}
 use Rattle.rules.proofs.empty_no.Goals as goal
 
 pub returns-then-is_vital : goal.returns-then-is_vital

@@ -1,6 +1,5 @@
 -- `is_bare` meets its contract: one return for each way through the tests.
 use mathlib.Core.Path.{sym, ◌∙◌}
-use borrow.Author.Rules.{rules}
 use Rattle.rules.specs.Rules.{bare}
 use Rattle.rules.proofs.is_bare.Goals as goal
 

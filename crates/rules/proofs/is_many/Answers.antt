@@ -1,6 +1,5 @@
 -- `is_many` meets its contract: one return for each way through the tests.
 use borrow.Author.Tests.{eq-eqb, ne_eqb}
-use borrow.Author.Rules.{rules}
 use Rattle.rules.specs.Rules.{many}
 use Rattle.rules.proofs.is_many.Goals as goal
 

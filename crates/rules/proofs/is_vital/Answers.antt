@@ -17,15 +17,15 @@ returns-then-letter-eq66 c = simp (eq-eqb _ _ c.if-letter-eq66.true, le-ltb _ _ 
 
 pub returns-then-index-eq0 : goal.returns-then-index-eq0
 unfolding vital
-returns-then-index-eq0 c = simp (ne_eqb _ _ c.if-letter-eq66.false, eq-eqb _ _ c.if-letter-eq67.true, eq-eqb _ _ c.if-latest-eq82.true, eq-eqb _ _ c.if-index-eq0.true)
+returns-then-index-eq0 c = simp (ne_eqb _ _ c.if-letter-eq66.false, eq-eqb _ _ c.if-letter-eq67.true, eq-eqb _ _ c.if-word-eq82.true, eq-eqb _ _ c.if-index-eq0.true)
 
-pub returns-then-latest-eq82 : goal.returns-then-latest-eq82
+pub returns-then-word-eq82 : goal.returns-then-word-eq82
 unfolding vital
-returns-then-latest-eq82 c = simp (ne_eqb _ _ c.if-letter-eq66.false, eq-eqb _ _ c.if-letter-eq67.true, eq-eqb _ _ c.if-latest-eq82.true, ne_eqb _ _ c.if-index-eq0.false)
+returns-then-word-eq82 c = simp (ne_eqb _ _ c.if-letter-eq66.false, eq-eqb _ _ c.if-letter-eq67.true, eq-eqb _ _ c.if-word-eq82.true, ne_eqb _ _ c.if-index-eq0.false)
 
 pub returns-then-letter-eq67 : goal.returns-then-letter-eq67
 unfolding vital
-returns-then-letter-eq67 c = simp (ne_eqb _ _ c.if-letter-eq66.false, eq-eqb _ _ c.if-letter-eq67.true, ne_eqb _ _ c.if-latest-eq82.false)
+returns-then-letter-eq67 c = simp (ne_eqb _ _ c.if-letter-eq66.false, eq-eqb _ _ c.if-letter-eq67.true, ne_eqb _ _ c.if-word-eq82.false)
 
 pub returns-then-letter-eq82 : goal.returns-then-letter-eq82
 unfolding vital

@@ -1,7 +1,6 @@
 -- `number_no` meets its contract: one return for each way through the tests.
 use borrow.Author.Tests.{lt-ltb, le-ltb}
 use Rattle.rules.specs.Rules.{number_refusal}
-use borrow.Author.Rules.{rules}
 use Rattle.rules.proofs.number_no.Goals as goal
 
 pub returns-then-n-gt-LARGEST : goal.returns-then-n-gt-LARGEST

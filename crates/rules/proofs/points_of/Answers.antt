@@ -1,7 +1,6 @@
 -- `points_of` meets its contract: one return for each way through the tests.
 use native.Mathlib.Omega.{arith}
 use borrow.Author.Tests.{eq-eqb, ne_eqb}
-use borrow.Author.Rules.{rules}
 use Rattle.rules.specs.Rules.{points_of}
 use Rattle.rules.proofs.points_of.Goals as goal
 

@@ -4,7 +4,6 @@ use Prim.Native.Nat.{◌*◌}
 use native.Mathlib.Omega.{arith}
 use native.Mathlib.Nat.{div-mul-le_self, div-le_self, mod-lt}
 use Rattle.rules.proofs.Scaling.{product_fits, rest_is, scaled-whole, scaled_down, scaled_up}
-use borrow.Author.Rules.{rules}
 use Rattle.rules.proofs.scaled_distance.Goals as goal
 
 pub overflow_mul-x : goal.overflow_mul-x

@@ -1,6 +1,5 @@
 -- `whole_no` meets its contract: one return for each way through the tests.
 use mathlib.Core.Path.{sym, ◌∙◌}
-use borrow.Author.Rules.{rules}
 use Rattle.rules.specs.Rules.{whole_refusal}
 use Rattle.rules.proofs.whole_no.Goals as goal
 

@@ -1,6 +1,5 @@
 -- `draw_shape` meets its contract: what is beyond the range or one too many is refused, and else its lines are written (proofs/Shapes.antt).
 use native.Mathlib.Omega.{arith}
-use borrow.Author.Rules.{rules}
 use Rattle.pen.proofs.Lines.{layer-line-length}
 use Rattle.moves.proofs.Shapes.{part-few}
 use Rattle.shapes.proofs.Shapes.{shape_far_x, shape_far_y, shape-many, shape-near, part_is}
@@ -16,7 +15,7 @@ pub returns-in-Full : goal.returns-in-Full
 returns-in-Full c = λ h chain ts carries. shape-many h chain ts c.args.net carries c.args.place c.args.layer (c.move_shape-far.ensures h) c.args.ink _ c.if-far.false c.if-far-2.false c.count_shape.ensures _ c.in-Full.is
 
 pub put_line-last-requires : goal.put_line-last-requires
-put_line-last-requires c = (omega (arith, c.put_layer_line-next.ensures.ends, layer-line-length c.args.ink.pen.layer c.args.layer, c.requires.near.1.place_most, c.requires.near.1.shapes_most), omega (arith, part-few c.requires.shaped_at.0 c.move_shape-far.new.1.0))
+put_line-last-requires c = (omega (arith, c.put_layer_line-next.ensures.ends, layer-line-length c.args.ink.pen.layer c.args.layer, c.requires.near.1.place_most, c.requires.near.1.shapes_most), omega (arith, part-few c.requires.shaped_at.0 c.move_shape-far.new.numbers))
 
 pub returns : goal.returns
-returns c = λ h chain ts carries. shape-near h chain ts c.args.net carries c.args.place c.args.layer (c.move_shape-far.ensures h) c.args.ink c.if-far.false c.if-far-2.false c.count_shape.ensures _ c.in-More.is c.requires.near.1 (part_is h chain ts c.args.net carries c.args.place c.args.layer (c.move_shape-far.ensures h) c.requires.shaped_at.1) c.put_layer_line-next.ensures c.put_line-last.ensures.writes c.put_line-last.ensures.upper_bound (part-few h c.move_shape-far.new.1.0)
+returns c = λ h chain ts carries. shape-near h chain ts c.args.net carries c.args.place c.args.layer (c.move_shape-far.ensures h) c.args.ink c.if-far.false c.if-far-2.false c.count_shape.ensures _ c.in-More.is c.requires.near.1 (part_is h chain ts c.args.net carries c.args.place c.args.layer (c.move_shape-far.ensures h) c.requires.shaped_at.1) c.put_layer_line-next.ensures c.put_line-last.ensures.writes c.put_line-last.ensures.upper_bound (part-few h c.move_shape-far.new.numbers)

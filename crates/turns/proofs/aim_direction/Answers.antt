@@ -1,7 +1,6 @@
 -- `aim_direction` meets its contract: without its step a net transformation does to a point what it does to a direction (`unmoved`).
 use mathlib.Core.Path.{◌∙◌}
 use native.Mathlib.Omega.{arith}
-use borrow.Author.Rules.{rules}
 use Rattle.definition.specs.Words.{point}
 use Rattle.turns.proofs.Nets.{unmoved}
 use Rattle.turns.proofs.Signed.{wide, worth, widened}

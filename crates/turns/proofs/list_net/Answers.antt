@@ -1,10 +1,7 @@
 -- `list_net` meets its contract. The invariant holds for every list that the words are those of: a part is done, whose net transformation is kept,
 -- and what is left stands in the words from here on (`ComposedSoFar`).
-use Prim.Native.Nat.{◌-◌}
 use native.Mathlib.Omega.{arith}
-use borrow.Author.Rules.{rules}
-use Rattle.turns.specs.Nets.{TurnsBetween}
-use Rattle.turns.proofs.Lists.{ComposedSoFar, start, near-enough, begins, nearer, further, finished}
+use Rattle.turns.proofs.Lists.{start, near-enough, begins, nearer, further, finished}
 use Rattle.turns.proofs.Nets.{near-more}
 use Rattle.turns.proofs.list_net.Goals as goal
 

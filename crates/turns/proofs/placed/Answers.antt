@@ -1,6 +1,5 @@
 -- `placed` meets its contract: by whether x and y change places.
 use mathlib.Core.Path.{◌∙◌}
-use borrow.Author.Rules.{rules}
 use mir.Facts.{to_z-of_z}
 use Rattle.turns.specs.Nets.{turned, apply}
 use Rattle.turns.proofs.placed.Goals as goal

@@ -1,7 +1,6 @@
 -- `rotation` meets its contract: each way out has the heading that its tests tell (`rotates`).
 use mathlib.Core.Bool.{true, false}
 use mathlib.Core.Option.{none, some}
-use borrow.Author.Rules.{rules}
 use Rattle.definition.specs.Turns.{+x, +y, -x, -y, heading}
 use Rattle.turns.proofs.Nets.{rotates}
 use Rattle.turns.proofs.Signed.{is_zero, not_zero, is_negative}

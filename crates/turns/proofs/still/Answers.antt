@@ -1,6 +1,5 @@
 -- `still` meets its contract: the net transformation of the empty list.
 use native.Mathlib.Omega.{arith}
-use borrow.Author.Rules.{rules}
 use Rattle.turns.proofs.Nets.{nothing_carried}
 use Rattle.turns.proofs.still.Goals as goal
 

@@ -1,6 +1,5 @@
 -- `find_dangling` meets its contract.
 use Rattle.warning.proofs.Along.{same_found}
-use borrow.Author.Rules.{rules}
 use Rattle.warning.proofs.find_dangling.Goals as goal
 
 pub returns-then-live-before : goal.returns-then-live-before

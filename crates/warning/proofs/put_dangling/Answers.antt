@@ -3,20 +3,14 @@ use native.Mathlib.Omega.{arith}
 use Rattle.definition.specs.Words.{bytes_of}
 use Rattle.digits.proofs.Digits.{digits-64}
 use Rattle.warning.proofs.Lines.{dangling-laid, none_dangling}
-use borrow.Author.Rules.{rules}
 use Rattle.warning.proofs.put_dangling.Goals as goal
 
--- UNTURNED: 9 needs are listed, and 8 are named
-
-slice-aggregate-put-bytes : tie.Need-slice-aggregate-put-bytes
-slice-aggregate-put-bytes c = search rules
-
 pub put-requires : goal.put-requires
-put-requires c = omega (arith, c.put_bytes-first.ensures.ends, c.put_digits-second.ensures.ends, digits-64 c.in-At.place (omega arith), c.requires)
+put-requires c = omega (arith, c.put_word-first.ensures.ends, c.put_digits-second.ensures.ends, digits-64 c.in-At.place (omega arith), c.requires)
 
 pub returns-in-Nowhere : goal.returns-in-Nowhere
 returns-in-Nowhere c = none_dangling _ _ _ c.in-Nowhere.is
 
 pub returns-in-At : goal.returns-in-At
 unfolding bytes_of
-returns-in-At c = dangling-laid (omega arith) _ c.in-At.is c.put_bytes-first.ensures c.put_digits-second.ensures c.put.ensures
+returns-in-At c = dangling-laid (omega arith) _ c.in-At.is c.put_word-first.ensures c.put_digits-second.ensures c.put.ensures

@@ -3,23 +3,14 @@ use native.Mathlib.Omega.{arith}
 use Rattle.definition.specs.Words.{bytes_of}
 use Rattle.digits.proofs.Digits.{digits-64}
 use Rattle.warning.proofs.Lines.{redefined-laid, not_redefined}
-use borrow.Author.Rules.{rules}
 use Rattle.warning.proofs.put_redefined.Goals as goal
 
--- UNTURNED: 8 needs are listed, and 6 are named
-
-slice-aggregate-put-bytes : tie.Need-slice-aggregate-put-bytes
-slice-aggregate-put-bytes c = search rules
-
-slice-aggregate-put-bytes-2 : tie.Need-slice-aggregate-put-bytes-2
-slice-aggregate-put-bytes-2 c = search rules
-
-pub put_bytes-requires : goal.put_bytes-requires
-put_bytes-requires c = (omega (arith, c.put_bytes-first.ensures.ends, c.put_digits-second.ensures.ends, digits-64 c.args.symbol (omega arith), c.requires), omega arith)
+pub put_word-requires : goal.put_word-requires
+put_word-requires c = (omega (arith, c.put_word-first.ensures.ends, c.put_digits-second.ensures.ends, digits-64 c.args.symbol (omega arith), c.requires), omega arith)
 
 pub returns-then-before-after : goal.returns-then-before-after
 unfolding bytes_of
-returns-then-before-after c = redefined-laid (omega arith) _ _ c.if-before-after.true c.put_bytes-first.ensures c.put_digits-second.ensures c.put_bytes.ensures
+returns-then-before-after c = redefined-laid (omega arith) _ _ c.if-before-after.true c.put_word-first.ensures c.put_digits-second.ensures c.put_word.ensures
 
 pub returns : goal.returns
 returns c = not_redefined _ _ c.args.symbol c.args.before c.args.after (omega (arith, c.if-before-after.false))

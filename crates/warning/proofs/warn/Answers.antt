@@ -13,7 +13,7 @@ slice_bounds-warn_text-end c = lent_in _ c.at_most-lent.ensures
 
 pub warn_text-requires : goal.warn_text-requires
 unfolding kinds table
-warn_text-requires c = record { kinds_lent = (record { is = refl }, record { is = refl }); passed = (c.requires.0, refl, lent-short (length c.args.bodies.now) c.at_most-lent.ensures c.warn_text-arg-1.given.2); most_values_in_bounds = (omega arith, c.requires.1) }
+warn_text-requires c = record { kinds_lent = (record { is = refl }, record { is = refl }); passed = (c.requires.0, refl, lent-short (length c.args.bodies.now) c.at_most-lent.ensures (search rules)); most_values_in_bounds = (omega arith, c.requires.1) }
 
 pub returns : goal.returns
-returns c = warns_lent _ c.at_most-lent.ensures c.warn_text-arg-1.given.2 c.warn_text.ensures
+returns c = warns_lent _ c.at_most-lent.ensures (search rules) c.warn_text.ensures

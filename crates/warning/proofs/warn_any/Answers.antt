@@ -1,6 +1,5 @@
 -- `warn_any` meets its contract: a text that refusals 1 to 9 meet has no warnings, and any other those that `warn` finds.
 use Rattle.warning.proofs.Any.{screened_passed, none_warned, all_warned}
-use borrow.Author.Rules.{rules}
 use Rattle.warning.proofs.warn_any.Goals as goal
 
 pub warn-requires : goal.warn-requires

@@ -1,11 +1,8 @@
 -- `warn_text` meets its contract: `Along` holds before each command, and what is left of the text falls.
-use mathlib.Core.Path.{◌∙◌}
 use Prim.Native.Nat.{◌-◌}
 use native.Mathlib.Omega.{arith}
-use borrow.Author.Rules.{rules}
-use lib.ListN.{length}
 use Rattle.passing.proofs.Reading.{read_one}
-use Rattle.warning.proofs.Along.{Along, along_begin, out_there, reached_far, few-redefined, may_delete, along_out, words_then, along_other, may_search, along_deleted, along-starts, along_begins, size_then, along_on, along_defined, along_overfull, along-short}
+use Rattle.warning.proofs.Along.{along_begin, reached_far, few-redefined, may_delete, along_out, words_then, along_other, may_search, along_deleted, along-starts, along_begins, along_on, along_defined, along_overfull, along-short}
 use Rattle.warning.proofs.warn_text.Goals as goal
 
 pub loop-kind-init : goal.loop-kind-init
