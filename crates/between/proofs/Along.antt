@@ -19,7 +19,7 @@ use Rattle.shapes.proofs.Painting.{so_far, room-kept}
 use Rattle.library.specs.Memory.{needed_in}
 use Rattle.library.specs.Rows.{Sorted}
 use Rattle.keeping.specs.declared.Stock.{Stock}
-use Rattle.passing.proofs.Reading.{run-kept, read_none}
+use Rattle.passing.proofs.Reading.{run_kept, read_none}
 use Rattle.passing.proofs.Stands.{deletable}
 use Rattle.between.specs.declared.Stand.{Stand}
 use Rattle.between.specs.declared.Text.{Text}
@@ -89,7 +89,7 @@ module _ {t : List ℕ} {n : ℕ} {rows₀ : List ℕ} {b₀ words₀ : List ℤ
 
   pub long_now : {account : Written} {kind place e : ℕ} {to : Spot} {words' : List ℤ} → most_values + 2 ≤ length words₀ → DecodedOne t spot 1 1 account words kind place e to words'
       → most_values + 2 ≤ length words'
-  long_now h r = let k = run-kept r in omega (arith, h, k, u.words_kept)
+  long_now h r = let k = run_kept r in omega (arith, h, k, u.words_kept)
 
   pub over-grows : TextGrows ink₀ (Over ink)
   unfolding TextGrows

@@ -4,7 +4,7 @@ use Prim.Native.Nat.{◌-◌}
 use native.Mathlib.Omega.{arith}
 use lib.ListN.{length}
 use borrow.Author.Rules.{rules}
-use Rattle.passing.proofs.Reading.{read_one, run-kept}
+use Rattle.passing.proofs.Reading.{read_one, run_kept}
 use Rattle.between.proofs.Onward.{stand_at, layer_fits, text-layer, text-delete, text-starts, text_begins, text-ahead, text-counts, text_defined, text_overfull, text_short, text-idle, text_says, text_shown, text-stopped, text-calls}
 use Rattle.between.proofs.Along.{Along, begins_along, now-paused, room-same, bodies_same, few-redefined, reached-now, may_delete, big_now, comes_so, goes-along, all_read, long_now, over-grows, stops-grows, grows_shown, grows-calls}
 use Rattle.between.proofs.draw_commands.Goals as goal
@@ -28,7 +28,7 @@ pub loop-kind-smaller-then-kind-eq76 : goal.loop-kind-smaller-then-kind-eq76
 loop-kind-smaller-then-kind-eq76 c = let one = (read_one c.read_command.ensures c.in-Decoded.is).1 in omega (arith, one.ahead, one.fit.within)
 
 pub loop-kind-preserved-then-kind-eq76 : goal.loop-kind-preserved-then-kind-eq76
-loop-kind-preserved-then-kind-eq76 c = goes-along c.loop-kind.invariant (run-kept (read_one c.read_command.ensures c.in-Decoded.is).1) (omega arith) (λ w all r₀ p. text-layer p (big_now c.loop-kind.invariant c.requires.most_values_in_bounds.0) (read_one c.read_command.ensures c.in-Decoded.is).1 c.if-kind-eq76.true (search rules))
+loop-kind-preserved-then-kind-eq76 c = goes-along c.loop-kind.invariant (run_kept (read_one c.read_command.ensures c.in-Decoded.is).1) (omega arith) (λ w all r₀ p. text-layer p (big_now c.loop-kind.invariant c.requires.most_values_in_bounds.0) (read_one c.read_command.ensures c.in-Decoded.is).1 c.if-kind-eq76.true (search rules))
 
 pub size_at-symbol-requires : goal.size_at-symbol-requires
 size_at-symbol-requires c = omega (arith, (long_now c.loop-kind.invariant c.requires.most_values_in_bounds.0 (read_one c.read_command.ensures c.in-Decoded.is).1))
@@ -40,7 +40,7 @@ pub loop-kind-smaller-then-kind-eq68 : goal.loop-kind-smaller-then-kind-eq68
 loop-kind-smaller-then-kind-eq68 c = let one = (read_one c.read_command.ensures c.in-Decoded.is).1 in omega (arith, one.ahead, one.fit.within)
 
 pub loop-kind-preserved-then-kind-eq68 : goal.loop-kind-preserved-then-kind-eq68
-loop-kind-preserved-then-kind-eq68 c = goes-along c.loop-kind.invariant (run-kept (read_one c.read_command.ensures c.in-Decoded.is).1) (omega arith) (λ w all r₀ p. text-delete p (big_now c.loop-kind.invariant c.requires.most_values_in_bounds.0) (read_one c.read_command.ensures c.in-Decoded.is).1 c.if-kind-eq68.true c.size_at-symbol.ensures c.delete-stock.ensures)
+loop-kind-preserved-then-kind-eq68 c = goes-along c.loop-kind.invariant (run_kept (read_one c.read_command.ensures c.in-Decoded.is).1) (omega arith) (λ w all r₀ p. text-delete p (big_now c.loop-kind.invariant c.requires.most_values_in_bounds.0) (read_one c.read_command.ensures c.in-Decoded.is).1 c.if-kind-eq68.true c.size_at-symbol.ensures c.delete-stock.ensures)
 
 pub start_in-start-requires : goal.start_in-start-requires
 start_in-start-requires c = long_now c.loop-kind.invariant c.requires.most_values_in_bounds.0 (read_one c.read_command.ensures c.in-Decoded.is).1
@@ -52,7 +52,7 @@ pub loop-kind-smaller-in-Taken : goal.loop-kind-smaller-in-Taken
 loop-kind-smaller-in-Taken c = text-ahead (now-paused c.loop-kind.invariant) (big_now c.loop-kind.invariant c.requires.most_values_in_bounds.0) (read_one c.read_command.ensures c.in-Decoded.is).1 c.if-kind-eq83.true _ c.start_in-start.ensures c.define.ensures c.in-Taken.is
 
 pub loop-kind-preserved-in-Taken : goal.loop-kind-preserved-in-Taken
-loop-kind-preserved-in-Taken c = goes-along c.loop-kind.invariant (run-kept (read_one c.read_command.ensures c.in-Decoded.is).1) (text-counts (now-paused c.loop-kind.invariant) (big_now c.loop-kind.invariant c.requires.most_values_in_bounds.0) (read_one c.read_command.ensures c.in-Decoded.is).1 c.if-kind-eq83.true _ c.start_in-start.ensures c.define.ensures c.in-Taken.is) (λ w all r₀ p. text_defined p (big_now c.loop-kind.invariant c.requires.most_values_in_bounds.0) (read_one c.read_command.ensures c.in-Decoded.is).1 c.if-kind-eq83.true _ c.start_in-start.ensures c.define.ensures c.in-Taken.is)
+loop-kind-preserved-in-Taken c = goes-along c.loop-kind.invariant (run_kept (read_one c.read_command.ensures c.in-Decoded.is).1) (text-counts (now-paused c.loop-kind.invariant) (big_now c.loop-kind.invariant c.requires.most_values_in_bounds.0) (read_one c.read_command.ensures c.in-Decoded.is).1 c.if-kind-eq83.true _ c.start_in-start.ensures c.define.ensures c.in-Taken.is) (λ w all r₀ p. text_defined p (big_now c.loop-kind.invariant c.requires.most_values_in_bounds.0) (read_one c.read_command.ensures c.in-Decoded.is).1 c.if-kind-eq83.true _ c.start_in-start.ensures c.define.ensures c.in-Taken.is)
 
 pub returns-in-Overfull : goal.returns-in-Overfull
 returns-in-Overfull c = record { text_comes = comes_so c.loop-kind.invariant (λ w all r₀ p. text_overfull p (big_now c.loop-kind.invariant c.requires.most_values_in_bounds.0) (read_one c.read_command.ensures c.in-Decoded.is).1 c.if-kind-eq83.true _ c.start_in-start.ensures c.define.ensures c.in-Overfull.is); text_grows = stops-grows _ _ }
@@ -67,7 +67,7 @@ pub loop-kind-smaller-in-Shown : goal.loop-kind-smaller-in-Shown
 loop-kind-smaller-in-Shown c = let one = (read_one c.read_command.ensures c.in-Decoded.is).1 in omega (arith, one.ahead, one.fit.within)
 
 pub loop-kind-preserved-in-Shown : goal.loop-kind-preserved-in-Shown
-loop-kind-preserved-in-Shown c = goes-along c.loop-kind.invariant (run-kept (read_one c.read_command.ensures c.in-Decoded.is).1) (grows_shown c.loop-kind.invariant c.draw_outer.ensures.outer_grows c.in-Shown.is) (λ w all r₀ p. text_shown p (big_now c.loop-kind.invariant c.requires.most_values_in_bounds.0) (read_one c.read_command.ensures c.in-Decoded.is).1 c.if-kind-eq76.false c.if-kind-eq68.false c.if-kind-eq83.false (sym c.draws.ensures ∙ c.if-draws.true) (long_now c.loop-kind.invariant c.requires.most_values_in_bounds.0 (read_one c.read_command.ensures c.in-Decoded.is).1) c.draw_outer.ensures.outer_comes c.in-Shown.is)
+loop-kind-preserved-in-Shown c = goes-along c.loop-kind.invariant (run_kept (read_one c.read_command.ensures c.in-Decoded.is).1) (grows_shown c.loop-kind.invariant c.draw_outer.ensures.outer_grows c.in-Shown.is) (λ w all r₀ p. text_shown p (big_now c.loop-kind.invariant c.requires.most_values_in_bounds.0) (read_one c.read_command.ensures c.in-Decoded.is).1 c.if-kind-eq76.false c.if-kind-eq68.false c.if-kind-eq83.false (sym c.draws.ensures ∙ c.if-draws.true) (long_now c.loop-kind.invariant c.requires.most_values_in_bounds.0 (read_one c.read_command.ensures c.in-Decoded.is).1) c.draw_outer.ensures.outer_comes c.in-Shown.is)
 
 pub returns-in-Opens : goal.returns-in-Opens
 returns-in-Opens c = record { text_comes = comes_so c.loop-kind.invariant (λ w all r₀ p. text-calls p (big_now c.loop-kind.invariant c.requires.most_values_in_bounds.0) (read_one c.read_command.ensures c.in-Decoded.is).1 c.if-kind-eq76.false c.if-kind-eq68.false c.if-kind-eq83.false (sym c.draws.ensures ∙ c.if-draws.true) (long_now c.loop-kind.invariant c.requires.most_values_in_bounds.0 (read_one c.read_command.ensures c.in-Decoded.is).1) c.draw_outer.ensures.outer_comes c.in-Opens.is); text_grows = grows-calls c.loop-kind.invariant c.draw_outer.ensures.outer_grows _ c.in-Opens.is }
@@ -79,4 +79,4 @@ pub loop-kind-smaller : goal.loop-kind-smaller
 loop-kind-smaller c = let one = (read_one c.read_command.ensures c.in-Decoded.is).1 in omega (arith, one.ahead, one.fit.within)
 
 pub loop-kind-preserved : goal.loop-kind-preserved
-loop-kind-preserved c = goes-along c.loop-kind.invariant (run-kept (read_one c.read_command.ensures c.in-Decoded.is).1) (omega arith) (λ w all r₀ p. text-idle p (big_now c.loop-kind.invariant c.requires.most_values_in_bounds.0) (read_one c.read_command.ensures c.in-Decoded.is).1 c.if-kind-eq76.false c.if-kind-eq68.false c.if-kind-eq83.false (sym c.draws.ensures ∙ c.if-draws.false))
+loop-kind-preserved c = goes-along c.loop-kind.invariant (run_kept (read_one c.read_command.ensures c.in-Decoded.is).1) (omega arith) (λ w all r₀ p. text-idle p (big_now c.loop-kind.invariant c.requires.most_values_in_bounds.0) (read_one c.read_command.ensures c.in-Decoded.is).1 c.if-kind-eq76.false c.if-kind-eq68.false c.if-kind-eq83.false (sym c.draws.ensures ∙ c.if-draws.false))

@@ -4,7 +4,7 @@ use Prim.Native.Nat.{◌-◌}
 use native.Mathlib.Omega.{arith}
 use lib.ListN.{length}
 use borrow.Author.Rules.{rules}
-use Rattle.passing.proofs.Reading.{read_one, run-kept}
+use Rattle.passing.proofs.Reading.{read_one, run_kept}
 use Rattle.between.proofs.Onward.{stand_at, layer_fits, text-layer, text-delete, text-starts, text_begins, text-ahead, text-counts, text_defined, text_overfull, text_short, text-idle, text_says, text_shown, text-stopped, text-calls}
 use Rattle.between.proofs.Along.{Along, begins_along, now-paused, room-same, bodies_same, few-redefined, reached-now, may_delete, big_now, comes_so, goes-along, all_read, long_now, over-grows, stops-grows, grows_shown, grows-calls}
 use Rattle.between.proofs.draw_commands.Given as goal
