@@ -1,6 +1,7 @@
 // A layer's name of up to four letters as one number: what a reader keeps of it, compares and writes. It is packed here letter by letter, for the two
 // passes over a text and for the listing of a flat file.
 #![tactic(auto)]
+
 ghost use Rattle.std.specs.Prelude.{◌≡◌, ◌+◌, ◌*◌, ◌≤◌};
 ghost use Rattle.names.specs.Names.{byte_unit, first_unit, longer};
 
