@@ -8,7 +8,7 @@
 ghost use Rattle.std.specs.Prelude.{◌≤◌, ◌<◌, ◌≡◌, IfOk, length, vec_len};
 ghost use Rattle.printout.specs.Prints.{listing_length};
 
-use definition::{Answer, Summary, Why};
+use definition::{Answer, Summary};
 use std::alloc::{AllocError, Global};
 use std::io;
 use std::io::{Read, Write};
@@ -22,8 +22,6 @@ const MOST_OPEN: usize = 64;
 const AS_MANY: usize = 4294967295;
 // The task that tells what is in a symbol.
 const SUMMARISE: usize = 3;
-// The task that tells why a shape is there.
-const EXPLAIN: usize = 7;
 // A packed name has 32 bits: all are below this.
 const NAMES: usize = 4294967296;
 
@@ -114,20 +112,6 @@ fn flatten<W: Write>(
     put_flat(output, answer, room)
 }
 
-// Task 1: the same by the engine without deep calls, with so many records.
-fn flatten_stacked<W: Write>(
-    output: &mut W,
-    text: &[u8],
-    words: &mut [i32],
-    room: &mut [u8],
-    records: usize,
-) -> Result<(), Failure>
-    requires { records ≤ 64 }
-{
-    let answer = local::flatten(text, words, room, records);
-    put_flat(output, answer, room)
-}
-
 // Task 2: what the list program prints.
 fn list<W: Write>(output: &mut W, text: &[u8], room: &mut [u8]) -> Result<(), Failure>
     requires { length room.old ≡ listing_length }
@@ -192,67 +176,6 @@ fn summarise<W: Write>(
     let length = put_letters(&mut name, (told.first % NAMES) as u32);
     put_summary(output, told, length)?;
     streams::write(output, &name[..length])
-}
-
-// A number as the flat file has it, with a minus sign where it is negative, and how many bytes that takes.
-fn put_decimal(digits: &mut [u8], z: i64) -> usize
-    ensures { result ≤ 21 }
-{
-    let one = [z];
-    pen::put_numbers(digits, 0, &one)
-}
-
-// A field that may be negative.
-fn put_signed<W: Write>(output: &mut W, z: i64) -> Result<(), Failure> {
-    let mut digits = [0u8; 21];
-    let length = put_decimal(&mut digits, z);
-    streams::write(output, &digits[..length])?;
-    streams::write(output, b"\t")
-}
-
-fn put_matrix<W: Write>(output: &mut W, told: Why) -> Result<(), Failure> {
-    put_signed(output, told.a)?;
-    put_signed(output, told.b)?;
-    put_signed(output, told.c)?;
-    put_signed(output, told.d)
-}
-
-fn put_translation<W: Write>(output: &mut W, told: Why) -> Result<(), Failure> {
-    put_signed(output, told.tx)?;
-    put_signed(output, told.ty)
-}
-
-// Where the shape stands, and its transformation.
-fn put_shape<W: Write>(output: &mut W, told: Why) -> Result<(), Failure> {
-    put_field(output, told.shape)?;
-    put_matrix(output, told)?;
-    put_translation(output, told)
-}
-
-// The chain is that of the shape or of the refusal, line and column are the refusal's.
-fn put_calls<W: Write>(output: &mut W, told: Why) -> Result<(), Failure> {
-    let chain = told.chain;
-    put_where(output, told.line, told.column, &chain, told.opened)
-}
-
-// The line of a shape, which no bytes follow.
-fn put_why<W: Write>(output: &mut W, told: Why) -> Result<(), Failure> {
-    put_field(output, told.number)?;
-    put_field(output, told.place)?;
-    put_field(output, 0)?;
-    put_shape(output, told)?;
-    put_calls(output, told)
-}
-
-// Task 7: why the shape with this count is there.
-fn explain<W: Write>(
-    output: &mut W,
-    text: &[u8],
-    words: &mut [i32],
-    count: usize,
-) -> Result<(), Failure> {
-    let told = why::why(text, words, count);
-    put_why(output, told)
 }
 
 // What a record begins with, as far as a task needs it: the task, the lengths of its two texts and of its room, the words lent for bodies, the records
@@ -347,9 +270,6 @@ fn answer_without_room<W: Write>(
     if task == SUMMARISE {
         return summarise(output, text, words, argument);
     }
-    if task == EXPLAIN {
-        return explain(output, text, words, argument);
-    }
     streams::write(output, b"0\t0\t0\n")
 }
 
@@ -359,16 +279,14 @@ fn answer<W: Write>(
     task: usize,
     text: &[u8],
     words: &mut [i32],
-    records: usize,
     size: usize,
     room: &mut [u8],
     argument: usize,
 ) -> Result<(), Failure>
-    requires { (records ≤ 64) × (size ≤ length room.old) × (1048576 ≡ length room.old) }
+    requires { (size ≤ length room.old) × (1048576 ≡ length room.old) }
 {
     match task {
         0 => flatten(output, text, words, &mut room[..size]),
-        1 => flatten_stacked(output, text, words, &mut room[..size], records),
         2 => list_within(output, text, room),
         _ => answer_without_room(output, task, text, words, argument),
     }
@@ -381,12 +299,11 @@ fn answer_texts<R: Read, W: Write>(
     text: &mut [u8],
     second: &mut [u8],
     words: &mut [i32],
-    records: usize,
     size: usize,
     room: &mut [u8],
     argument: usize,
 ) -> Result<bool, Failure>
-    requires { (records ≤ 64) × (size ≤ length room.old) × (1048576 ≡ length room.old) }
+    requires { (size ≤ length room.old) × (1048576 ≡ length room.old) }
 {
     if !read_text(input, output, text)? {
         return Ok(false);
@@ -394,7 +311,7 @@ fn answer_texts<R: Read, W: Write>(
     if !read_text(input, output, second)? {
         return Ok(false);
     }
-    answer(output, task, text, words, records, size, room, argument)?;
+    answer(output, task, text, words, size, room, argument)?;
     Ok(true)
 }
 
@@ -425,16 +342,6 @@ fn asked(task: usize, words: usize) -> usize {
         return AS_MANY;
     }
     words
-}
-
-// How many records are lent: as many as are asked for, since more than the limit are refused before.
-fn held(records: usize) -> usize
-    ensures { result ≤ 64 }
-{
-    if records <= MOST_OPEN {
-        return records;
-    }
-    MOST_OPEN
 }
 
 // Whether a number of a record is over its limit. The lengths of the texts and of the room are looked at where they are lent.
@@ -476,7 +383,6 @@ fn answer_next<R: Read, W: Write>(
             if over(head) {
                 return stop(output, b"too long\n");
             }
-            let records = held(head.open);
             let k = lent(asked(head.task, head.words), n + m);
             answer_texts(
                 input,
@@ -485,7 +391,6 @@ fn answer_next<R: Read, W: Write>(
                 &mut text[..n],
                 &mut second[..m],
                 &mut words[..k],
-                records,
                 size,
                 room,
                 head.argument,

@@ -1,8 +1,8 @@
 -- What the run of the open calls means: two numbers for each call, its place and its symbol, the outermost first, and as the last number how many were open
 -- where a drawing was refused. The chain is a function of the run. Not to be believed: what a chain is, is said by crates/definition.
 -- Assumes nothing.
-use Rattle.std.specs.Prelude.{◌≡◌, List, [], ◌∷◌, ◌++◌, ℕ, zero, suc, ◌+◌, ◌*◌, ltb, get_or, take}
-use Rattle.definition.specs.Words.{if◌then◌else◌, at}
+use Rattle.std.specs.Prelude.{◌≡◌, List, [], ◌∷◌, ◌++◌, ℕ, zero, suc, ◌+◌, ◌*◌, ltb, get_or, take, if◌then◌else◌}
+use Rattle.definition.specs.Words.{at}
 use Rattle.definition.specs.Limits.{deepest}
 use Rattle.definition.specs.Drawing.{Chain}
 

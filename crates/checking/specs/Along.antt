@@ -1,8 +1,7 @@
 -- The account as the code goes along, piece by piece, with what it keeps of the command that it is in. Not to be believed: crates/reading shows, in
 -- proofs/Meaning.antt, that it comes to what specs/Account.antt says of whole commands.
 -- Assumes nothing.
-use Rattle.std.specs.Prelude.{Bool, true, false, List, [], ◌∷◌, ℕ, ◌+◌, ◌*◌, ◌/◌, ◌≤◌, ltb, eqb}
-use Rattle.definition.specs.Words.{if◌then◌else◌}
+use Rattle.std.specs.Prelude.{Bool, true, false, List, [], ◌∷◌, ℕ, ◌+◌, ◌*◌, ◌/◌, ◌≤◌, ltb, eqb, if◌then◌else◌}
 use Rattle.pieces.specs.Pieces.{too_large}
 use Rattle.pieces.specs.declared.Piece.{Piece}
 use Rattle.pieces.specs.declared.Piece.TheVariants.{First, Second, Number, Word, Stop}

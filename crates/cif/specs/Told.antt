@@ -1,5 +1,5 @@
 -- What a host is told by each function, in the words of crate answer: the contracts of the exported functions cite it.
-use Rattle.std.specs.Prelude.{◌≡◌, List, [], ℕ, eqb, ℤ, length}
+use Rattle.std.specs.Prelude.{◌≡◌, List, [], ℕ, eqb, ℤ, length, if◌then◌else◌}
 use Rattle.grammar.specs.Viable.{Judged}
 use Rattle.grammar.specs.declared.Verdict.{Verdict}
 use Rattle.grammar.specs.declared.Verdict.TheVariants.{InGrammar, StuckAt}
@@ -7,7 +7,6 @@ use Rattle.definition.specs.declared.Answer.{Answer}
 use Rattle.definition.specs.declared.Refusal.{Refusal}
 use Rattle.definition.specs.declared.Summary.{Summary}
 use Rattle.definition.specs.declared.Why.{Why}
-use Rattle.definition.specs.Words.{if◌then◌else◌}
 use Rattle.definition.specs.Rules.{not_in_grammar, refuse}
 use Rattle.definition.specs.Counts.{counts}
 use Rattle.definition.specs.Answer.{success, failure, zeros, Promised}

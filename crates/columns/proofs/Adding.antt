@@ -1,5 +1,6 @@
 -- What the loop over a body's words keeps: its own numbers are those so far and those of the commands left, and the bit is that of the layer that stands.
 -- Assumes nothing.
+use Rattle.std.specs.Prelude.{if◌then◌else◌}
 use mathlib.Core.Path.{◌≡◌, refl, sym, ap, ap₂, ◌∙◌, subst}
 use mathlib.Core.Bool.{Bool, true, false}
 use mathlib.Core.List.{List, [], ◌∷◌, ◌++◌, flat_map, append-nil, append_assoc}
@@ -8,7 +9,7 @@ use native.Mathlib.Omega.{arith}
 use lib.Bits.{bit_or}
 use lib.IntN.{ℤ, pos, nat_abs}
 use lib.ListN.{length, get_or}
-use Rattle.definition.specs.Words.{if◌then◌else◌, Placed, those}
+use Rattle.definition.specs.Words.{Placed, those}
 use Rattle.definition.specs.Table.{Step, shape, instance, setting}
 use Rattle.definition.specs.Summary.{Names, shape?, call?, layers_of, own_shapes, own_calls, own_layers}
 use Rattle.definition.specs.Marks.{set_of_layers}

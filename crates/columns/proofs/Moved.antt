@@ -1,5 +1,6 @@
 -- Rows that move as a definition is entered, and columns with them: afterwards they are what would be made afresh from the bodies.
 -- Assumes nothing.
+use Rattle.std.specs.Prelude.{if◌then◌else◌}
 use mathlib.Core.Path.{◌≡◌, refl, sym, ap, ◌∙◌, subst}
 use mathlib.Core.Bool.{Bool, true, false}
 use mathlib.Core.List.{List, [], ◌∷◌}
@@ -10,7 +11,7 @@ use native.Mathlib.Omega.{arith}
 use lib.Dec.{ltb, eqb}
 use lib.IntN.{ℤ}
 use lib.ListN.{length, get_or}
-use Rattle.definition.specs.Words.{if◌then◌else◌, Placed}
+use Rattle.definition.specs.Words.{Placed}
 use Rattle.definition.specs.Table.{Step, Definition, Table, enter}
 use Rattle.definition.specs.Lean.{lean, lean_definition}
 use Rattle.definition.specs.Summary.{Names, own_shapes, own_calls}

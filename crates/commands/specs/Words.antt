@@ -1,11 +1,10 @@
 -- A command as words: its kind and how many words follow its place, its place, and then its numbers after scaling, with what is left out filled in.
 -- A running account, not to be believed: a proof shows that on a sound text these are the numbers of the command that crates/definition reads.
 -- Assumes nothing.
-use Rattle.std.specs.Prelude.{◌≡◌, Bool, true, false, List, [], ◌∷◌, ◌++◌, ℕ, zero, suc, ◌+◌, ◌-◌, ◌*◌, ◌/◌, ◌≤◌, ◌<◌, ltb, eqb, ℤ, pos, neg_ℤ, length}
+use Rattle.std.specs.Prelude.{◌≡◌, Bool, true, false, List, [], ◌∷◌, ◌++◌, ℕ, zero, suc, ◌+◌, ◌-◌, ◌*◌, ◌/◌, ◌≤◌, ◌<◌, ltb, eqb, ℤ, pos, neg_ℤ, length, if◌then◌else◌}
 use Rattle.std.proofs.lemmas.List.Edits.{sets}
 use Rattle.grammar.specs.Notation.{lead}
 use Rattle.grammar.specs.Steps.{inside, number}
-use Rattle.definition.specs.Words.{if◌then◌else◌}
 use Rattle.pieces.specs.Pieces.{letter_s, farthest, stream, behind, inside_after, begun, numeral_of, Fit}
 use Rattle.pieces.specs.declared.Spot.{Spot}
 use Rattle.pieces.specs.declared.Begun.{Begun}

@@ -2,9 +2,8 @@
 // any bytes: where a text leaves the grammar it has no more pieces, and so no more commands. Which numbers these are is proved in reading, above.
 #![tactic(auto)]
 
-ghost use Rattle.std.specs.Prelude.{◌≡◌, false, [], ◌∷◌, ◌+◌, ◌*◌, ◌/◌, ◌<◌, ◌≤◌};
+ghost use Rattle.std.specs.Prelude.{◌≡◌, false, [], ◌∷◌, ◌+◌, ◌*◌, ◌/◌, ◌<◌, ◌≤◌, if◌then◌else◌};
 ghost use Rattle.grammar.specs.Steps.{KindsLent, NextLent};
-ghost use Rattle.definition.specs.Words.{if◌then◌else◌};
 ghost use Rattle.pieces.specs.Pieces.{too_large, Fit};
 ghost use Rattle.rules.specs.Letters.{byte_unit, first_unit};
 ghost use Rattle.rules.specs.Rules.{distance};

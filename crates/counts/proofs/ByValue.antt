@@ -3,13 +3,13 @@
 --     call-goes, call-stops, shape-goes, shape-stops       for callers: what the definition's `counted` says, where the answer is More and where it is Full
 --     call-more, shape-more                                and the counts of the answer More
 -- Assumes nothing.
+use Rattle.std.specs.Prelude.{if◌then◌else◌}
 use mathlib.Core.Path.{◌≡◌, refl, sym, ap, ◌∙◌}
 use mathlib.Core.Bool.{Bool, true, false}
 use Prim.Native.Nat.{ℕ, ◌+◌, ◌<◌}
 use native.Mathlib.Omega.{arith}
 use borrow.Author.Tests.{ltb-true}
 use lib.Dec.{eqb, ltb}
-use Rattle.definition.specs.Words.{if◌then◌else◌}
 use Rattle.definition.specs.Table.{Definition}
 use Rattle.definition.specs.Drawing.{Chain, Drawn, called, drew}
 use Rattle.definition.specs.Counts.{End, finished, stopped, counted}

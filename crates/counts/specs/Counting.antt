@@ -1,8 +1,8 @@
 -- What one more does to the running counts, and that this is how the definition's `counted` counts the event. A running account, not to be believed:
 -- what is counted, and where a limit refuses, is said by crates/definition.
 -- Assumes nothing.
-use Rattle.std.specs.Prelude.{◌≡◌, false, ℕ, ◌+◌, eqb, ltb}
-use Rattle.definition.specs.Words.{if◌then◌else◌, none?}
+use Rattle.std.specs.Prelude.{◌≡◌, false, ℕ, ◌+◌, eqb, ltb, if◌then◌else◌}
+use Rattle.definition.specs.Words.{none?}
 use Rattle.definition.specs.Table.{Definition, Table, find}
 use Rattle.definition.specs.Drawing.{Chain, Drawn, called, drew, entered}
 use Rattle.definition.specs.Counts.{counts, End, finished, stopped, counted}

@@ -1,6 +1,7 @@
 -- The words of request 10 (RULES 8) at texts: what the live bodies need after each DF, and refusal 25 from both sides. Every number was worked out by hand from
 -- the request and not from the definitions, so a definition that counts otherwise is refused here.
 -- Assumes nothing.
+use Rattle.std.specs.Prelude.{if◌then◌else◌}
 use mathlib.Core.Path.{◌≡◌, refl}
 use mathlib.Core.List.{List, [], ◌∷◌, map}
 use Prim.Native.Nat.{ℕ, ◌+◌, ◌≤◌, ◌<◌}
@@ -12,7 +13,7 @@ use Rattle.grammar.specs.Notation.{has, dec}
 use Rattle.grammar.specs.Tables.{kinds, table}
 use Rattle.grammar.specs.Steps.{kind_of}
 use Rattle.definition.specs.Quick.{packed, packed_rows, marking_by, quick_letters}
-use Rattle.definition.specs.Words.{if◌then◌else◌, any, those, bytes_of}
+use Rattle.definition.specs.Words.{any, those, bytes_of}
 use Rattle.definition.specs.Rules.{Rule, too_many_definitions, too_few_words, number_of, refuse, order}
 use Rattle.definition.specs.Commands.{worth, numbers, paired, next, named, turn_at, turns, command_at, commands}
 use Rattle.definition.specs.Standing.{after, nearest, scaled, scaled_shape, scaled_turn}

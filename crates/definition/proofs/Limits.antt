@@ -2,6 +2,7 @@
 -- them is too long to compute; so a definition whose limit is one off is refused here, whatever its size. The numbers are written out, so that
 -- specs/Limits.antt is held to them, too.
 -- Assumes nothing.
+use Rattle.std.specs.Prelude.{if◌then◌else◌}
 use mathlib.Core.Path.{◌≡◌, refl, subst}
 use mathlib.Core.Bool.{Bool, true, false, ◌&&◌}
 use mathlib.Core.List.{List, [], ◌∷◌, ◌++◌}
@@ -13,7 +14,7 @@ use lib.ListN.{length}
 use borrow.Author.Tests.{lt-ltb, le-ltb, le-leb, lt-leb}
 use Rattle.grammar.specs.Steps.{verdict_of}
 use Rattle.grammar.proofs.Verdicts.{Bytes}
-use Rattle.definition.specs.Words.{if◌then◌else◌, Placed, any, those, bytes_of}
+use Rattle.definition.specs.Words.{Placed, any, those, bytes_of}
 use Rattle.definition.specs.Rules.{text_too_long, too_many_definitions, too_many_calls, too_many_shapes, flat_file_too_long, refuse, order}
 use Rattle.definition.specs.Commands.{Number, Shape, Turn, Command, draw, call}
 use Rattle.definition.specs.Faults.{beyond, parts_of, has_too_many}

@@ -1,5 +1,6 @@
 -- The account over the table's rows is the one that contracts name: a row's entry is the table's, so each byte leads to the same and has the same role.
 -- Assumes nothing.
+use Rattle.std.specs.Prelude.{if◌then◌else◌}
 use mathlib.Core.Path.{◌≡◌, refl, sym, ap, ◌∙◌, subst}
 use mathlib.Core.Bool.{Bool, true, ◌&&◌}
 use mathlib.Core.List.{List, [], ◌∷◌}
@@ -20,7 +21,6 @@ use Rattle.grammar.proofs.Markings.{marking_is}
 use Rattle.grammar.proofs.Verdicts.{Bytes, judged}
 use Rattle.grammar.specs.declared.Verdict.TheVariants.{InGrammar, StuckAt}
 use Rattle.definition.specs.Limits.{most_bytes}
-use Rattle.definition.specs.Words.{if◌then◌else◌}
 use Rattle.definition.specs.Rules.{text_too_long, refuse}
 use Rattle.definition.specs.declared.Summary.{Summary}
 use Rattle.definition.specs.Answer.{Outcome, rejected, outcome_of, Answers}

@@ -1,5 +1,6 @@
 -- What the function `reason_for` computes of a text and a count is allowed, and only one reason is.
 -- Assumes nothing.
+use Rattle.std.specs.Prelude.{if◌then◌else◌}
 use mathlib.Core.Path.{◌≡◌, refl, sym, ap, ◌∙◌, subst}
 use mathlib.Core.Bool.{Bool, true, false, not}
 use mathlib.Core.List.{List, []}
@@ -17,7 +18,6 @@ use Rattle.grammar.proofs.Markings.{one_marking}
 use Rattle.grammar.proofs.Verdicts.{Bytes}
 use Rattle.grammar.proofs.Unique.{one_length}
 use Rattle.definition.specs.Limits.{most_bytes}
-use Rattle.definition.specs.Words.{if◌then◌else◌}
 use Rattle.definition.specs.Rules.{text_too_long, not_in_grammar, refuse}
 use Rattle.definition.specs.declared.Why.{Why}
 use Rattle.definition.specs.Why.{Reason, refuses, reason_of, WhyAnswers, too_long, not_cif, read, why_told, PromisedWhy}

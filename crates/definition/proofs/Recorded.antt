@@ -1,6 +1,7 @@
 -- A row of Rows with the records lent (RULES 8, request 7); a row that computes is a row that is promised. What `answer_with` computes is allowed. And rows at each
 -- level, with records that just suffice and one too few; which refusal comes first; and the chain of 21.
 -- Assumes nothing.
+use Rattle.std.specs.Prelude.{if◌then◌else◌}
 use mathlib.Core.Path.{◌≡◌, refl, sym, subst}
 use mathlib.Core.Bool.{Bool, true, false, not, ◌&&◌}
 use mathlib.Core.List.{List, [], ◌∷◌}
@@ -15,7 +16,7 @@ use Rattle.grammar.specs.declared.Verdict.TheVariants.{InGrammar, StuckAt}
 use Rattle.grammar.proofs.Tests.{and_left, and_right}
 use Rattle.grammar.proofs.Verdicts.{Bytes}
 use Rattle.definition.specs.Limits.{most_bytes}
-use Rattle.definition.specs.Words.{if◌then◌else◌, same}
+use Rattle.definition.specs.Words.{same}
 use Rattle.definition.specs.Rules.{text_too_long, refuse, order}
 use Rattle.definition.specs.Answer.{Outcome, rejected}
 use Rattle.definition.specs.Records.{outcome_with, AnswersWith, too_long, not_cif, read}

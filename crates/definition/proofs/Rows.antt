@@ -1,6 +1,7 @@
 -- A row is a text, the words lent, a room and what is answered; a row that computes is a row that is promised. So a text's answer is proved by computing it,
 -- over definitions that were not written to be computed. Its `use` lines and one `unfolding` line are written by tools/rows.py.
 -- Assumes nothing.
+use Rattle.std.specs.Prelude.{if◌then◌else◌}
 use mathlib.Core.Path.{◌≡◌, refl, sym, subst}
 use mathlib.Core.Bool.{Bool, true, false, ◌&&◌}
 use mathlib.Core.List.{List, [], ◌∷◌, ◌++◌, flat_map}
@@ -13,7 +14,6 @@ use lib.ListN.{length, get_or, replicate}
 use Rattle.grammar.proofs.Tests.{and_left, and_right}
 use Rattle.grammar.proofs.Verdicts.{Bytes}
 use Rattle.definition.specs.declared.Answer.{Answer}
-use Rattle.definition.specs.Words.{if◌then◌else◌}
 use Rattle.definition.specs.Answer.{Outcome, Answers}
 use Rattle.definition.specs.Listing.{Lists, within}
 use Rattle.definition.proofs.Quick.{quick_right}

@@ -1,5 +1,6 @@
 -- What the function `summary_for` computes of a text and a symbol number is allowed, and only one summary is.
 -- Assumes nothing.
+use Rattle.std.specs.Prelude.{if◌then◌else◌}
 use mathlib.Core.Path.{◌≡◌, refl, sym, ap, ◌∙◌, subst}
 use mathlib.Core.Bool.{Bool, true, false, not}
 use mathlib.Core.List.{List}
@@ -17,7 +18,6 @@ use Rattle.grammar.proofs.Markings.{marking_is, one_marking}
 use Rattle.grammar.proofs.Verdicts.{Bytes, judged}
 use Rattle.grammar.proofs.Unique.{one_length}
 use Rattle.definition.specs.Limits.{most_bytes}
-use Rattle.definition.specs.Words.{if◌then◌else◌}
 use Rattle.definition.specs.Rules.{text_too_long, not_in_grammar, refuse}
 use Rattle.definition.specs.declared.Summary.{Summary}
 use Rattle.definition.specs.Summary.{empty_summary, summary_of, Summarises, too_long, not_cif, read, Summarised}

@@ -1,6 +1,6 @@
 -- What the reader answers of a text, the words lent and a room: the order of refusals, what is given back, and what is left in the words and in the
 -- room. The exported contract is `Promised`, at the end.
-use Rattle.std.specs.Prelude.{◌≡◌, ◌&&◌, List, [], ◌++◌, map, ℕ, ◌≤◌, ◌<◌, leb, ℤ, pos, length, drop, replicate}
+use Rattle.std.specs.Prelude.{◌≡◌, ◌&&◌, List, [], ◌++◌, map, ℕ, ◌≤◌, ◌<◌, leb, ℤ, pos, length, drop, replicate, if◌then◌else◌}
 use Rattle.std.proofs.Math.Option.{Option, none, some}
 use Rattle.grammar.specs.Notation.{Letter}
 use Rattle.grammar.specs.Viable.{Marked}
@@ -8,7 +8,7 @@ use Rattle.grammar.specs.Viable.{Grammatical, LongestViable}
 use Rattle.definition.specs.declared.Answer.{Answer}
 use Rattle.definition.specs.declared.Refusal.{Refusal}
 use Rattle.definition.specs.Limits.{most_bytes}
-use Rattle.definition.specs.Words.{if◌then◌else◌, Placed}
+use Rattle.definition.specs.Words.{Placed}
 use Rattle.definition.specs.Rules.{text_too_long, not_in_grammar, flat_file_too_long, refuse}
 use Rattle.definition.specs.Commands.{Command, commands}
 use Rattle.definition.specs.Standing.{outside}

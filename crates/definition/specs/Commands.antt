@@ -1,9 +1,9 @@
 -- The commands of a text, each with its place, read off the roles that the grammar gives the text's characters. Each is read by looking ahead
 -- from its first letter, so no parser stands beside the grammar.
-use Rattle.std.specs.Prelude.{Bool, false, ◌||◌, List, [], ◌∷◌, ℕ, ◌+◌, ◌-◌, ◌*◌, ℤ, pos, neg_ℤ, get_or, drop}
+use Rattle.std.specs.Prelude.{Bool, false, ◌||◌, List, [], ◌∷◌, ℕ, ◌+◌, ◌-◌, ◌*◌, ℤ, pos, neg_ℤ, get_or, drop, if◌then◌else◌}
 use Rattle.grammar.specs.Notation.{Class, has, 'B', 'C', 'D', 'L', 'P', 'R', 'S', 'T', 'W', 'X'}
 use Rattle.grammar.specs.Notation.{Role, Role-discrete, Letter, dec, head, second, turn, axis, sign, lead, later, name, stop}
-use Rattle.definition.specs.Words.{if◌then◌else◌, Placed, at, Point, point}
+use Rattle.definition.specs.Words.{Placed, at, Point, point}
 
 abbrev pub Number : Type 0  -- 7.1.2, Numbers: a number of the text. Its place is its minus sign's, or else its first digit's (RULES 4)
 Number = Placed ℤ

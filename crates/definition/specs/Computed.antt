@@ -1,13 +1,12 @@
 -- What is promised, as a function, over the reader's own account of the grammar. Not to be believed: proofs/Right.antt proves it.
 -- The quick forms are over the packed table, for rows that are computed; proofs/Quick.antt proves that they are the same.
 -- Assumes nothing.
-use Rattle.std.specs.Prelude.{List, [], ℕ, ltb, length}
+use Rattle.std.specs.Prelude.{List, [], ℕ, ltb, length, if◌then◌else◌}
 use Rattle.grammar.specs.Steps.{marked, verdict_of}
 use Rattle.grammar.specs.declared.Verdict.{Verdict}
 use Rattle.grammar.specs.declared.Verdict.TheVariants.{InGrammar, StuckAt}
 use Rattle.definition.specs.Quick.{quick_letters, quick_verdict}
 use Rattle.definition.specs.Limits.{most_bytes}
-use Rattle.definition.specs.Words.{if◌then◌else◌}
 use Rattle.definition.specs.Rules.{text_too_long, not_in_grammar, refuse}
 use Rattle.definition.specs.declared.Summary.{Summary}
 use Rattle.definition.specs.Answer.{Outcome, rejected, outcome_of}

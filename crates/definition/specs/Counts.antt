@@ -1,8 +1,8 @@
 -- The counts of a drawing and how it ends: the story's events counted along, up to the first refusal.
-use Rattle.std.specs.Prelude.{List, [], ◌∷◌, ℕ, ◌+◌, ltb}
+use Rattle.std.specs.Prelude.{List, [], ◌∷◌, ℕ, ◌+◌, ltb, if◌then◌else◌}
 use Rattle.definition.specs.declared.Refusal.{Refusal}
 use Rattle.definition.specs.Limits.{most_calls, most_shapes}
-use Rattle.definition.specs.Words.{if◌then◌else◌, none?}
+use Rattle.definition.specs.Words.{none?}
 use Rattle.definition.specs.Rules.{too_many_calls, too_many_shapes, refuse}
 use Rattle.definition.specs.Table.{find}
 use Rattle.definition.specs.Drawing.{Chain, Drawn, Event, called, drew, entered, removed, refused}

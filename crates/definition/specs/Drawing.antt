@@ -1,10 +1,10 @@
 -- The drawing of 7.1.2.4 as a story: the list of all that happens, in order, refusals among it. It runs nowhere, so it may be as long as it likes;
 -- Counts reads it up to the first refusal, and everything that is given back is read off it.
-use Rattle.std.specs.Prelude.{List, [], ◌∷◌, ◌++◌, map, ℕ, zero, suc, ltb, eqb, ℤ, nat_abs, length}
+use Rattle.std.specs.Prelude.{List, [], ◌∷◌, ◌++◌, map, ℕ, zero, suc, ltb, eqb, ℤ, nat_abs, length, if◌then◌else◌}
 use Rattle.std.proofs.Math.Option.{Option, none, some}
 use Rattle.definition.specs.declared.Refusal.{Refusal}
 use Rattle.definition.specs.Limits.{most_definitions, deepest}
-use Rattle.definition.specs.Words.{if◌then◌else◌, Placed, at, any}
+use Rattle.definition.specs.Words.{Placed, at, any}
 use Rattle.definition.specs.Rules.{Rule, too_many_definitions, off_the_axes, undefined_symbol, being_drawn, too_deep, x_out_of_range, y_out_of_range, refuse}
 use Rattle.definition.specs.Commands.{Shape, Turn, Command, draw, layer, call, start, finish, delete, nothing}
 use Rattle.definition.specs.Standing.{Standing, after, scaled_shape, scaled_turn}

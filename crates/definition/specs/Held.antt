@@ -1,7 +1,7 @@
 -- RULES 8, request 10: bodies are kept as numbers in words that a host lends. How many words the live bodies need, and the refusal where they are more than were
 -- lent. The story stays as it is: it is held to the words lent, event by event.
-use Rattle.std.specs.Prelude.{List, [], ◌∷◌, ℕ, ◌+◌, max, ltb, ℤ, length}
-use Rattle.definition.specs.Words.{if◌then◌else◌, Placed}
+use Rattle.std.specs.Prelude.{List, [], ◌∷◌, ℕ, ◌+◌, max, ltb, ℤ, length, if◌then◌else◌}
+use Rattle.definition.specs.Words.{Placed}
 use Rattle.definition.specs.Rules.{too_few_words, refuse}
 use Rattle.definition.specs.Commands.{Turn, translate, mirror_x, mirror_y, rotate}
 use Rattle.definition.specs.Table.{Step, shape, instance, setting, Table, enter}

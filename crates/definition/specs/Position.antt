@@ -1,8 +1,8 @@
 -- RULES 12, request 4: where a place is in the text, as an editor counts: its line and its column. And the chain of a refusal as it is given back: the places of the
 -- calls that are open there.
-use Rattle.std.specs.Prelude.{Bool, List, [], ◌∷◌, ◌++◌, map, ℕ, ◌+◌, ◌-◌, eqb, length, take, replicate}
+use Rattle.std.specs.Prelude.{Bool, List, [], ◌∷◌, ◌++◌, map, ℕ, ◌+◌, ◌-◌, eqb, length, take, replicate, if◌then◌else◌}
 use Rattle.definition.specs.Limits.{deepest}
-use Rattle.definition.specs.Words.{if◌then◌else◌, any, those}
+use Rattle.definition.specs.Words.{any, those}
 use Rattle.definition.specs.Drawing.{Chain}
 
 abbrev pub line_end? : ℕ → Bool  -- a line end is byte 10, and no other

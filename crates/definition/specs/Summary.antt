@@ -1,6 +1,6 @@
 -- RULES 19, request 3: what is in a symbol. The text is read and its table kept, and nothing is drawn: what a call of the symbol would meet, how high it stands and
 -- which layers it would draw is told of the table left at the end of the text. The exported contract is `Summarised`, at the end.
-use Rattle.std.specs.Prelude.{◌≡◌, Bool, true, false, ℕ, zero, suc, ◌+◌, ◌*◌, ◌≤◌, ◌<◌, max, ltb, ℤ, length, get_or}
+use Rattle.std.specs.Prelude.{◌≡◌, Bool, true, false, ℕ, zero, suc, ◌+◌, ◌*◌, ◌≤◌, ◌<◌, max, ltb, ℤ, length, get_or, if◌then◌else◌}
 use mathlib.Core.List.{List, [], ◌∷◌, ◌++◌, map, flat_map}
 use Rattle.std.proofs.Math.Option.{Option, none, some}
 use Rattle.grammar.specs.Notation.{Letter}
@@ -8,7 +8,7 @@ use Rattle.grammar.specs.Viable.{Marked, Grammatical, LongestViable}
 use Rattle.definition.specs.declared.Refusal.{Refusal}
 use Rattle.definition.specs.declared.Summary.{Summary}
 use Rattle.definition.specs.Limits.{most_bytes, most_layers, deepest}
-use Rattle.definition.specs.Words.{if◌then◌else◌, Placed, at, any, those, first, same}
+use Rattle.definition.specs.Words.{Placed, at, any, those, first, same}
 use Rattle.definition.specs.Rules.{Rule, text_too_long, not_in_grammar, too_many_layers, number_of, refuse}
 use Rattle.definition.specs.Commands.{Command, draw, layer, call, start, finish, delete, nothing, commands}
 use Rattle.definition.specs.Standing.{outside}

@@ -1,8 +1,8 @@
 -- What the transformations of a call do to points, directions and shapes, exactly, over the whole numbers: the range is looked at by Drawing, at the
 -- final points.
-use Rattle.std.specs.Prelude.{Bool, true, false, List, [], ◌∷◌, map, ℤ, pos, negsuc, neg_ℤ, ◌+ℤ◌}
+use Rattle.std.specs.Prelude.{Bool, true, false, List, [], ◌∷◌, map, ℤ, pos, negsuc, neg_ℤ, ◌+ℤ◌, if◌then◌else◌}
 use Rattle.std.proofs.Math.Option.{Option, none, some}
-use Rattle.definition.specs.Words.{if◌then◌else◌, Point, point, any, none?}
+use Rattle.definition.specs.Words.{Point, point, any, none?}
 use Rattle.definition.specs.Commands.{Shape, shape_of, Turn, translate, mirror_x, mirror_y, rotate}
 use Rattle.definition.specs.Faults.{zero?, bearings}
 

@@ -1,9 +1,9 @@
 -- RULES 13, request 1: the two warnings of 7.1.2.4, each read off the one event that it is due at, so that they come in the order of their commands, and the line that
 -- each is printed as.
-use Rattle.std.specs.Prelude.{Bool, false, ℕ, pos}
+use Rattle.std.specs.Prelude.{Bool, false, ℕ, pos, if◌then◌else◌}
 use mathlib.Core.List.{List, [], ◌∷◌, ◌++◌, flat_map}
 use Rattle.std.proofs.Math.Option.{Option, none, some}
-use Rattle.definition.specs.Words.{if◌then◌else◌, Placed, those, first, none?, bytes_of}
+use Rattle.definition.specs.Words.{Placed, those, first, none?, bytes_of}
 use Rattle.definition.specs.Table.{Step, shape, instance, setting, Table, find, forget}
 use Rattle.definition.specs.Drawing.{Event, called, drew, entered, removed, refused}
 use Rattle.definition.specs.Flat.{decimal}

@@ -1,10 +1,10 @@
 -- The window of a shape, and of a list of shapes, in half units (RULES 13, request 6): all four numbers are doubled, so that it holds the figures and not only their
 -- points. That it does, and that no smaller one does save for slanting boxes, is shown in crates/figures.
-use Rattle.std.specs.Prelude.{Bool, false, not, ◌&&◌, ℤ, pos, ◌+ℤ◌, ◌-ℤ◌, ◌*ℤ◌, get_or}
+use Rattle.std.specs.Prelude.{Bool, false, not, ◌&&◌, ℤ, pos, ◌+ℤ◌, ◌-ℤ◌, ◌*ℤ◌, get_or, if◌then◌else◌}
 use mathlib.Core.List.{List, [], ◌∷◌, map, flat_map}
 use Rattle.std.proofs.Math.Option.{Option, none, some}
 use Rattle.std.specs.Int.Signed.{le_z}
-use Rattle.definition.specs.Words.{if◌then◌else◌, Point, point, any}
+use Rattle.definition.specs.Words.{Point, point, any}
 use Rattle.definition.specs.Commands.{Kind, box, flash, wire, polygon, Shape}
 use Rattle.definition.specs.Faults.{zero?}
 

@@ -1,5 +1,6 @@
 -- Every point of a shape's figure lies in its window (RULES 13, request 6), boxes that slant too.
 -- Assumes nothing.
+use Rattle.std.specs.Prelude.{if◌then◌else◌}
 use mathlib.Core.Path.{◌≡◌, refl, sym, ap, ap₂, ◌∙◌, subst}
 use mathlib.Core.Logic.{◌≢◌}
 use mathlib.Core.Bool.{Bool, true, false, cond}
@@ -10,7 +11,7 @@ use native.Mathlib.Omega.{arith}
 use lib.IntN.{ℤ, pos, ◌+ℤ◌, ◌-ℤ◌, ◌*ℤ◌}
 use lib.ListN.{get_or}
 use lib.Signed.{lt_z, ◌≤ℤ◌}
-use Rattle.definition.specs.Words.{if◌then◌else◌, Point, point}
+use Rattle.definition.specs.Words.{Point, point}
 use Rattle.definition.specs.Faults.{zero?}
 use Rattle.definition.specs.Commands.{Kind, box, flash, wire, polygon, Shape}
 use Rattle.laws.proofs.Lists.Range.{All, all_to}

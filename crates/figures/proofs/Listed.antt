@@ -1,5 +1,6 @@
 -- The window of a list of shapes holds every figure, and no smaller one does where no slanting box decides a side.
 -- Assumes nothing.
+use Rattle.std.specs.Prelude.{if◌then◌else◌}
 use mathlib.Core.Path.{◌≡◌, refl, sym, ◌∙◌, subst}
 use mathlib.Core.Bool.{Bool, true, false, not}
 use mathlib.Core.Logic.{◌⊎◌, inl, inr}
@@ -14,7 +15,7 @@ use lib.IntN.{ℤ, pos, negsuc, ◌*ℤ◌}
 use lib.Signed.{le_z, ◌≤ℤ◌, ≤ℤ_refl}
 use Rattle.grammar.specs.Notation.{Letter, Match}
 use Rattle.grammar.specs.Productions.{cif_file}
-use Rattle.definition.specs.Words.{if◌then◌else◌, Placed, Point, point}
+use Rattle.definition.specs.Words.{Placed, Point, point}
 use Rattle.definition.specs.Commands.{box, Shape, shape_of, Command, commands}
 use Rattle.definition.specs.Faults.{first_fault}
 use Rattle.definition.specs.Drawing.{Event}

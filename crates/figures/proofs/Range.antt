@@ -1,12 +1,13 @@
 -- The numbers of a window lie within four times 16,777,215 of zero, where sizes and points lie within 16,777,215: sums of 64 bits hold them.
 -- Assumes nothing.
+use Rattle.std.specs.Prelude.{if◌then◌else◌}
 use mathlib.Core.Bool.{Bool, true, false}
 use mathlib.Core.List.{List, [], ◌∷◌, map}
 use Prim.Native.Nat.{ℕ, ◌*◌, ◌≤◌}
 use native.Mathlib.Omega.{arith}
 use lib.IntN.{ℤ, pos, nat_abs, ◌+ℤ◌, ◌-ℤ◌, ◌*ℤ◌}
 use lib.ListN.{get_or}
-use Rattle.definition.specs.Words.{if◌then◌else◌, Point, point}
+use Rattle.definition.specs.Words.{Point, point}
 use Rattle.definition.specs.Commands.{Kind, box, flash, wire, polygon, Shape}
 use Rattle.definition.specs.Faults.{zero?}
 use Rattle.laws.proofs.Lists.Range.{All}

@@ -1,5 +1,6 @@
 -- The walk is the definition's `reply_to`: the rule's number, or the height and the set of the layers, where the set beside each row is that of its own layers.
 -- Assumes nothing.
+use Rattle.std.specs.Prelude.{if◌then◌else◌}
 use mathlib.Core.Path.{◌≡◌, refl, sym, ap, ap₂, ◌∙◌}
 use mathlib.Core.Bool.{Bool, true, false, ◌||◌}
 use mathlib.Core.List.{List, [], ◌∷◌, ◌++◌, flat_map}
@@ -12,7 +13,7 @@ use lib.Dec.{eqb, eqb-suc-zero}
 use lib.IntN.{ℤ}
 use lib.ListN.{get_or}
 use Rattle.definition.specs.Limits.{deepest}
-use Rattle.definition.specs.Words.{if◌then◌else◌, Placed, at, any}
+use Rattle.definition.specs.Words.{Placed, at, any}
 use Rattle.definition.specs.Rules.{too_deep, number_of}
 use Rattle.definition.specs.Table.{Step, shape, instance, setting, Definition, Table, find}
 use Rattle.definition.specs.Drawing.{Chain, barred, leads, passage_to}

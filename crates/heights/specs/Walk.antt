@@ -2,10 +2,10 @@
 -- symbols that are open, as crates/definition has (`reply_to`), and `free` does without: a symbol that stands has no cycle below it, so the two agree on
 -- it, and its height answers for any allowance (proofs/Walking.antt). A running account, not to be believed: proofs/Replied.antt says that it is `reply_to`.
 -- Assumes nothing.
-use Rattle.std.specs.Prelude.{Bool, true, false, List, [], ◌∷◌, ℕ, zero, suc, ◌+◌, max, eqb, ltb, ℤ, get_or}
+use Rattle.std.specs.Prelude.{Bool, true, false, List, [], ◌∷◌, ℕ, zero, suc, ◌+◌, max, eqb, ltb, ℤ, get_or, if◌then◌else◌}
 use Rattle.std.proofs.Math.Option.{Option, none, some}
 use Rattle.std.specs.Int.Bits.{bit_or}
-use Rattle.definition.specs.Words.{if◌then◌else◌, any}
+use Rattle.definition.specs.Words.{any}
 use Rattle.definition.specs.Table.{Definition, find}
 use Rattle.library.specs.Memory.{symbol_at, table_of}
 use Rattle.heights.specs.Calls.{calls_of}

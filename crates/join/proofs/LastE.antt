@@ -1,5 +1,6 @@
 -- The last letter E of a text, looked for from its end: what stands before it is `before_e`.
 -- Assumes nothing.
+use Rattle.std.specs.Prelude.{if◌then◌else◌}
 use mathlib.Core.Path.{◌≡◌, refl, sym, ap, ◌∙◌, subst}
 use mathlib.Core.Bool.{Bool, true, false, ◌||◌}
 use mathlib.Core.List.{List, [], ◌∷◌}
@@ -9,7 +10,7 @@ use native.Mathlib.Omega.{arith}
 use lib.Dec.{T, eqb, eqb→eq}
 use lib.ListN.{length, get_or, take, drop}
 use lib.Seq.{drop-length, drop-cons}
-use Rattle.definition.specs.Words.{if◌then◌else◌, any}
+use Rattle.definition.specs.Words.{any}
 use Rattle.joining.specs.Joined.{before_e}
 use Rattle.join.specs.Made.{CutAt}
 

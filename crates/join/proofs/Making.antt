@@ -1,5 +1,6 @@
 -- From what the parts of `join` promise to what it promises: one law for each way through the code.
 -- Assumes nothing.
+use Rattle.std.specs.Prelude.{if◌then◌else◌}
 use mathlib.Core.Path.{◌≡◌, refl, sym, ap, ap₂, ◌∙◌, subst}
 use mathlib.Core.Bool.{Bool, true, false, ◌&&◌}
 use mathlib.Core.List.{List, ◌++◌}
@@ -13,7 +14,7 @@ use Rattle.grammar.specs.Viable.{Judged}
 use Rattle.grammar.specs.declared.Verdict.{Verdict}
 use Rattle.grammar.specs.declared.Verdict.TheVariants.{InGrammar, StuckAt}
 use Rattle.definition.specs.Limits.{most_bytes}
-use Rattle.definition.specs.Words.{if◌then◌else◌, bytes_of}
+use Rattle.definition.specs.Words.{bytes_of}
 use Rattle.definition.specs.Rules.{not_in_grammar, flat_file_too_long}
 use Rattle.joining.specs.Joined.{before_e, joined}
 use Rattle.digits.specs.Writes.{Writes}

@@ -1,11 +1,10 @@
 -- What `join` makes of two texts and a room (RULES 18, request 14): the joined text in the room, or a refusal and which text it is about. Refusals come in the order of RULES 12: 1, for
 -- the first and then for the second; 2, likewise; then 18, which is about neither.
-use Rattle.std.specs.Prelude.{◌≡◌, ◌&&◌, List, ◌++◌, ℕ, ◌≤◌, ◌<◌, leb, length, take, drop}
+use Rattle.std.specs.Prelude.{◌≡◌, ◌&&◌, List, ◌++◌, ℕ, ◌≤◌, ◌<◌, leb, length, take, drop, if◌then◌else◌}
 use Rattle.grammar.specs.Viable.{Judged}
 use Rattle.grammar.specs.declared.Verdict.{Verdict}
 use Rattle.grammar.specs.declared.Verdict.TheVariants.{InGrammar, StuckAt}
 use Rattle.definition.specs.Limits.{most_bytes}
-use Rattle.definition.specs.Words.{if◌then◌else◌}
 use Rattle.definition.specs.Rules.{Rule, text_too_long, not_in_grammar, flat_file_too_long, refuse}
 use Rattle.joining.specs.Joined.{before_e, joined}
 use Rattle.join.specs.declared.JoinAnswer.{JoinAnswer}

@@ -1,6 +1,7 @@
 -- A body read alone means what it means in its text: it ends at its own DF, and what it draws depends on its own commands, on the a and b of its DS and
 -- on nothing else. So the crates above may keep a place and read a body again from there.
 -- Assumes nothing.
+use Rattle.std.specs.Prelude.{if◌then◌else◌}
 use mathlib.Core.Path.{◌≡◌, refl, sym, ap, ap₂, ◌∙◌, subst}
 use mathlib.Core.Bool.{Bool, true, false}
 use mathlib.Core.List.{List, [], ◌∷◌, ◌++◌, append_assoc, append-nil, map}
@@ -15,7 +16,7 @@ use Rattle.grammar.specs.Steps.{marked}
 use Rattle.grammar.specs.Viable.{bytes, Marked}
 use Rattle.grammar.proofs.Fitting.{state_behind}
 use Rattle.grammar.proofs.Boundaries.{inside_after, resumed}
-use Rattle.definition.specs.Words.{if◌then◌else◌, Placed, at, point}
+use Rattle.definition.specs.Words.{Placed, at, point}
 use Rattle.definition.specs.Commands.{Number, shape_of, Turn, translate, mirror_x, mirror_y, rotate, Command, draw, layer, call, start, finish, delete, nothing, commands}
 use Rattle.definition.specs.Standing.{Standing, outside, after, given, scaled, scaled_shape, scaled_turn}
 use Rattle.definition.specs.Table.{Step, shape, instance, Definition}

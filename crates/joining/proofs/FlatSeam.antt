@@ -1,5 +1,6 @@
 -- The flat file of two lists one after the other: the first's End falls away, and so does an L line at the seam where the lists meet on one layer.
 -- Assumes nothing.
+use Rattle.std.specs.Prelude.{if◌then◌else◌}
 use mathlib.Core.Path.{◌≡◌, refl, sym, ap, subst}
 use mathlib.Core.Bool.{Bool, true, false}
 use mathlib.Core.List.{List, [], ◌∷◌, ◌++◌}
@@ -7,7 +8,7 @@ use Prim.Native.Nat.{ℕ, ◌+◌, ◌≤◌}
 use native.Mathlib.Omega.{arith}
 use lib.Dec.{eqb}
 use lib.ListN.{length, length-append}
-use Rattle.definition.specs.Words.{if◌then◌else◌, Placed, same, first}
+use Rattle.definition.specs.Words.{Placed, same, first}
 use Rattle.definition.specs.Commands.{Command}
 use Rattle.definition.specs.Faults.{first_fault}
 use Rattle.definition.specs.Drawing.{Drawn, Event}

@@ -1,6 +1,7 @@
 -- A text whose commands break no rule draws no shape before an L command of its own: so a layer that still stands when it begins, from another text before it, does
 -- not matter to it. Its deeds, its faults and its rounded distances are the same.
 -- Assumes nothing.
+use Rattle.std.specs.Prelude.{if◌then◌else◌}
 use mathlib.Core.Path.{◌≡◌, refl, sym, ap, ap₂, ◌∙◌}
 use mathlib.Core.Bool.{Bool, true, false, not, ◌||◌}
 use mathlib.Core.List.{List, [], ◌∷◌, ◌++◌, map, nil≢cons}
@@ -10,7 +11,7 @@ use lib.Dec.{eqb}
 use lib.IntN.{ℤ, pos, negsuc, neg_ℤ, nat_abs}
 use lib.ListN.{length}
 use Rattle.definition.specs.declared.Refusal.{Refusal}
-use Rattle.definition.specs.Words.{if◌then◌else◌, Placed, at, point, any, those}
+use Rattle.definition.specs.Words.{Placed, at, point, any, those}
 use Rattle.definition.specs.Rules.{number_too_large, zero_factor, scaled_too_large, degenerate_command, no_layer, too_many_parts}
 use Rattle.definition.specs.Commands.{Number, Shape, shape_of, Turn, translate, mirror_x, mirror_y, rotate, Command, draw, layer, call, start, finish, delete, nothing}
 use Rattle.definition.specs.Standing.{Standing, outside, after, nearest, scaled, whole, given, scaled_shape, scaled_turn}

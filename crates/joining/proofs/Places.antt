@@ -1,6 +1,7 @@
 -- Places count from the start of a text: the same letters k places further on have the same commands with all places k more, and nothing else of
 -- them depends on places. The crates above cite this where a text or a body is read again from another start.
 -- Assumes nothing.
+use Rattle.std.specs.Prelude.{if◌then◌else◌}
 use mathlib.Core.Path.{◌≡◌, refl, sym, ap, ap₂, ◌∙◌, subst}
 use mathlib.Core.Bool.{Bool, true, false, not, ◌||◌}
 use mathlib.Core.List.{List, [], ◌∷◌, ◌++◌, map, map-map, map-append, flat_map}
@@ -14,7 +15,7 @@ use Rattle.grammar.specs.Notation.{Letter, head, second, turn, axis, sign, lead,
 use Rattle.definition.specs.declared.Refusal.{Refusal}
 use Rattle.definition.specs.Limits.{most_points, most_turns}
 use Rattle.definition.specs.Rules.{Rule, number_too_large, zero_factor, scaled_too_large, degenerate_command, no_layer, too_many_parts, refuse}
-use Rattle.definition.specs.Words.{if◌then◌else◌, Placed, at, Point, point, those, any, first}
+use Rattle.definition.specs.Words.{Placed, at, Point, point, those, any, first}
 use Rattle.definition.specs.Commands.{Number, box, flash, wire, polygon, Shape, shape_of, Turn, translate, mirror_x, mirror_y, rotate}
 use Rattle.definition.specs.Commands.{Command, draw, layer, call, start, finish, delete, nothing, ◌plays◌, ◌is◌}
 use Rattle.definition.specs.Commands.{worth, numbers, nth, paired, next, turn_at, turns, command_at, commands}

@@ -1,6 +1,7 @@
 -- Request 14 (RULES 18), placing: drawing under one call's right-angle list and then another's is drawing under the composed list, over whole numbers,
 -- before the range is looked at: for points, directions, shapes, lists of shapes, and all that a call draws. Crate turns has the same of the nets that code keeps.
 -- Assumes nothing.
+use Rattle.std.specs.Prelude.{if◌then◌else◌}
 use mathlib.Core.Path.{◌≡◌, refl, sym, ap, ap₂, ◌∙◌}
 use mathlib.Core.Bool.{Bool, true, false, ◌||◌}
 use mathlib.Core.List.{List, [], ◌∷◌, ◌++◌, append_assoc, append-nil, map, map-map, map-append}
@@ -10,7 +11,7 @@ use lib.IntN.{ℤ}
 use lib.ListN.{length}
 use Rattle.definition.specs.declared.Refusal.{Refusal}
 use Rattle.definition.specs.Limits.{deepest, most_definitions}
-use Rattle.definition.specs.Words.{if◌then◌else◌, Placed, at, Point, any, none?}
+use Rattle.definition.specs.Words.{Placed, at, Point, any, none?}
 use Rattle.definition.specs.Rules.{off_the_axes}
 use Rattle.definition.specs.Commands.{Shape, shape_of, Turn}
 use Rattle.definition.specs.Faults.{beyond, both, bearings}

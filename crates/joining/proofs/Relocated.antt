@@ -1,6 +1,7 @@
 -- The drawing does not look at places: where every place p becomes f p, the same things happen, at the places so changed. So a text that stands k places
 -- further on, where f adds k, draws the same shapes, and its flat file is the same.
 -- Assumes nothing.
+use Rattle.std.specs.Prelude.{if◌then◌else◌}
 use mathlib.Core.Path.{◌≡◌, refl, sym, ap, ap₂, ◌∙◌}
 use mathlib.Core.Bool.{Bool, true, false}
 use mathlib.Core.List.{List, [], ◌∷◌, ◌++◌, map, map-map, map-append}
@@ -13,7 +14,7 @@ use lib.ListN.{length, length-map}
 use Rattle.definition.specs.declared.Refusal.{Refusal}
 use Rattle.definition.specs.Limits.{most_definitions, deepest, most_calls, most_shapes}
 use Rattle.definition.specs.Rules.{too_many_definitions, off_the_axes, being_drawn, too_deep, refuse}
-use Rattle.definition.specs.Words.{if◌then◌else◌, Placed, at, any, none?}
+use Rattle.definition.specs.Words.{Placed, at, any, none?}
 use Rattle.definition.specs.Commands.{Shape, Turn, Command, draw, layer, call, start, finish, delete, nothing}
 use Rattle.definition.specs.Standing.{Standing, after}
 use Rattle.definition.specs.Faults.{beyond}

@@ -1,6 +1,7 @@
 -- Two drawings one after the other: if each finishes, both together finish exactly when their calls and their shapes together stay within the limits, and then the
 -- counts are the sums. So are the rounded distances of two lists of commands.
 -- Assumes nothing.
+use Rattle.std.specs.Prelude.{if◌then◌else◌}
 use mathlib.Core.Path.{◌≡◌, refl, sym, ap, ap₂, ◌∙◌, subst}
 use mathlib.Core.Bool.{Bool, true, false}
 use mathlib.Core.List.{List, [], ◌∷◌, ◌++◌}
@@ -8,7 +9,7 @@ use Prim.Native.Nat.{◌+◌, ◌≤◌}
 use native.Mathlib.Omega.{arith}
 use lib.ListN.{length, length-append}
 use Rattle.definition.specs.Limits.{most_calls, most_shapes}
-use Rattle.definition.specs.Words.{if◌then◌else◌, Placed, none?}
+use Rattle.definition.specs.Words.{Placed, none?}
 use Rattle.definition.specs.Commands.{Command}
 use Rattle.definition.specs.Standing.{Standing, after}
 use Rattle.definition.specs.Rounded.{rounded_from}

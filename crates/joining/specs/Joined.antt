@@ -1,8 +1,8 @@
 -- Two texts joined (RULES 18, request 14): the first cut at its E, then `DD0;`, then the second; and all that is said of it. proofs/Joining.antt proves it. It stands in
 -- specs/ so that a contract can cite it.
-use Rattle.std.specs.Prelude.{◌≡◌, List, [], ◌∷◌, ◌++◌, map, ℕ, ◌+◌, ◌≤◌, eqb, ℤ, length}
+use Rattle.std.specs.Prelude.{◌≡◌, List, [], ◌∷◌, ◌++◌, map, ℕ, ◌+◌, ◌≤◌, eqb, ℤ, length, if◌then◌else◌}
 use Rattle.definition.specs.Limits.{most_bytes, most_calls, most_shapes}
-use Rattle.definition.specs.Words.{if◌then◌else◌, Placed, at, any, bytes_of}
+use Rattle.definition.specs.Words.{Placed, at, any, bytes_of}
 use Rattle.definition.specs.Commands.{Shape, Command}
 use Rattle.definition.specs.Rounded.{rounded}
 use Rattle.definition.specs.Drawing.{Drawn, Event}

@@ -1,6 +1,7 @@
 -- A definition begun, filled and entered: the memory holds the table that it is entered in, the words counted are those that the live definitions need,
 -- and a redefinition is counted (refusals 10 and 25 otherwise).
 -- Assumes nothing.
+use Rattle.std.specs.Prelude.{if◌then◌else◌}
 use mathlib.Core.Path.{◌≡◌, refl, sym, ap, ◌∙◌, subst}
 use mathlib.Core.Bool.{Bool, true, false}
 use mathlib.Core.List.{List, [], ◌∷◌}
@@ -12,7 +13,7 @@ use lib.Dec.{eqb, ltb}
 use lib.IntN.{ℤ}
 use lib.ListN.{length}
 use Rattle.definition.specs.Limits.{most_bytes, most_definitions}
-use Rattle.definition.specs.Words.{if◌then◌else◌, none?}
+use Rattle.definition.specs.Words.{none?}
 use Rattle.definition.specs.Table.{Definition, Table, find, enter}
 use Rattle.definition.specs.Held.{words_in}
 use Rattle.definition.specs.Lean.{lean_definition}

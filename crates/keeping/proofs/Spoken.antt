@@ -1,5 +1,6 @@
 -- The next command within a definition, told from the letter of its kind: a step of the body, whose words are those that hold it, the DF, or nothing.
 -- Assumes nothing.
+use Rattle.std.specs.Prelude.{if◌then◌else◌}
 use mathlib.Core.Path.{◌≡◌, refl, sym, ap, ap₂, ◌∙◌, subst}
 use mathlib.Core.Bool.{Bool, true, false, ◌||◌}
 use mathlib.Core.List.{List, [], ◌∷◌, ◌++◌, map}
@@ -9,7 +10,7 @@ use borrow.Author.Tests.{eqb-true}
 use lib.Dec.{eqb}
 use lib.IntN.{ℤ, pos, nat_abs}
 use lib.ListN.{length}
-use Rattle.definition.specs.Words.{if◌then◌else◌, Placed, at}
+use Rattle.definition.specs.Words.{Placed, at}
 use Rattle.definition.specs.Commands.{Kind, box, flash, wire, polygon, Command, layer, finish, nothing}
 use Rattle.definition.specs.Standing.{Standing, outside, after, scaled_shape, scaled_turn}
 use Rattle.definition.specs.Table.{Step, shape, instance, setting}

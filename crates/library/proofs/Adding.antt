@@ -1,5 +1,6 @@
 -- A step added to a body, after its last step or in its place: the body's steps and words, and the table in which a definition grows.
 -- Assumes nothing.
+use Rattle.std.specs.Prelude.{if◌then◌else◌}
 use mathlib.Core.Path.{◌≡◌, refl, sym, ap, ap₂, ◌∙◌}
 use mathlib.Core.Bool.{Bool, true, false, ◌&&◌}
 use mathlib.Core.List.{List, [], ◌∷◌, ◌++◌, append_assoc, append-nil}
@@ -9,7 +10,7 @@ use borrow.Author.Tests.{eqb-false, eq-eqb, ne_eqb}
 use lib.Dec.{eqb, ltb}
 use lib.IntN.{ℤ}
 use lib.ListN.{length}
-use Rattle.definition.specs.Words.{if◌then◌else◌, Placed}
+use Rattle.definition.specs.Words.{Placed}
 use Rattle.definition.specs.Table.{Step, shape, instance, setting, Table, enter}
 use Rattle.definition.specs.Lean.{add}
 use Rattle.laws.proofs.Story.Lean.{Setting, add-after, add_replaces}

@@ -1,6 +1,7 @@
 -- What each operation makes of the table that is held: a definition begun is entered, a step more is a step more of its body, whichever way it is
 -- stored, DD forgets, and moving together changes nothing. The words counted are those that the definitions need.
 -- Assumes nothing.
+use Rattle.std.specs.Prelude.{if◌then◌else◌}
 use mathlib.Core.Path.{◌≡◌, refl, sym, ap, ap₂, ◌∙◌, subst}
 use mathlib.Core.Bool.{Bool, true, false}
 use mathlib.Core.List.{List, [], ◌∷◌, ◌++◌}
@@ -11,7 +12,7 @@ use borrow.Author.Tests.{eqb-false, eq-eqb, ne_eqb, ltb-true, ltb-false, lt-ltb,
 use lib.Dec.{eqb, ltb}
 use lib.IntN.{ℤ}
 use lib.ListN.{length}
-use Rattle.definition.specs.Words.{if◌then◌else◌, Placed, those}
+use Rattle.definition.specs.Words.{Placed, those}
 use Rattle.definition.specs.Table.{Step, Definition, Table, enter, forget}
 use Rattle.definition.specs.Held.{words_of_body, words_in}
 use Rattle.definition.specs.Lean.{add, lean, lean_table}

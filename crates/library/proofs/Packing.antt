@@ -1,5 +1,6 @@
 -- Bodies moved together: up to `to` stand those that are done, after it the others as they stood. Each turn takes the lowest of these.
 -- Assumes nothing.
+use Rattle.std.specs.Prelude.{if◌then◌else◌}
 use mathlib.Core.Path.{◌≡◌, refl, sym, ap, ap₂, ◌∙◌, subst}
 use mathlib.Core.Bool.{Bool, true, false}
 use mathlib.Core.List.{List, []}
@@ -10,7 +11,7 @@ use lib.Dec.{ltb}
 use lib.IntN.{ℤ, pos}
 use lib.ListN.{length, get_or, set, length-set}
 use lib.Seq.{get_or-set_same, get_or-set_other}
-use Rattle.definition.specs.Words.{if◌then◌else◌, Placed}
+use Rattle.definition.specs.Words.{Placed}
 use Rattle.definition.specs.Table.{Definition, Step}
 use Rattle.library.specs.Memory.{words_at, steps_in, steps_of, definition_at, symbol_at, place_at, start_at, length_at, sum_of, words_held, most}
 use Rattle.library.specs.Moving.{Laid, Moved, SameRow, length_below, held_below, Covered, Compacted}

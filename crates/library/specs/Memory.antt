@@ -2,9 +2,9 @@
 -- functions of the memory, so a contract speaks of the table itself. A running account, not to be believed: that the words of every command of a
 -- sound text come back as its steps is proved (proofs/Decoded.antt).
 -- Assumes nothing.
-use Rattle.std.specs.Prelude.{List, [], ◌∷◌, ℕ, zero, suc, ◌+◌, ◌-◌, ◌*◌, ◌/◌, ◌%◌, eqb, ℤ, pos, nat_abs, length, take, drop, get_or}
+use Rattle.std.specs.Prelude.{List, [], ◌∷◌, ℕ, zero, suc, ◌+◌, ◌-◌, ◌*◌, ◌/◌, ◌%◌, eqb, ℤ, pos, nat_abs, length, take, drop, get_or, if◌then◌else◌}
 use Rattle.definition.specs.Limits.{most_definitions, most_bytes}
-use Rattle.definition.specs.Words.{if◌then◌else◌, Placed, at, Point, point}
+use Rattle.definition.specs.Words.{Placed, at, Point, point}
 use Rattle.definition.specs.Commands.{Kind, box, flash, wire, polygon, Shape, shape_of, Turn, translate, mirror_x, mirror_y, rotate}
 use Rattle.definition.specs.Flat.{letter_of}
 use Rattle.definition.specs.Table.{Step, shape, instance, setting, Definition, Table}

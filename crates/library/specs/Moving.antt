@@ -1,7 +1,6 @@
 -- How live bodies stand in the run, and what moving them together leaves. A running account, not to be believed.
 -- Assumes nothing.
-use Rattle.std.specs.Prelude.{◌≡◌, List, ℕ, ◌+◌, ◌*◌, ◌≤◌, ◌<◌, ltb, ℤ, pos, length, get_or, set}
-use Rattle.definition.specs.Words.{if◌then◌else◌}
+use Rattle.std.specs.Prelude.{◌≡◌, List, ℕ, ◌+◌, ◌*◌, ◌≤◌, ◌<◌, ltb, ℤ, pos, length, get_or, set, if◌then◌else◌}
 use Rattle.library.specs.Memory.{words_at, table_of, symbol_at, place_at, start_at, length_at, needed_at, sum_of, words_held, most, row_numbers}
 
 -- bodies that are not empty stand within the first words of the run, and none overlaps another

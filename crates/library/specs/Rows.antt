@@ -1,8 +1,7 @@
 -- Rows by number: where the numbers part, and what it leaves to begin a definition and to forget some. A running account, not to be believed.
 -- Assumes nothing.
-use Rattle.std.specs.Prelude.{◌≡◌, List, [], ℕ, ◌+◌, ◌-◌, ◌*◌, ◌≤◌, ◌<◌, ltb, ℤ, length, get_or, set}
+use Rattle.std.specs.Prelude.{◌≡◌, List, [], ℕ, ◌+◌, ◌-◌, ◌*◌, ◌≤◌, ◌<◌, ltb, ℤ, length, get_or, set, if◌then◌else◌}
 use Rattle.std.proofs.Math.Option.{none}
-use Rattle.definition.specs.Words.{if◌then◌else◌}
 use Rattle.definition.specs.Table.{Definition, find, enter, forget}
 use Rattle.library.specs.Memory.{symbol_at, place_at, start_at, length_at, needed_at, table_of, most, row_numbers}
 use Rattle.library.specs.declared.Found.{Found}

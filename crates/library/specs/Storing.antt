@@ -1,7 +1,7 @@
 -- A body that grows by a command. A running account, not to be believed.
 -- Assumes nothing.
-use Rattle.std.specs.Prelude.{◌≡◌, Bool, true, false, List, [], ◌∷◌, ℕ, ◌+◌, ◌-◌, ◌*◌, ◌^◌, ◌≤◌, ◌<◌, eqb, ℤ, pos, length, get_or, set}
-use Rattle.definition.specs.Words.{if◌then◌else◌, Placed}
+use Rattle.std.specs.Prelude.{◌≡◌, Bool, true, false, List, [], ◌∷◌, ℕ, ◌+◌, ◌-◌, ◌*◌, ◌^◌, ◌≤◌, ◌<◌, eqb, ℤ, pos, length, get_or, set, if◌then◌else◌}
+use Rattle.definition.specs.Words.{Placed}
 use Rattle.definition.specs.Table.{Step, shape, instance, setting, Table}
 use Rattle.definition.specs.Lean.{add}
 use Rattle.library.specs.Memory.{words_at, body_at, table_of, layer_after, symbol_at, place_at, start_at, length_at, needed_at, most}

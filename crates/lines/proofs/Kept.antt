@@ -1,11 +1,11 @@
 -- Counts stay within the bytes read, and a name within 32 bits: by these laws a loop over a flat file's bytes keeps what `after` asks for.
 -- Assumes nothing.
+use Rattle.std.specs.Prelude.{if◌then◌else◌}
 use mathlib.Core.Bool.{Bool, true, false}
 use Prim.Native.Nat.{ℕ, ◌+◌, ◌*◌, ◌/◌, ◌≤◌, ◌<◌}
 use native.Mathlib.Nat.{mul-le-mul_right}
 use native.Mathlib.Omega.{arith}
 use lib.Dec.{eqb}
-use Rattle.definition.specs.Words.{if◌then◌else◌}
 use Rattle.lines.specs.Followed.{line, fresh, opened, named, line_after, numeral, pushed, ends, numeral_after}
 use Rattle.lines.specs.declared.Line.{Line}
 use Rattle.lines.specs.declared.Numeral.{Numeral}

@@ -1,5 +1,6 @@
 -- What the code's single steps rest on: a letter has room in a packed name, and signed numbers of 64 bits come back as they were.
 -- Assumes nothing.
+use Rattle.std.specs.Prelude.{if◌then◌else◌}
 use mathlib.Core.Path.{◌≡◌, refl, sym, ap, ap₂, ◌∙◌, subst}
 use mathlib.Core.Bool.{Bool, true, false}
 use Prim.Native.Nat.{ℕ, zero, suc, ◌+◌, ◌*◌, ◌^◌, ◌≤◌, ◌<◌}
@@ -10,7 +11,6 @@ use lib.Signed.{le_z, mag}
 use mir.Syntax.{w64}
 use mir.Val.{SFits, to_z, of_z}
 use mir.Facts.{to_z-of_z, to_z_pos}
-use Rattle.definition.specs.Words.{if◌then◌else◌}
 use Rattle.turns.proofs.Signed.{abs_neg, abs_add, fits}
 use Rattle.lines.specs.Followed.{lower, higher, span, widened, stretched, value_of}
 use Rattle.lines.specs.declared.Numeral.{Numeral}

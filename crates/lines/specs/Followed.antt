@@ -1,10 +1,9 @@
 -- What is known of a flat file after each of its bytes, of any bytes whatever: a running account, not to be believed. proofs/Agrees.antt of listing,
 -- above, shows that along the flat file of a text it gives the definition's lines and window.
 -- Assumes nothing.
-use Rattle.std.specs.Prelude.{Bool, true, false, ℕ, ◌+◌, ◌-◌, ◌*◌, ◌/◌, ◌%◌, ◌≤◌, eqb, ltb, ℤ, pos, neg_ℤ, ◌+ℤ◌, ◌-ℤ◌, ◌*ℤ◌}
+use Rattle.std.specs.Prelude.{Bool, true, false, ℕ, ◌+◌, ◌-◌, ◌*◌, ◌/◌, ◌%◌, ◌≤◌, eqb, ltb, ℤ, pos, neg_ℤ, ◌+ℤ◌, ◌-ℤ◌, ◌*ℤ◌, if◌then◌else◌}
 use Rattle.std.specs.Int.Signed.{le_z}
 use Rattle.definition.specs.Limits.{largest}
-use Rattle.definition.specs.Words.{if◌then◌else◌}
 use Rattle.names.specs.Names.{byte_unit, first_unit, longer}
 use Rattle.lines.specs.declared.Line.{Line}
 use Rattle.lines.specs.declared.Numeral.{Numeral}

@@ -1,5 +1,6 @@
 -- What is printed of a flat file's lines: nothing of an L line, which leaves its layer behind, and of a shape's line the definition's line for it.
 -- Assumes nothing.
+use Rattle.std.specs.Prelude.{if◌then◌else◌}
 use mathlib.Core.Path.{◌≡◌, refl, sym, ap, ◌∙◌, subst}
 use mathlib.Core.Bool.{Bool, true, false}
 use mathlib.Core.List.{List, [], ◌∷◌, ◌++◌, append_assoc}
@@ -12,7 +13,7 @@ use lib.IntN.{ℤ, pos, negsuc}
 use lib.ListN.{length}
 use Rattle.grammar.specs.Notation.{has}
 use Rattle.grammar.proofs.Tests.{and_left, and_right}
-use Rattle.definition.specs.Words.{if◌then◌else◌, same, bytes_of}
+use Rattle.definition.specs.Words.{same, bytes_of}
 use Rattle.definition.specs.Commands.{Kind, box, flash, wire, polygon}
 use Rattle.definition.specs.Drawing.{Drawn}
 use Rattle.definition.specs.Flat.{shortest, decimal, spaced, letter_of, numbers_of_shape, said, lines}

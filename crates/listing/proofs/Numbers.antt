@@ -1,6 +1,7 @@
 -- The window along the flat file's lines: each number of a shape's line is worth what it says, and is taken where it is one of a point; an L line adds
 -- nothing.
 -- Assumes nothing.
+use Rattle.std.specs.Prelude.{if◌then◌else◌}
 use mathlib.Core.Path.{◌≡◌, refl, sym, ap, ◌∙◌, subst}
 use mathlib.Core.Bool.{Bool, true, false}
 use mathlib.Core.List.{List, [], ◌∷◌, ◌++◌, append_assoc}
@@ -10,7 +11,7 @@ use borrow.Author.Tests.{ne_eqb, le-ltb}
 use lib.Dec.{T, eqb, ltb}
 use lib.IntN.{ℤ, pos, negsuc, nat_abs}
 use lib.ListN.{length}
-use Rattle.definition.specs.Words.{if◌then◌else◌, same}
+use Rattle.definition.specs.Words.{same}
 use Rattle.definition.specs.Flat.{shortest, decimal, spaced}
 use Rattle.definition.specs.Flat
 use Rattle.laws.proofs.Lists.Range.{All}

@@ -1,6 +1,7 @@
 -- The window: of each shape's numbers a stretch is taken about each of its points, so that the spans along the flat file are the lowest and the highest
 -- of the windows of all shapes.
 -- Assumes nothing.
+use Rattle.std.specs.Prelude.{if◌then◌else◌}
 use mathlib.Core.Path.{◌≡◌, refl, sym, ap, ◌∙◌}
 use mathlib.Core.Bool.{Bool, true, false}
 use mathlib.Core.List.{List, [], ◌∷◌, ◌++◌, map, flat_map, append_assoc}
@@ -11,7 +12,7 @@ use lib.Dec.{eqb}
 use lib.IntN.{ℤ, pos, negsuc, nat_abs}
 use lib.ListN.{length}
 use lib.Signed.{le_z}
-use Rattle.definition.specs.Words.{if◌then◌else◌, Point, point}
+use Rattle.definition.specs.Words.{Point, point}
 use Rattle.definition.specs.Commands.{Shape}
 use Rattle.definition.specs.Faults.{both}
 use Rattle.definition.specs.Drawing.{Drawn}

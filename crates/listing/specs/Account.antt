@@ -1,8 +1,8 @@
 -- How the listing comes from the flat file byte by byte, of any bytes whatever: a running account, not to be believed. proofs/Agrees.antt shows that
 -- for the answer and the flat file of a text it is the definition's `listing`.
 -- Assumes nothing.
-use Rattle.std.specs.Prelude.{Bool, true, false, List, [], ◌∷◌, ◌++◌, ℕ, eqb, ltb, pos, length, take}
-use Rattle.definition.specs.Words.{if◌then◌else◌, bytes_of}
+use Rattle.std.specs.Prelude.{Bool, true, false, List, [], ◌∷◌, ◌++◌, ℕ, eqb, ltb, pos, length, take, if◌then◌else◌}
+use Rattle.definition.specs.Words.{bytes_of}
 use Rattle.definition.specs.Flat.{decimal}
 use Rattle.definition.specs.Listing.{fields}
 use Rattle.definition.specs.declared.Answer.{Answer}

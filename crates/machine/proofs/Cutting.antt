@@ -1,5 +1,6 @@
 -- A part of the words and of the room is lent on: what is lent is what the contracts name, and what comes back stands in its place.
 -- Assumes nothing.
+use Rattle.std.specs.Prelude.{if◌then◌else◌}
 use mathlib.Core.Path.{◌≡◌, refl, sym, ap, ◌∙◌, subst}
 use mathlib.Core.Bool.{Bool, true, false}
 use mathlib.Core.List.{List, [], ◌∷◌, ◌++◌, append-nil}
@@ -10,7 +11,6 @@ use lib.ListN.{length, take, drop, length-append}
 use lib.Seq.{take_all, drop-length, take-append_seam, length-take-le}
 use borrow.Author.Tests.{ltb-true, ltb-false}
 use lib.Dec.{ltb}
-use Rattle.definition.specs.Words.{if◌then◌else◌}
 use Rattle.definition.specs.Limits.{deepest}
 use Rattle.definition.specs.Drawing.{Chain, Event}
 use Rattle.turns.specs.Nets.{Near}

@@ -1,6 +1,7 @@
 -- How a text comes out that is drawn with records lent: refused before it is drawn, stopped in its drawing, or finished, when the records made no difference, so that
 -- the reader's own laws tell it.
 -- Assumes nothing.
+use Rattle.std.specs.Prelude.{if◌then◌else◌}
 use mathlib.Core.Path.{◌≡◌, refl, sym, ap, ◌∙◌, subst}
 use mathlib.Core.Bool.{Bool, true, false}
 use mathlib.Core.List.{List, [], ◌∷◌, map}
@@ -18,7 +19,7 @@ use Rattle.grammar.specs.declared.Verdict.TheVariants.{InGrammar, StuckAt}
 use Rattle.definition.specs.declared.Answer.{Answer}
 use Rattle.definition.specs.declared.Refusal.{Refusal}
 use Rattle.definition.specs.Limits.{most_bytes}
-use Rattle.definition.specs.Words.{if◌then◌else◌, Placed}
+use Rattle.definition.specs.Words.{Placed}
 use Rattle.definition.specs.Rules.{too_few_records, flat_file_too_long, refuse}
 use Rattle.definition.specs.Commands.{Command, commands}
 use Rattle.definition.specs.Faults.{first_fault}

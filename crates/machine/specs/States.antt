@@ -1,11 +1,10 @@
 -- The machine's records and states as they are made: what a record keeps of a body, and the state after each thing that can happen. A running account, not to be
 -- believed: what a state means stands in Underway.antt.
 -- Assumes nothing.
-use Rattle.std.specs.Prelude.{◌≡◌, Bool, true, false, List, [], ◌∷◌, ℕ, suc, ◌+◌, ◌-◌, ◌*◌, ◌/◌, ◌%◌, ◌^◌, ◌<◌, ◌≤◌, eqb, ℤ, pos, length, take, replicate}
+use Rattle.std.specs.Prelude.{◌≡◌, Bool, true, false, List, [], ◌∷◌, ℕ, suc, ◌+◌, ◌-◌, ◌*◌, ◌/◌, ◌%◌, ◌^◌, ◌<◌, ◌≤◌, eqb, ℤ, pos, length, take, replicate, if◌then◌else◌}
 use Rattle.std.proofs.lemmas.List.Edits.{sets}
 use Rattle.definition.specs.declared.Answer.{Answer}
 use Rattle.definition.specs.declared.Refusal.{Refusal}
-use Rattle.definition.specs.Words.{if◌then◌else◌}
 use Rattle.definition.specs.Drawing.{Chain}
 use Rattle.definition.specs.Answer.{success, failure}
 use Rattle.definition.specs.Counts.{counts}

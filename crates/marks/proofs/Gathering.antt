@@ -1,5 +1,6 @@
 -- The pass of `gather`: what each command brings, told from what is written of it, whatever else is wrong with it; so 19 is found in text order.
 -- Assumes nothing.
+use Rattle.std.specs.Prelude.{if◌then◌else◌}
 use mathlib.Core.Path.{◌≡◌, refl, sym, ap, ap₂, ◌∙◌, subst}
 use mathlib.Core.Bool.{Bool, true, false}
 use mathlib.Core.List.{List, [], ◌∷◌, ◌++◌, map}
@@ -16,7 +17,7 @@ use Rattle.grammar.specs.Viable.{Marked}
 use Rattle.grammar.proofs.Markings.{one_marking}
 use Rattle.definition.specs.declared.Refusal.{Refusal}
 use Rattle.definition.specs.Limits.{most_layers}
-use Rattle.definition.specs.Words.{if◌then◌else◌, Placed, at}
+use Rattle.definition.specs.Words.{Placed, at}
 use Rattle.definition.specs.Rules.{too_many_layers, refuse}
 use Rattle.definition.specs.Commands.{Command, layer, commands}
 use Rattle.definition.specs.Summary.{Names, names_after, names_from, layer_names, too_many_from}

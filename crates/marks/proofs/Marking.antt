@@ -1,5 +1,6 @@
 -- A run of names: what one name more makes of it, and that the bit of a name is the set of that one layer.
 -- Assumes nothing.
+use Rattle.std.specs.Prelude.{if◌then◌else◌}
 use mathlib.Core.Path.{◌≡◌, refl, sym, ap, ap₂, ◌∙◌, subst}
 use mathlib.Core.Bool.{Bool, true, false, ◌||◌}
 use mathlib.Core.List.{List, [], ◌∷◌, ◌++◌}
@@ -13,7 +14,7 @@ use lib.ListN.{length, get_or, set, length-append, length-set}
 use lib.Pow.{shl_exact}
 use lib.Seq.{get_or-set_same, get_or-set_other}
 use Rattle.definition.specs.Limits.{most_layers}
-use Rattle.definition.specs.Words.{if◌then◌else◌, any, same}
+use Rattle.definition.specs.Words.{any, same}
 use Rattle.definition.specs.Commands.{layer}
 use Rattle.definition.specs.Summary.{Names, among, names_after}
 use Rattle.definition.specs.Marks.{set_of_layers}

@@ -1,10 +1,10 @@
 -- What a run of names means: each is one number, and its place is its mark. A running account, not to be believed: the sets that marks make are those of
 -- crates/definition (specs/Marks.antt), and refusal 19 is the definition's.
 -- Assumes nothing.
-use Rattle.std.specs.Prelude.{◌≡◌, List, [], ℕ, ◌+◌, ◌^◌, ◌≤◌, ◌<◌, ltb, length, get_or, set}
+use Rattle.std.specs.Prelude.{◌≡◌, List, [], ℕ, ◌+◌, ◌^◌, ◌≤◌, ◌<◌, ltb, length, get_or, set, if◌then◌else◌}
 use Rattle.std.proofs.Math.Option.{none, some}
 use Rattle.definition.specs.Limits.{most_layers}
-use Rattle.definition.specs.Words.{if◌then◌else◌, Placed}
+use Rattle.definition.specs.Words.{Placed}
 use Rattle.definition.specs.Rules.{too_many_layers, refuse}
 use Rattle.definition.specs.Commands.{Command}
 use Rattle.definition.specs.Summary.{Names, layer_names, too_many_from}

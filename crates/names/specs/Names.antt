@@ -1,8 +1,7 @@
 -- Layer names packed into numbers of 32 bits, first letter highest, zero bytes after the last; 0 is no name. A running account, not to be believed:
 -- proofs/Names.antt of pen proves that names come back, and that the order of the numbers is the byte order of the names.
 -- Assumes nothing.
-use Rattle.std.specs.Prelude.{Bool, true, false, List, [], ◌∷◌, ℕ, zero, suc, ◌+◌, ◌*◌, ◌/◌, ◌%◌, eqb, ltb}
-use Rattle.definition.specs.Words.{if◌then◌else◌}
+use Rattle.std.specs.Prelude.{Bool, true, false, List, [], ◌∷◌, ℕ, zero, suc, ◌+◌, ◌*◌, ◌/◌, ◌%◌, eqb, ltb, if◌then◌else◌}
 
 -- a letter counts 256 times the next, and the last of four counts 1
 abbrev pub byte_unit : ℕ

@@ -1,6 +1,7 @@
 -- One call: the refusals 11 to 15 in their order, as the definition has them, or the way into its symbol's row. `open_call` answers by them, a test after
 -- another, and whoever draws a call goes on from `Opens` alone.
 -- Assumes nothing.
+use Rattle.std.specs.Prelude.{if◌then◌else◌}
 use mathlib.Core.Path.{◌≡◌, refl, sym, ap, ◌∙◌, subst}
 use mathlib.Core.Bool.{Bool, true, false}
 use mathlib.Core.List.{List, [], ◌∷◌}
@@ -10,7 +11,7 @@ use native.Mathlib.Omega.{arith}
 use borrow.Author.Tests.{eq-eqb, ne_eqb, ltb-true}
 use lib.Dec.{eqb, ltb}
 use lib.IntN.{ℤ}
-use Rattle.definition.specs.Words.{if◌then◌else◌, any}
+use Rattle.definition.specs.Words.{any}
 use Rattle.definition.specs.Commands.{Turn}
 use Rattle.definition.specs.Turns.{off_axes}
 use Rattle.definition.specs.Table.{Definition, find}

@@ -1,5 +1,6 @@
 -- No text needs more words than it has bytes, so to lend more than that changes nothing: a run may be cut to the most words that any text needs.
 -- Assumes nothing.
+use Rattle.std.specs.Prelude.{if◌then◌else◌}
 use mathlib.Core.Path.{◌≡◌, refl, sym, ap, ◌∙◌, subst}
 use mathlib.Core.Bool.{Bool, true, false}
 use mathlib.Core.List.{List, map}
@@ -7,7 +8,6 @@ use Prim.Native.Nat.{ℕ, ◌-◌, ◌≤◌}
 use native.Mathlib.Omega.{arith}
 use borrow.Author.Tests.{ltb-true, ltb-false}
 use lib.Dec.{ltb}
-use Rattle.definition.specs.Words.{if◌then◌else◌}
 use Rattle.definition.specs.Drawing.{Event}
 use Rattle.definition.specs.Held.{held_to}
 use Rattle.laws.proofs.Commands.WordsWithin.{held-within}

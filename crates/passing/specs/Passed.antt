@@ -1,11 +1,10 @@
 -- What a whole text is to draw: the story of its commands, held to the words lent, from nothing drawn and nothing written. Not to be believed: only names
 -- for what crates/definition says.
 -- Assumes nothing.
-use Rattle.std.specs.Prelude.{◌≡◌, Bool, ◌||◌, List, [], map, ℕ, ◌≤◌, ltb, eqb, ℤ, pos, nat_abs, length, get_or}
+use Rattle.std.specs.Prelude.{◌≡◌, Bool, ◌||◌, List, [], map, ℕ, ◌≤◌, ltb, eqb, ℤ, pos, nat_abs, length, get_or, if◌then◌else◌}
 use Rattle.std.proofs.Math.Option.{none}
 use Rattle.grammar.specs.Notation.{Letter}
 use Rattle.grammar.specs.Viable.{Marked}
-use Rattle.definition.specs.Words.{if◌then◌else◌}
 use Rattle.definition.specs.Commands.{commands}
 use Rattle.definition.specs.Faults.{first_fault}
 use Rattle.definition.specs.Drawing.{Event}

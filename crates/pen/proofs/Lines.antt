@@ -1,5 +1,6 @@
 -- From single writes to a shape of the flat file: an L line where the layer differs and the shape's line are what `said` says.
 -- Assumes nothing.
+use Rattle.std.specs.Prelude.{if◌then◌else◌}
 use mathlib.Core.Path.{◌≡◌, ap}
 use mathlib.Core.Bool.{Bool, true, false}
 use mathlib.Core.List.{List, []}
@@ -7,7 +8,7 @@ use Prim.Native.Nat.{ℕ, ◌≤◌}
 use native.Mathlib.Omega.{arith}
 use lib.IntN.{ℤ}
 use lib.ListN.{length, length-append}
-use Rattle.definition.specs.Words.{if◌then◌else◌, same}
+use Rattle.definition.specs.Words.{same}
 use Rattle.definition.specs.Drawing.{Drawn}
 use Rattle.definition.specs.Flat.{spaced, letter_of, numbers_of_shape, line, said}
 use Rattle.digits.specs.Writes.{Writes}

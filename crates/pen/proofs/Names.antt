@@ -1,6 +1,7 @@
 -- Packed names: the name comes back from its number and the number from its name, so two numbers differ where their names do; their order is the byte
 -- order of the names. The drawing compares layers by it, and lists of layers can be sorted by it.
 -- Assumes nothing.
+use Rattle.std.specs.Prelude.{if◌then◌else◌}
 use mathlib.Core.Path.{◌≡◌, refl, sym, ap, ◌∙◌, subst}
 use mathlib.Core.Bool.{Bool, true, false, ◌&&◌}
 use mathlib.Core.Logic.{inl, inr}
@@ -12,7 +13,7 @@ use lib.Dec.{T, eqb, ltb, leb, leb→le}
 use lib.ListN.{length}
 use Rattle.grammar.specs.Notation.{has}
 use Rattle.grammar.proofs.Tests.{and_left, and_right}
-use Rattle.definition.specs.Words.{if◌then◌else◌, same}
+use Rattle.definition.specs.Words.{same}
 use Rattle.definition.specs.Drawing.{Drawn}
 use Rattle.definition.specs.Flat.{line}
 use Rattle.laws.proofs.Lists.Range.{All, all_to}

@@ -1,7 +1,7 @@
 -- The parts of a line as the code writes them: a running account, not to be believed. What a line is, is said by definition/specs/Flat.antt.
 -- Assumes nothing.
-use Rattle.std.specs.Prelude.{Bool, List, [], ◌∷◌, ℕ, ℤ}
-use Rattle.definition.specs.Words.{if◌then◌else◌, same}
+use Rattle.std.specs.Prelude.{Bool, List, [], ◌∷◌, ℕ, ℤ, if◌then◌else◌}
+use Rattle.definition.specs.Words.{same}
 use Rattle.definition.specs.Flat.{decimal, line}
 
 -- what stands before a number of a line

@@ -1,5 +1,6 @@
 -- Sizes that are capped: digits that come later find a capped size as good as the size itself.
 -- Assumes nothing.
+use Rattle.std.specs.Prelude.{if◌then◌else◌}
 use mathlib.Core.Path.{◌≡◌, refl, sym, ap, ◌∙◌}
 use mathlib.Core.Bool.{Bool, true, false}
 use mathlib.Core.List.{List, [], ◌∷◌}
@@ -8,7 +9,6 @@ use native.Mathlib.Omega.{arith}
 use borrow.Author.Tests.{lt-ltb, le-ltb, ltb-true, ltb-false}
 use lib.Dec.{ltb}
 use Rattle.grammar.specs.Notation.{Letter, dec, Role-discrete, later}
-use Rattle.definition.specs.Words.{if◌then◌else◌}
 use Rattle.definition.specs.Commands.{worth}
 use Rattle.pieces.specs.Pieces.{too_large, capped}
 

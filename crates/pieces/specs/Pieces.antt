@@ -2,13 +2,12 @@
 -- between bytes and commands, so that nothing above names a state. A running account, not to be believed: it is read off the marking that
 -- crates/definition reads its commands off, and crates/reading proves that the two come to the same.
 -- Assumes nothing.
-use Rattle.std.specs.Prelude.{◌≡◌, Bool, true, false, List, [], ◌∷◌, ◌⊎◌, ℕ, ◌+◌, ◌-◌, ◌*◌, ◌/◌, ◌%◌, ◌≤◌, ◌<◌, ltb, leb, eqb, length, drop}
+use Rattle.std.specs.Prelude.{◌≡◌, Bool, true, false, List, [], ◌∷◌, ◌⊎◌, ℕ, ◌+◌, ◌-◌, ◌*◌, ◌/◌, ◌%◌, ◌≤◌, ◌<◌, ltb, leb, eqb, length, drop, if◌then◌else◌}
 use Rattle.grammar.specs.Notation.{Role, Letter, skip, head, second, turn, axis, sign, lead, later, name, stop}
 use Rattle.grammar.specs.Tables.{state_count, role_unit, stuck, deep, inside_state, outside_state}
 use Rattle.grammar.specs.Steps.{kind_of, entry_of, mode_after, marked, inside, number}
 use Rattle.grammar.proofs.Numerals.{Numeral}
 use Rattle.definition.specs.Limits as limits
-use Rattle.definition.specs.Words.{if◌then◌else◌}
 use Rattle.definition.specs.Commands.{worth}
 use Rattle.pieces.specs.declared.Spot.{Spot}
 use Rattle.pieces.specs.declared.Piece.{Piece}

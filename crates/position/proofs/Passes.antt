@@ -1,6 +1,7 @@
 -- The pass of `position_of` over a text: after each byte line and column are those of the next place. A line end begins a line, and every other byte is a
 -- column.
 -- Assumes nothing.
+use Rattle.std.specs.Prelude.{if◌then◌else◌}
 use mathlib.Core.Path.{◌≡◌, refl, ap, sym, ◌∙◌}
 use mathlib.Core.Bool.{Bool, true, false, ◌||◌}
 use mathlib.Core.List.{List, [], ◌∷◌, ◌++◌}
@@ -9,7 +10,7 @@ use native.Mathlib.Omega.{arith}
 use borrow.Author.Tests.{eq-eqb, ne_eqb}
 use lib.ListN.{length, length-append, get_or, take}
 use lib.Seq.{take-suc, take_all}
-use Rattle.definition.specs.Words.{if◌then◌else◌, any, those}
+use Rattle.definition.specs.Words.{any, those}
 use Rattle.definition.specs.Position.{line_end?, line_of, since_line_end, column_of}
 use Rattle.position.specs.Found.{Found}
 

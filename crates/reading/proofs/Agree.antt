@@ -1,5 +1,6 @@
 -- The account's rules agree with the definition's: of every grammatical text the first of refusals 3 to 9, and its place.
 -- Assumes nothing.
+use Rattle.std.specs.Prelude.{if◌then◌else◌}
 use mathlib.Core.Path.{◌≡◌, refl, sym, ap, ap₂, ◌∙◌, subst}
 use mathlib.Core.Bool.{Bool, true, false, not, ◌&&◌, ◌||◌, and-false}
 use mathlib.Core.List.{List, [], ◌∷◌, ◌++◌, flat_map}
@@ -16,7 +17,7 @@ use Rattle.grammar.specs.Viable.{Marked}
 use Rattle.definition.specs.Limits.{largest}
 use Rattle.definition.specs.declared.Refusal.{Refusal}
 use Rattle.definition.specs.Rules.{Rule, number_too_large, zero_factor, scaled_too_large, degenerate_command, no_layer, too_many_parts, number_of, refuse}
-use Rattle.definition.specs.Words.{if◌then◌else◌, Placed, at, any, those, first}
+use Rattle.definition.specs.Words.{Placed, at, any, those, first}
 use Rattle.definition.specs.Commands.{Number, Command, start, finish, layer, commands}
 use Rattle.definition.specs.Standing.{Standing, outside, after, nearest, scaled, whole}
 use Rattle.definition.specs.Rounded.{ragged, rounded_from, rounded}

@@ -1,5 +1,6 @@
 -- Every command of a grammatical text says the definition's: command by command, from the productions.
 -- Assumes nothing.
+use Rattle.std.specs.Prelude.{if◌then◌else◌}
 use mathlib.Core.Path.{◌≡◌, refl, sym, ap, subst}
 use mathlib.Core.Bool.{Bool, true, false, not}
 use mathlib.Core.List.{List, [], ◌∷◌, ◌++◌, map, append-nil}
@@ -15,7 +16,7 @@ use Rattle.grammar.specs.Productions.{blank, sep, semi, shortname, integer, path
 use Rattle.grammar.specs.Productions.{point as point_rule}
 use Rattle.grammar.specs.Viable.{Marked}
 use Rattle.grammar.proofs.Tests.{and_right}
-use Rattle.definition.specs.Words.{if◌then◌else◌, Placed, at}
+use Rattle.definition.specs.Words.{Placed, at}
 use Rattle.definition.specs.Commands.{Command}
 use Rattle.definition.specs.Commands.{worth, paired, command_at, commands}
 use Rattle.laws.proofs.Lists.Range.{All}

@@ -1,5 +1,6 @@
 -- What the account says against a command, refusal by refusal, in terms of the command's marks.
 -- Assumes nothing.
+use Rattle.std.specs.Prelude.{if◌then◌else◌}
 use mathlib.Core.Path.{◌≡◌, refl, sym, ap, ap₂, ◌∙◌}
 use mathlib.Core.Bool.{Bool, true, false, not, ◌&&◌, ◌||◌, and_comm}
 use mathlib.Core.List.{List, [], ◌∷◌}
@@ -10,7 +11,7 @@ use native.Mathlib.Omega.{arith}
 use lib.Dec.{ltb, eqb}
 use lib.IntN.{nat_abs}
 use borrow.Author.Tests.{lt-ltb, ltb-false, ne_eqb}
-use Rattle.definition.specs.Words.{if◌then◌else◌, any}
+use Rattle.definition.specs.Words.{any}
 use Rattle.definition.specs.Standing.{nearest}
 use Rattle.definition.specs.Faults.{beyond}
 use Rattle.laws.proofs.Lists.Range.{All}

@@ -1,6 +1,7 @@
 -- The foremost of refusals: the account collects them in text order and takes the lowest number, the definition lists them by number and takes the
 -- first. Both come to the same choice: of each number from 3 to 9 the first place, and of these the lowest number.
 -- Assumes nothing.
+use Rattle.std.specs.Prelude.{if◌then◌else◌}
 use mathlib.Core.Path.{◌≡◌, refl, ap, ◌∙◌}
 use mathlib.Core.Bool.{Bool, true, false}
 use mathlib.Core.List.{List, [], ◌∷◌, ◌++◌}
@@ -10,7 +11,7 @@ use native.Mathlib.Omega.{arith}
 use borrow.Author.Tests.{lt-ltb, le-ltb, eqb-true, eqb-false}
 use lib.Dec.{ltb, eqb}
 use lib.IntN.{ℤ}
-use Rattle.definition.specs.Words.{if◌then◌else◌, those}
+use Rattle.definition.specs.Words.{those}
 use Rattle.definition.specs.Commands.{Number}
 use Rattle.definition.specs.declared.Refusal.{Refusal}
 use Rattle.definition.specs.Rules.{Rule, number_of, refuse}

@@ -1,6 +1,7 @@
 -- The marks of a command: its numbers in text order, each with whether it is a distance and whether it may not be 0. They stand between the account,
 -- which goes over the numbers once, and the definition, which asks one refusal after another.
 -- Assumes nothing.
+use Rattle.std.specs.Prelude.{if◌then◌else◌}
 use mathlib.Core.Path.{◌≡◌, refl, sym, ap, ap₂, ◌∙◌}
 use mathlib.Core.Bool.{Bool, true, false, ◌&&◌, ◌||◌, or_assoc, or-false}
 use mathlib.Core.List.{List, [], ◌∷◌, ◌++◌, map, flat_map, append-nil}
@@ -11,7 +12,7 @@ use native.Mathlib.Nat.{zero-add}
 use lib.Dec.{ltb, eqb}
 use lib.IntN.{ℤ, nat_abs}
 use lib.ListN.{length}
-use Rattle.definition.specs.Words.{if◌then◌else◌, Point, any, those}
+use Rattle.definition.specs.Words.{Point, any, those}
 use Rattle.definition.specs.Commands.{Number, Shape, Turn, Command, draw, layer, call, start, finish, delete, nothing}
 use Rattle.definition.specs.Standing.{Standing, given, nearest, scaled, scaled_point, scaled_shape}
 use Rattle.definition.proofs.Nearest.{abs_scaled}

@@ -1,6 +1,7 @@
 -- The letters of a command up to its semicolon, with their roles and with numbers of any size: what both the account's pieces and the definition's
 -- command are read off, so that either is a function of the other's source. No production comes in here: only roles do.
 -- Assumes nothing.
+use Rattle.std.specs.Prelude.{if◌then◌else◌}
 use mathlib.Core.Path.{◌≡◌, refl, ap, ap₂, ◌∙◌}
 use mathlib.Core.Bool.{Bool, true, false, ◌||◌}
 use mathlib.Core.List.{List, [], ◌∷◌}
@@ -12,7 +13,7 @@ use lib.IntN.{pos, neg_ℤ}
 use lib.ListN.{drop}
 use Rattle.grammar.specs.Notation.{Role, Role-discrete, Letter, dec, has, 'B', 'C', 'D', 'L', 'P', 'R', 'S', 'T', 'W', 'X'}
 use Rattle.grammar.specs.Notation.{skip, head, second, turn, axis, sign, lead, later, name, stop}
-use Rattle.definition.specs.Words.{if◌then◌else◌, at, point}
+use Rattle.definition.specs.Words.{at, point}
 use Rattle.definition.specs.Commands.{Number, box, flash, wire, polygon, shape_of, Turn, translate, mirror_x, mirror_y, rotate, Command, draw, layer, call, start, finish, delete, nothing}
 use Rattle.definition.specs.Commands.{worth, numbers, nth, paired, next, named, turn_at, turns, command_at}
 use Rattle.pieces.specs.Pieces.{capped, digit_of, place_after, with_piece, pieces}

@@ -1,5 +1,6 @@
 -- Every shape of a drawing is explained (specs/Explains.antt): by an executable command, the table as it stood then, the calls of its chain one after the other, and its net transformation.
 -- Assumes nothing.
+use Rattle.std.specs.Prelude.{if◌then◌else◌}
 use mathlib.Core.Path.{◌≡◌, refl, sym, ap, ◌∙◌, subst}
 use mathlib.Core.Bool.{Bool, true, false}
 use mathlib.Core.List.Memᴰ
@@ -11,7 +12,7 @@ use lib.Dec.{ltb, eqb}
 use lib.IntN.{ℤ}
 use lib.ListN.{length}
 use Rattle.definition.specs.Limits.{most_definitions, deepest}
-use Rattle.definition.specs.Words.{if◌then◌else◌, Placed, at, any}
+use Rattle.definition.specs.Words.{Placed, at, any}
 use Rattle.definition.specs.Rules.{too_many_definitions, off_the_axes, undefined_symbol, being_drawn, too_deep, refuse}
 use Rattle.definition.specs.Commands.{Shape, Turn}
 use Rattle.definition.specs.Turns.{moved, off_axes}

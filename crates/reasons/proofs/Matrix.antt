@@ -1,13 +1,14 @@
 -- The net transformation of a shape as it is told: a matrix, one of eight turns and mirrors, and one translation after it. They send every point as the list of transformations does, and
 -- directions without the translation; so a shape under the list is the shape under these. And they are those of the net transformation that code keeps.
 -- Assumes nothing.
+use Rattle.std.specs.Prelude.{if◌then◌else◌}
 use mathlib.Core.Path.{◌≡◌, refl, sym, ap, ap₂, ◌∙◌, subst}
 use mathlib.Core.Bool.{Bool, true, false}
 use mathlib.Core.List.{List, [], ◌∷◌, map}
 use Prim.Native.Nat.{ℕ, zero, suc, ◌*◌}
 use native.Mathlib.Omega.{arith}
 use lib.IntN.{ℤ, pos, negsuc, neg_ℤ, ◌+ℤ◌, ◌*ℤ◌, +ℤ_idl, +ℤ_idr}
-use Rattle.definition.specs.Words.{if◌then◌else◌, Point, point}
+use Rattle.definition.specs.Words.{Point, point}
 use Rattle.definition.specs.Commands.{Shape, shape_of, Turn}
 use Rattle.definition.specs.Turns.{act, aim, in_order, moved}
 use Rattle.definition.specs.Why.{along_x, along_y, origin_to}

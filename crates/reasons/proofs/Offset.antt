@@ -1,6 +1,7 @@
 -- The shape with a count is found by counting alone: of events that all pass when they are counted, the counting that begins with n shapes fewer to go than there may be is stopped
 -- by 17 exactly at the shape that has n before it, and where there is none it finishes as before.
 -- Assumes nothing.
+use Rattle.std.specs.Prelude.{if◌then◌else◌}
 use mathlib.Core.Path.{◌≡◌, refl, sym, ap, ◌∙◌, subst}
 use mathlib.Core.Bool.{Bool, true, false}
 use mathlib.Core.List.{List, [], ◌∷◌, ◌++◌}
@@ -12,7 +13,7 @@ use lib.Dec.{ltb}
 use lib.ListN.{length, drop}
 use Rattle.definition.specs.declared.Refusal.{Refusal}
 use Rattle.definition.specs.Limits.{most_calls, most_shapes}
-use Rattle.definition.specs.Words.{if◌then◌else◌, none?, first}
+use Rattle.definition.specs.Words.{none?, first}
 use Rattle.definition.specs.Rules.{too_many_calls, too_many_shapes, refuse}
 use Rattle.definition.specs.Table.{Table, Definition, find}
 use Rattle.definition.specs.Drawing.{Chain, Drawn, Event, called, drew, entered, removed, refused}

@@ -1,6 +1,7 @@
 -- Whose net transformation a shape has: of all that is drawn where these calls are open, the shapes with exactly these calls have the transformations of these; all others are drawn by deeper calls.
 -- So a shape at which a counting stops has those of the calls that are told with the refusal.
 -- Assumes nothing.
+use Rattle.std.specs.Prelude.{if◌then◌else◌}
 use mathlib.Core.Path.{◌≡◌, refl, sym, ap, ◌∙◌, subst}
 use mathlib.Core.Bool.{Bool, true, false}
 use mathlib.Core.List.{List, [], ◌∷◌, ◌++◌, map}
@@ -12,7 +13,7 @@ use lib.IntN.{ℤ}
 use lib.ListN.{length, length-append}
 use Rattle.definition.specs.declared.Refusal.{Refusal}
 use Rattle.definition.specs.Limits.{most_definitions, most_shapes, deepest}
-use Rattle.definition.specs.Words.{if◌then◌else◌, Placed, at}
+use Rattle.definition.specs.Words.{Placed, at}
 use Rattle.definition.specs.Rules.{Rule, too_many_definitions, too_few_words, too_few_records, too_many_shapes, refuse}
 use Rattle.definition.specs.Commands.{Shape, Turn}
 use Rattle.definition.specs.Table.{Step, shape, instance, setting, Definition, Table, enter}

@@ -1,5 +1,6 @@
 -- How the code scales: equal a and b leave a number as it is, and one division tells the nearest whole number and whether anything was rounded.
 -- Assumes nothing.
+use Rattle.std.specs.Prelude.{if◌then◌else◌}
 use mathlib.Core.Path.{◌≡◌, refl, sym, ap, ap₂, ◌∙◌}
 use mathlib.Core.Bool.{Bool, true, false, not, ◌&&◌}
 use Prim.Native.Nat.{ℕ, ◌+◌, ◌-◌, ◌*◌, ◌/◌, ◌%◌, ◌≤◌, ◌<◌}
@@ -7,7 +8,6 @@ use native.Mathlib.Nat.{mul-mod_right, div-add-mod', mul-le-mul, mod-lt, add-mul
 use native.Mathlib.Omega.{arith}
 use borrow.Author.Tests.{eq-eqb, ne_eqb}
 use lib.Dec.{eqb}
-use Rattle.definition.specs.Words.{if◌then◌else◌}
 use Rattle.definition.specs.Standing.{nearest}
 use Rattle.definition.proofs.Nearest.{Near, near, one_near, nearest_equal}
 use Rattle.pieces.specs.Pieces.{too_large}

@@ -2,9 +2,8 @@
 -- refusals 3 to 9 that a number and that a whole command meets. A running account, not to be believed: the refusals stand in crates/definition, and
 -- crates/reading shows that on a text of the grammar the two come to the same. All is over ℕ: a number is its distance from zero.
 -- Assumes nothing.
-use Rattle.std.specs.Prelude.{Bool, not, ◌&&◌, ◌||◌, ℕ, ◌-◌, ◌*◌, ◌/◌, ◌%◌, ltb, eqb}
+use Rattle.std.specs.Prelude.{Bool, not, ◌&&◌, ◌||◌, ℕ, ◌-◌, ◌*◌, ◌/◌, ◌%◌, ltb, eqb, if◌then◌else◌}
 use Rattle.definition.specs.Limits.{largest, most_points, most_turns}
-use Rattle.definition.specs.Words.{if◌then◌else◌}
 use Rattle.definition.specs.Standing.{nearest}
 use Rattle.pieces.specs.Pieces.{letter_s}
 use Rattle.rules.specs.declared.AtScale.{AtScale}

@@ -1,8 +1,7 @@
 -- The commands of a text as they are written: each with its place, its first letter, and its pieces up to its semicolon. A running account, not to be
 -- believed: what a text means stands in crates/definition.
 -- Assumes nothing.
-use Rattle.std.specs.Prelude.{Bool, true, false, List, [], ◌∷◌, ℕ, ◌+◌, eqb}
-use Rattle.definition.specs.Words.{if◌then◌else◌}
+use Rattle.std.specs.Prelude.{Bool, true, false, List, [], ◌∷◌, ℕ, ◌+◌, eqb, if◌then◌else◌}
 unfoldable pub use Rattle.names.specs.Names.{packed_by}
 use Rattle.pieces.specs.Pieces.{inside_after}
 use Rattle.pieces.specs.declared.Piece.{Piece}

@@ -1,6 +1,7 @@
 -- Two outcomes that the contract of a function that draws allows are one: the answer, with the counts, the next place and the last layer or with the
 -- refusal and the calls open there, and every byte of the room. The last layer is told by what would be written after it.
 -- Assumes nothing.
+use Rattle.std.specs.Prelude.{if◌then◌else◌}
 use mathlib.Core.Path.{◌≡◌, refl, sym, ap, ◌∙◌, subst}
 use mathlib.Core.Bool.{Bool, true, false}
 use mathlib.Core.List.{List, [], ◌∷◌, ◌++◌, append-nil, append_cancel_left}
@@ -8,7 +9,7 @@ use Prim.Native.Nat.{ℕ}
 use native.Mathlib.Omega.{arith}
 use lib.Dec.{T}
 use lib.ListN.{length, length-append}
-use Rattle.definition.specs.Words.{if◌then◌else◌, same}
+use Rattle.definition.specs.Words.{same}
 use Rattle.definition.specs.Commands.{polygon, shape_of}
 use Rattle.definition.specs.Drawing.{Chain, Event, Drawn as Shown}
 use Rattle.definition.specs.Counts.{finished, stopped, shapes_of}

@@ -1,6 +1,7 @@
 -- Refusal 21 (RULES 8, request 7): a story that is held to the records lent is the story itself where each of its calls has a record, and so wherever 32 are lent: no call is
 -- drawn deeper than 32.
 -- Assumes nothing.
+use Rattle.std.specs.Prelude.{if◌then◌else◌}
 use mathlib.Core.Path.{◌≡◌, refl, ap₂}
 use mathlib.Core.Bool.{Bool, true, false}
 use mathlib.Core.List.{List, [], ◌∷◌, ◌++◌, map}
@@ -12,7 +13,7 @@ use lib.Dec.{ltb, eqb}
 use lib.IntN.{ℤ}
 use lib.ListN.{length, length-append}
 use Rattle.definition.specs.Limits.{most_definitions, deepest}
-use Rattle.definition.specs.Words.{if◌then◌else◌, Placed, at, any}
+use Rattle.definition.specs.Words.{Placed, at, any}
 use Rattle.definition.specs.Rules.{too_many_definitions, too_few_words, off_the_axes, being_drawn, too_deep, refuse}
 use Rattle.definition.specs.Commands.{Shape, Turn, Command}
 use Rattle.definition.specs.Standing.{outside}

@@ -1,5 +1,6 @@
 -- What is painted counts calls up, and a call that is counted is one more.
 -- Assumes nothing.
+use Rattle.std.specs.Prelude.{if◌then◌else◌}
 use mathlib.Core.Path.{◌≡◌, sym, ap}
 use mathlib.Core.Bool.{Bool, true, false}
 use mathlib.Core.List.{List, []}
@@ -7,7 +8,6 @@ use Prim.Native.Nat.{ℕ, ◌+◌, ◌≤◌}
 use native.Mathlib.Omega.{arith}
 use lib.Dec.{ltb}
 use Rattle.definition.specs.Limits.{most_calls}
-use Rattle.definition.specs.Words.{if◌then◌else◌}
 use Rattle.definition.specs.Rules.{too_many_calls, refuse}
 use Rattle.definition.specs.Table.{Definition}
 use Rattle.definition.specs.Drawing.{Chain, Event, called}

@@ -1,6 +1,7 @@
 -- One call where so many records are lent: what crate opening answers of it stays, where there is a record; where there is none, 11 to 14 stay, and a call that they let
 -- through is refused with 21, before it is counted.
 -- Assumes nothing.
+use Rattle.std.specs.Prelude.{if◌then◌else◌}
 use mathlib.Core.Path.{◌≡◌, refl, sym, ap, ◌∙◌, subst}
 use mathlib.Core.Bool.{Bool, true, false}
 use mathlib.Core.List.{List, [], ◌∷◌, map, head-eq_of_cons-eq, tail-eq_of_cons-eq}
@@ -11,7 +12,6 @@ use lib.Dec.{ltb}
 use lib.IntN.{ℤ}
 use lib.ListN.{length}
 use Rattle.definition.specs.Limits.{deepest, most_calls}
-use Rattle.definition.specs.Words.{if◌then◌else◌}
 use Rattle.definition.specs.Rules.{too_few_records, too_many_calls, refuse}
 use Rattle.definition.specs.Commands.{Turn}
 use Rattle.definition.specs.Turns.{off_axes}

@@ -1,6 +1,7 @@
 -- What the loop of `keep_text` keeps: where the pass stands (crates/passing, proofs/Stands.antt), that the columns are those made afresh from the bodies, and
 -- that the table and the ending of the whole text are those of what is left.
 -- Assumes nothing.
+use Rattle.std.specs.Prelude.{if◌then◌else◌}
 use mathlib.Core.Path.{◌≡◌, refl, sym, ap, ap₂, ◌∙◌, subst}
 use mathlib.Core.Bool.{Bool, true, false}
 use mathlib.Core.List.{List, [], ◌∷◌, ◌++◌, map}
@@ -13,7 +14,7 @@ use lib.ListN.{length, get_or}
 use Rattle.grammar.specs.Notation.{Letter}
 use Rattle.grammar.proofs.Markings.{marking_is}
 use Rattle.definition.specs.Limits.{most_definitions}
-use Rattle.definition.specs.Words.{if◌then◌else◌, Placed, at, those}
+use Rattle.definition.specs.Words.{Placed, at, those}
 use Rattle.definition.specs.Rules.{too_many_definitions, too_few_words, refuse}
 use Rattle.definition.specs.Commands.{Number, Command, delete, commands}
 use Rattle.definition.specs.Standing.{outside}

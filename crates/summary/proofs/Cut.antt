@@ -1,5 +1,6 @@
 -- No text needs more words than it has bytes, so a run may be cut to the most words that any text needs: keeping the table ends the same.
 -- Assumes nothing.
+use Rattle.std.specs.Prelude.{if◌then◌else◌}
 use mathlib.Core.Path.{◌≡◌, refl, sym, ap, ◌∙◌}
 use mathlib.Core.Bool.{Bool, true, false}
 use mathlib.Core.List.{List, [], ◌∷◌, ◌++◌, map}
@@ -10,7 +11,7 @@ use lib.Dec.{ltb}
 use lib.IntN.{ℤ}
 use lib.ListN.{length}
 use Rattle.definition.specs.declared.Summary.{Summary}
-use Rattle.definition.specs.Words.{if◌then◌else◌, those}
+use Rattle.definition.specs.Words.{those}
 use Rattle.definition.specs.Commands.{commands}
 use Rattle.definition.specs.Standing.{outside}
 use Rattle.definition.specs.Table.{Table, enter, forget}

@@ -1,5 +1,6 @@
 -- Refusals 1 to 9 and 19 of a text, in their order: 1; then 2; then of 3 to 9 and 19 the first in the text. And that a text which they let pass has the names gathered.
 -- Assumes nothing.
+use Rattle.std.specs.Prelude.{if◌then◌else◌}
 use mathlib.Core.Path.{◌≡◌, refl, sym, ap, ap₂, ◌∙◌, subst}
 use mathlib.Core.Bool.{Bool, true, false}
 use mathlib.Core.List.{List, [], ◌∷◌, ◌++◌}
@@ -18,7 +19,7 @@ use Rattle.grammar.proofs.Markings.{one_marking}
 use Rattle.definition.specs.declared.Refusal.{Refusal}
 use Rattle.definition.specs.declared.Summary.{Summary}
 use Rattle.definition.specs.Limits.{most_bytes}
-use Rattle.definition.specs.Words.{if◌then◌else◌, Placed, those, first}
+use Rattle.definition.specs.Words.{Placed, those, first}
 use Rattle.definition.specs.Rules.{Rule, number_too_large, zero_factor, scaled_too_large, degenerate_command, no_layer, too_many_parts, too_many_layers, number_of, refuse}
 use Rattle.definition.specs.Commands.{Number, Command, commands}
 use Rattle.definition.specs.Standing.{Standing, outside, after, scaled}

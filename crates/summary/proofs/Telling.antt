@@ -1,6 +1,7 @@
 -- From the numbers beside the rows and a symbol's reply to what the definition tells of it: the marks of a set are its distinct layers, the lowest is the first in the text, and bodies
 -- that are kept lean tell the same.
 -- Assumes nothing.
+use Rattle.std.specs.Prelude.{if◌then◌else◌}
 use mathlib.Core.Path.{◌≡◌, refl, sym, ap, ap₂, ◌∙◌, subst}
 use mathlib.Core.Bool.{Bool, true, false}
 use mathlib.Core.List.{List, [], ◌∷◌, ◌++◌, flat_map}
@@ -14,7 +15,7 @@ use lib.ListN.{length, get_or}
 use Rattle.definition.specs.declared.Refusal.{Refusal}
 use Rattle.definition.specs.declared.Summary.{Summary}
 use Rattle.definition.specs.Limits.{deepest, most_layers}
-use Rattle.definition.specs.Words.{if◌then◌else◌, Placed, any, those, first}
+use Rattle.definition.specs.Words.{Placed, any, those, first}
 use Rattle.definition.specs.Rules.{Rule, undefined_symbol, number_of}
 use Rattle.definition.specs.Commands.{commands}
 use Rattle.definition.specs.Table.{Step, Definition, Table, find}

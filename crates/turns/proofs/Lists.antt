@@ -1,5 +1,6 @@
 -- A call's list read from its words, one transformation after another: what stands at a place, and what is done and left of the list there.
 -- Assumes nothing.
+use Rattle.std.specs.Prelude.{if◌then◌else◌}
 use mathlib.Core.Path.{◌≡◌, refl, sym, ap, subst, ◌∙◌}
 use mathlib.Core.Bool.{Bool, true, false, ◌||◌}
 use mathlib.Core.List.{List, [], ◌∷◌, ◌++◌, append_assoc, append-nil}
@@ -12,7 +13,7 @@ use lib.Seq.{get_or-drop, drop-drop, drop-append_seam}
 use borrow.Author.Tests.{ne_eqb}
 use mir.Syntax.{w32}
 use mir.Val.{of_z}
-use Rattle.definition.specs.Words.{if◌then◌else◌, point, any}
+use Rattle.definition.specs.Words.{point, any}
 use Rattle.definition.specs.Commands.{Turn, translate, mirror_x, mirror_y, rotate}
 use Rattle.definition.specs.Turns.{off_axes}
 use Rattle.turns.specs.declared.Net.{Net}

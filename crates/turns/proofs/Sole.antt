@@ -1,11 +1,12 @@
 -- The contracts leave one result: what is done to points tells the net transformation.
 -- Assumes nothing.
+use Rattle.std.specs.Prelude.{if◌then◌else◌}
 use mathlib.Core.Path.{◌≡◌, refl, sym, ap, ◌∙◌}
 use mathlib.Core.Bool.{Bool, true, false}
 use mathlib.Core.List.{List}
 use lib.Dec.{eqb}
 use lib.IntN.{ℤ, pos, ◌+ℤ◌, ◌-ℤ◌, nat_abs, +ℤ_idl, +ℤ-neg_ℤ_cancel}
-use Rattle.definition.specs.Words.{if◌then◌else◌, Point, point}
+use Rattle.definition.specs.Words.{Point, point}
 use Rattle.definition.specs.Commands.{Turn}
 use Rattle.definition.specs.Turns.{negative}
 use Rattle.turns.specs.declared.Net.{Net}

@@ -1,8 +1,8 @@
 -- The net transformation as code keeps it: one of eight turns and mirrors, and then one step. A running account, proved equal to the definition:
 -- what it does is what `in_order` of the definition's Turns does (proofs/Nets.antt), and the contracts say so by `Carries`.
 -- Assumes nothing.
-use Rattle.std.specs.Prelude.{◌≡◌, Bool, true, false, not, List, [], ◌∷◌, ◌++◌, ℕ, ◌+◌, ◌^◌, ◌≤◌, ℤ, neg_ℤ, ◌+ℤ◌, nat_abs, length, drop}
-use Rattle.definition.specs.Words.{if◌then◌else◌, Point, point}
+use Rattle.std.specs.Prelude.{◌≡◌, Bool, true, false, not, List, [], ◌∷◌, ◌++◌, ℕ, ◌+◌, ◌^◌, ◌≤◌, ℤ, neg_ℤ, ◌+ℤ◌, nat_abs, length, drop, if◌then◌else◌}
+use Rattle.definition.specs.Words.{Point, point}
 use Rattle.definition.specs.Commands.{Turn}
 use Rattle.definition.specs.Turns.{act, aim, in_order, off_axes}
 use Rattle.turns.specs.Words.{turn_words, turns_words}

@@ -3,8 +3,8 @@
 // so that i64 never wraps: the contracts carry the longest step along as `Near`.
 #![tactic(auto)]
 
-ghost use Rattle.std.specs.Prelude.{◌≡◌, ◌||◌, ◌∷◌, [], ◌+◌, ◌^◌, ◌<◌, ◌≤◌, pos, nat_abs, ◌+ℤ◌, length};
-ghost use Rattle.definition.specs.Words.{if◌then◌else◌, point};
+ghost use Rattle.std.specs.Prelude.{◌≡◌, ◌||◌, ◌∷◌, [], ◌+◌, ◌^◌, ◌<◌, ◌≤◌, pos, nat_abs, ◌+ℤ◌, length, if◌then◌else◌};
+ghost use Rattle.definition.specs.Words.{point};
 ghost use Rattle.definition.specs.Commands.{translate, rotate};
 ghost use Rattle.definition.specs.Faults.{beyond};
 ghost use Rattle.definition.specs.Turns.{off_axes};

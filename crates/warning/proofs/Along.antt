@@ -1,6 +1,7 @@
 -- What the loop of `warn_text` keeps: where the pass stands (crates/passing, proofs/Stands.antt), what is left to warn of, what the last search found, and how
 -- far the lines can reach.
 -- Assumes nothing.
+use Rattle.std.specs.Prelude.{if◌then◌else◌}
 use mathlib.Core.Path.{◌≡◌, refl, sym, ap, ap₂, ◌∙◌, subst}
 use mathlib.Core.Bool.{Bool, true, false}
 use mathlib.Core.List.{List, [], ◌∷◌, ◌++◌, flat_map, append-nil}
@@ -11,7 +12,7 @@ use lib.Dec.{eqb}
 use lib.IntN.{ℤ, pos, nat_abs}
 use lib.ListN.{length, get_or}
 use Rattle.definition.specs.Limits.{most_definitions}
-use Rattle.definition.specs.Words.{if◌then◌else◌, Placed, at, first, none?}
+use Rattle.definition.specs.Words.{Placed, at, first, none?}
 use Rattle.definition.specs.Commands.{Number, Command, delete, commands}
 use Rattle.definition.specs.Standing.{outside, after}
 use Rattle.definition.specs.Table.{Step, Definition, Table, find, enter, forget}

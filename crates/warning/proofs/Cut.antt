@@ -1,5 +1,6 @@
 -- A run that is cut to the most words that any text needs warns of the same: no text needs more (crates/laws, Commands/WordsWithin.antt).
 -- Assumes nothing.
+use Rattle.std.specs.Prelude.{if◌then◌else◌}
 use mathlib.Core.Path.{◌≡◌, refl, ap, ◌∙◌, subst}
 use mathlib.Core.Bool.{Bool, true, false, ◌||◌}
 use mathlib.Core.List.{List, [], ◌∷◌, ◌++◌}
@@ -9,7 +10,6 @@ use borrow.Author.Tests.{le-ltb, ltb-false}
 use lib.Dec.{ltb}
 use lib.ListN.{length}
 use Rattle.definition.specs.Limits.{most_definitions}
-use Rattle.definition.specs.Words.{if◌then◌else◌}
 use Rattle.definition.specs.Table.{Definition, Table, enter}
 use Rattle.definition.specs.Drawing.{Deed, output, define, remove, entered, happens, table_after, story}
 use Rattle.definition.specs.Held.{words_in, words_after}

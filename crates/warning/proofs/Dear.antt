@@ -1,5 +1,6 @@
 -- How far warnings can reach: each is of a definition or of a DD, whose pieces are four at least, and no text has more pieces than bytes.
 -- Assumes nothing.
+use Rattle.std.specs.Prelude.{if◌then◌else◌}
 use mathlib.Core.Path.{◌≡◌, refl}
 use mathlib.Core.Bool.{Bool, true, false}
 use mathlib.Core.List.{List, [], ◌∷◌, ◌++◌, map}
@@ -9,7 +10,7 @@ use lib.ListN.{length}
 use Rattle.grammar.specs.Notation.{Role, Letter, skip, head, second, turn, axis, sign, lead, later, name, stop}
 use Rattle.grammar.specs.Viable.{Marked}
 use lib.IntN.{pos}
-use Rattle.definition.specs.Words.{if◌then◌else◌, Placed, at, point}
+use Rattle.definition.specs.Words.{Placed, at, point}
 use Rattle.definition.specs.Commands.{Number, box, flash, wire, polygon, Shape, shape_of, Command, draw, call, commands}
 use Rattle.definition.specs.Standing.{Standing, outside, after}
 use Rattle.definition.specs.Table.{Step}

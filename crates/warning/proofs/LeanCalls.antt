@@ -1,10 +1,11 @@
 -- Bodies are kept lean, and no call is lost by it: the dangling calls of a table that is kept lean are those of the table.
 -- Assumes nothing.
+use Rattle.std.specs.Prelude.{if◌then◌else◌}
 use mathlib.Core.Path.{◌≡◌, refl, sym, ap, ap₂, ◌∙◌}
 use mathlib.Core.Bool.{Bool, true, false}
 use mathlib.Core.List.{List, [], ◌∷◌, ◌++◌, flat_map}
 use mathlib.Core.Option.{Option, none, some, map}
-use Rattle.definition.specs.Words.{if◌then◌else◌, Placed, those, none?}
+use Rattle.definition.specs.Words.{Placed, those, none?}
 use Rattle.definition.specs.Table.{Step, shape, instance, setting, Definition, Table, find}
 use Rattle.definition.specs.Lean.{lean, lean_definition, lean_table}
 use Rattle.definition.specs.Warnings.{dangles, dangling_calls}

@@ -1,10 +1,9 @@
 -- What is warned of deeds, one after another, up to a definition that refusal 10 or 25 meets. A running account, not to be believed: of an accepted text it is
 -- the definition's `warning_lines` (proofs/Agrees.antt).
 -- Assumes nothing.
-use Rattle.std.specs.Prelude.{Bool, false, ◌||◌, ℕ, ◌+◌, ◌*◌, ◌≤◌, ltb, length}
+use Rattle.std.specs.Prelude.{Bool, false, ◌||◌, ℕ, ◌+◌, ◌*◌, ◌≤◌, ltb, length, if◌then◌else◌}
 use mathlib.Core.List.{List, [], ◌∷◌, ◌++◌, flat_map}
 use Rattle.definition.specs.Limits.{most_definitions}
-use Rattle.definition.specs.Words.{if◌then◌else◌}
 use Rattle.definition.specs.Commands.{commands}
 use Rattle.definition.specs.Standing.{outside}
 use Rattle.definition.specs.Table.{Table, enter}

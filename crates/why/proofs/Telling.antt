@@ -2,6 +2,7 @@
 -- the count or that there is none.
 --     refused-first, passes-first      what the first run says.        missing-at-0, missing-beyond       no run is needed.        found-or-not      what the second run says
 -- Assumes nothing.
+use Rattle.std.specs.Prelude.{if◌then◌else◌}
 use mathlib.Core.Path.{◌≡◌, refl, sym, ap, ◌∙◌, subst}
 use mathlib.Core.Bool.{Bool, true, false}
 use mathlib.Core.List.{List, []}
@@ -22,7 +23,7 @@ use Rattle.definition.specs.declared.Answer.{Answer}
 use Rattle.definition.specs.declared.Refusal.{Refusal}
 use Rattle.definition.specs.declared.Why.{Why}
 use Rattle.definition.specs.Limits.{most_shapes, deepest}
-use Rattle.definition.specs.Words.{if◌then◌else◌, Point, point}
+use Rattle.definition.specs.Words.{Point, point}
 use Rattle.definition.specs.Rules.{flat_file_too_long, too_many_shapes, no_such_shape, number_of, refuse}
 use Rattle.definition.specs.Commands.{commands}
 use Rattle.definition.specs.Faults.{first_fault}

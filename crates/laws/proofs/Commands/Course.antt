@@ -2,6 +2,7 @@
 -- so many letters. The recogniser's states say so: each has a count of what is still to come, found by search and tested here at each entry of its
 -- table, so not believed.
 -- Assumes nothing.
+use Rattle.std.specs.Prelude.{if◌then◌else◌}
 use mathlib.Core.Path.{◌≡◌, refl, sym, ap, ◌∙◌, subst}
 use mathlib.Core.Bool.{Bool, true, false, not, ◌&&◌, ◌||◌}
 use mathlib.Core.List.{List, [], ◌∷◌}
@@ -25,7 +26,7 @@ use Rattle.grammar.proofs.Automaton.{Lang, entry_at, stand, agree, label, deepen
 use Rattle.grammar.proofs.Verdicts.{final_deep}
 use Rattle.grammar.proofs.Boundaries.{entered_at, within_at, live_next}
 use Rattle.grammar.proofs.Markings.{Below, match_ascii}
-use Rattle.definition.specs.Words.{if◌then◌else◌, at}
+use Rattle.definition.specs.Words.{at}
 use Rattle.definition.specs.Commands.{Number, worth, numbers, nth, next, named, ◌plays◌, ◌is◌}
 
 -- ---- what each state has still to come

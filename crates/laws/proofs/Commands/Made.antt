@@ -1,6 +1,7 @@
 -- Commands of a grammatical text are well made: shapes have the numbers of their kind, sizes, symbol numbers, a and b have no sign, and layer names
 -- are of one to four of the characters that they may have.
 -- Assumes nothing.
+use Rattle.std.specs.Prelude.{if◌then◌else◌}
 use mathlib.Core.Path.{◌≡◌, refl, sym, ap, ◌∙◌, subst}
 use mathlib.Core.Bool.{Bool, true, false, ◌&&◌}
 use mathlib.Core.List.{List, [], ◌∷◌}
@@ -14,7 +15,7 @@ use Rattle.grammar.specs.Notation.{Role-discrete, Digit, Upper, Blank, User, Com
 use Rattle.grammar.specs.Notation.{skip, head, second, name, stop}
 use Rattle.grammar.specs.Productions.{cif_file}
 use Rattle.grammar.proofs.Tests.{and_left, and_right}
-use Rattle.definition.specs.Words.{if◌then◌else◌, Placed, at, Point}
+use Rattle.definition.specs.Words.{Placed, at, Point}
 use Rattle.definition.specs.Commands.{box, flash, wire, polygon, Shape, Number, Command, draw, layer, call, start, finish, delete, nothing}
 use Rattle.definition.specs.Commands.{numbers, paired, next, named, command_at, commands, ◌plays◌, ◌is◌}
 use Rattle.laws.proofs.Lists.Range.{All, all-++}

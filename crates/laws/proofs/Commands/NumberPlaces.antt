@@ -1,6 +1,7 @@
 -- Where the commands of a text and their numbers stand: within the text, and the numbers of one command in ascending places. Refusals 3 to 9 go
 -- by place within a number, and every refusal's place has to lie in the text.
 -- Assumes nothing.
+use Rattle.std.specs.Prelude.{if◌then◌else◌}
 use mathlib.Core.Path.{◌≡◌, refl, sym, ap, ◌∙◌, subst}
 use mathlib.Core.Bool.{Bool, true, false, ◌||◌}
 use mathlib.Core.List.{List, [], ◌∷◌, ◌++◌, flat_map}
@@ -12,7 +13,7 @@ use lib.ListN.{length, get_or, drop}
 use Rattle.grammar.specs.Notation.{Role, Role-discrete, Letter, dec, second, turn, axis, sign, lead, stop, head, 'B', 'C', 'D', 'L', 'P', 'R', 'S', 'T', 'W', 'X'}
 use Rattle.grammar.specs.Viable.{bytes, Marked}
 use Rattle.grammar.proofs.Items.{dec-sound}
-use Rattle.definition.specs.Words.{if◌then◌else◌, Placed, at}
+use Rattle.definition.specs.Words.{Placed, at}
 use Rattle.definition.specs.Commands.{Number, Turn}
 use Rattle.definition.specs.Commands.{Command}
 use Rattle.definition.specs.Commands.{◌plays◌, ◌is◌, worth, numbers, nth, paired, next, turn_at, turns, command_at, commands}

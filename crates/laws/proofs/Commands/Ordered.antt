@@ -1,6 +1,7 @@
 -- The order of commands in a text: a DS and a DD stand outside definitions, a DF ends one, and E comes last. It is read off the productions letter by
 -- letter, so that what holds at a semicolon holds wherever a text is cut.
 -- Assumes nothing.
+use Rattle.std.specs.Prelude.{if◌then◌else◌}
 use mathlib.Core.Path.{◌≡◌, refl, sym, ap, ◌∙◌, subst}
 use mathlib.Core.Bool.{Bool, true, false, not, ◌&&◌}
 use mathlib.Core.List.{List, [], ◌∷◌, ◌++◌, append_assoc}
@@ -23,7 +24,7 @@ use Rattle.grammar.specs.Tables.{letter}
 use Rattle.grammar.proofs.Items.{dec-sound}
 use Rattle.grammar.proofs.Tests.{and_left, and_right}
 use Rattle.grammar.proofs.Boundaries.{inside_by, inside_after}
-use Rattle.definition.specs.Words.{if◌then◌else◌, Placed, at}
+use Rattle.definition.specs.Words.{Placed, at}
 use Rattle.definition.specs.Commands.{Number, nth, numbers, Command, draw, layer, call, start, finish, delete, nothing, ◌is◌, next, command_at, commands}
 use Rattle.definition.specs.Standing.{Standing, after}
 use Rattle.laws.proofs.Lists.Range.{All, all-++}

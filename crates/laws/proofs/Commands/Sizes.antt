@@ -1,5 +1,6 @@
 -- Of commands without a fault every size and every direction that is drawn lies within 16,777,215 of zero, too.
 -- Assumes nothing.
+use Rattle.std.specs.Prelude.{if◌then◌else◌}
 use mathlib.Core.Path.{◌≡◌, refl, sym, subst}
 use mathlib.Core.Bool.{Bool, true, false}
 use mathlib.Core.List.{List, [], ◌∷◌, ◌++◌, map, flat_map, nil≢cons}
@@ -8,7 +9,7 @@ use Prim.Native.Nat.{ℕ, zero, suc}
 use lib.IntN.{ℤ, pos, negsuc, neg_ℤ, nat_abs}
 use Rattle.definition.specs.declared.Refusal.{Refusal}
 use Rattle.definition.specs.Rules.{Rule, number_too_large, zero_factor, scaled_too_large}
-use Rattle.definition.specs.Words.{if◌then◌else◌, at, Point, those, first}
+use Rattle.definition.specs.Words.{at, Point, those, first}
 use Rattle.definition.specs.Commands.{Shape, Turn, Number, translate, mirror_x, mirror_y, rotate}
 use Rattle.definition.specs.Commands.{Command, draw, layer, call, start, finish, delete, nothing}
 use Rattle.definition.specs.Standing.{Standing, scaled, given, scaled_shape}

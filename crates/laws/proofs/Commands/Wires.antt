@@ -1,6 +1,7 @@
 -- A shape of a grammatical text has a point, unless it is a polygon: a wire has a path behind its width. So refusal 7 falls on no shape for want of
 -- points but on a polygon, as the table of RULES 12 says.
 -- Assumes nothing.
+use Rattle.std.specs.Prelude.{if◌then◌else◌}
 use mathlib.Core.Path.{◌≡◌, refl, sym, ap, ◌∙◌, subst}
 use mathlib.Core.Bool.{Bool, true, false, not, ◌&&◌, ◌||◌}
 use mathlib.Core.List.{List, [], ◌∷◌, ◌++◌, append_assoc, append-nil}
@@ -17,7 +18,7 @@ use Rattle.grammar.specs.Notation.{head, second, turn, sign, lead, stop}
 use Rattle.grammar.specs.Productions.{cif_file}
 use Rattle.grammar.proofs.Tests.{and_left, and_right, or_cases}
 use Rattle.grammar.proofs.Items.{dec-sound}
-use Rattle.definition.specs.Words.{if◌then◌else◌, Placed, at}
+use Rattle.definition.specs.Words.{Placed, at}
 use Rattle.definition.specs.Commands.{Number, polygon, Command, draw, layer, call, start, finish, delete, nothing}
 use Rattle.definition.specs.Commands.{◌plays◌, ◌is◌, worth, numbers, paired, next, command_at, commands}
 use Rattle.laws.proofs.Lists.Range.{All}

@@ -1,6 +1,7 @@
 -- No command of a body needs more words than it has bytes: its letter and its semicolon stand for two of its words, and a letter between them for
 -- each of the others. So with as many words lent as a text has bytes refusal 25 falls nowhere.
 -- Assumes nothing.
+use Rattle.std.specs.Prelude.{if◌then◌else◌}
 use mathlib.Core.Path.{◌≡◌, refl, ap}
 use mathlib.Core.Bool.{Bool, true, false, ◌||◌}
 use mathlib.Core.List.{List, [], ◌∷◌, map}
@@ -12,7 +13,7 @@ use lib.ListN.{length, drop, length-append, length-map, length-drop}
 use Rattle.grammar.specs.Notation.{Role, Letter, has, dec, Role-discrete, head, turn, axis, stop, sign, lead, second, 'B', 'C', 'D', 'E', 'L', 'P', 'R', 'S', 'T', 'W', 'X'}
 use Rattle.grammar.specs.Tables.{letter}
 use Rattle.grammar.specs.Viable.{Marked}
-use Rattle.definition.specs.Words.{if◌then◌else◌, at, Point}
+use Rattle.definition.specs.Words.{at, Point}
 use Rattle.definition.specs.Commands.{Number, Turn, mirror_x, mirror_y, Shape, Command, nothing, worth, numbers, paired, next, turn_at, turns, command_at, commands, ◌plays◌, ◌is◌}
 use Rattle.definition.specs.Standing.{Standing, outside, scaled_shape, scaled_turn}
 use Rattle.definition.specs.Faults.{both}

@@ -1,6 +1,7 @@
 -- Demand 3, whole: the flat file of an accepted text holds only layer commands, shapes and the End; every room that holds it accepts it, with the
 -- same shapes; and flattened again it is the same bytes.
 -- Assumes nothing.
+use Rattle.std.specs.Prelude.{if◌then◌else◌}
 use mathlib.Core.Path.{◌≡◌, refl, sym, ap, ◌∙◌, subst}
 use mathlib.Core.Bool.{Bool, true, false, not}
 use mathlib.Core.List.{List, [], ◌∷◌, ◌++◌, map}
@@ -17,7 +18,7 @@ use Rattle.grammar.specs.Tables.{letter}
 use Rattle.grammar.proofs.Markings.{one_marking}
 use Rattle.definition.specs.declared.Answer.{Answer}
 use Rattle.definition.specs.Limits.{most_bytes}
-use Rattle.definition.specs.Words.{if◌then◌else◌, Placed, at, same, those}
+use Rattle.definition.specs.Words.{Placed, at, same, those}
 use Rattle.definition.specs.Standing.{outside, after, whole}
 use Rattle.definition.specs.Faults.{distances}
 use Rattle.definition.specs.Rounded.{ragged, rounded_from, rounded}

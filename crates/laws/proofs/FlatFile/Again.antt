@@ -1,5 +1,6 @@
 -- A flat file read again: its letters with their roles, and that the numbers that it says are read back.
 -- Assumes nothing.
+use Rattle.std.specs.Prelude.{if◌then◌else◌}
 use mathlib.Core.Path.{◌≡◌, refl, ap, ap₂, ◌∙◌}
 use mathlib.Core.Bool.{Bool, true, false}
 use mathlib.Core.List.{List, [], ◌∷◌, ◌++◌, append_assoc, map}
@@ -10,7 +11,7 @@ use lib.ListN.{length}
 use Rattle.grammar.specs.Notation.{Letter, dec, skip, sign, stop, lead, later}
 use Rattle.grammar.specs.Viable.{bytes}
 use Rattle.grammar.specs.Tables.{letter}
-use Rattle.definition.specs.Words.{if◌then◌else◌, at}
+use Rattle.definition.specs.Words.{at}
 use Rattle.definition.specs.Commands.{Number, worth, numbers, ◌plays◌}
 use Rattle.definition.specs.Flat.{shortest, decimal, spaced}
 use Rattle.laws.proofs.FlatFile.Decimals.{val, shortest_is}

@@ -1,5 +1,6 @@
 -- The flat file read again has no fault.
 -- Assumes nothing.
+use Rattle.std.specs.Prelude.{if◌then◌else◌}
 use mathlib.Core.Path.{◌≡◌, refl, sym, ap, ap₂, ◌∙◌, subst}
 use mathlib.Core.Bool.{Bool, true, false, ◌||◌}
 use mathlib.Core.List.{List, [], ◌∷◌, ◌++◌, map, flat_map, append_assoc, append-nil}
@@ -12,7 +13,7 @@ use Rattle.grammar.specs.Tables.{letter}
 use Rattle.definition.specs.declared.Refusal.{Refusal}
 use Rattle.definition.specs.Limits.{most_points}
 use Rattle.definition.specs.Rules.{Rule, number_too_large, scaled_too_large}
-use Rattle.definition.specs.Words.{if◌then◌else◌, Placed, at, Point, any, those, same}
+use Rattle.definition.specs.Words.{Placed, at, Point, any, those, same}
 use Rattle.definition.specs.Commands.{Shape, Number, Command, draw, layer, command_at, commands}
 use Rattle.definition.specs.Standing.{outside, after, given, scaled, scaled_shape}
 use Rattle.definition.specs.Faults.{beyond, both, empty_shape, parts_of, distances, numbers_of, at_numbers, zero_scale, degenerate, layerless, has_too_many, faults, all_faults}

@@ -1,5 +1,6 @@
 -- Demand 3: the flat file of an accepted text is accepted, draws the same shapes, and flattened again gives the same bytes.
 -- Assumes nothing.
+use Rattle.std.specs.Prelude.{if◌then◌else◌}
 use mathlib.Core.Path.{◌≡◌, refl, sym, ap, ◌∙◌, subst}
 use mathlib.Core.Bool.{Bool, true, false, ◌&&◌}
 use mathlib.Core.List.{List, [], ◌∷◌, ◌++◌, map}
@@ -14,7 +15,7 @@ use Rattle.grammar.specs.Notation.{Letter}
 use Rattle.grammar.specs.Viable.{Marked}
 use Rattle.definition.specs.declared.Refusal.{Refusal}
 use Rattle.definition.specs.Limits.{most_bytes, most_calls, most_shapes}
-use Rattle.definition.specs.Words.{if◌then◌else◌, Placed, first}
+use Rattle.definition.specs.Words.{Placed, first}
 use Rattle.definition.specs.Rules.{too_many_calls, too_many_shapes, flat_file_too_long, refuse}
 use Rattle.definition.specs.Commands.{Shape, Command, commands}
 use Rattle.definition.specs.Standing.{outside}

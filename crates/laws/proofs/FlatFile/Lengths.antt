@@ -1,5 +1,6 @@
 -- How long a flat file can be: a few bytes for each number, so that places in it, and the room that it would need, never overflow 64 bits.
 -- Assumes nothing.
+use Rattle.std.specs.Prelude.{if◌then◌else◌}
 use mathlib.Core.Path.{◌≡◌, refl, ap}
 use mathlib.Core.Bool.{Bool, true, false}
 use mathlib.Core.List.{List, [], ◌∷◌, ◌++◌}
@@ -11,7 +12,7 @@ use lib.ListN.{length, length-append}
 use Rattle.grammar.specs.Notation.{Letter}
 use Rattle.grammar.specs.Viable.{Marked}
 use Rattle.definition.specs.Limits.{largest, most_points, most_shapes}
-use Rattle.definition.specs.Words.{if◌then◌else◌, Point, same}
+use Rattle.definition.specs.Words.{Point, same}
 use Rattle.definition.specs.Commands.{Shape, commands}
 use Rattle.definition.specs.Faults.{both, first_fault}
 use Rattle.definition.specs.Drawing.{Drawn}

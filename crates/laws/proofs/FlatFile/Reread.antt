@@ -1,5 +1,6 @@
 -- The flat file read again draws the same shapes: its letters, its commands, and what they draw.
 -- Assumes nothing.
+use Rattle.std.specs.Prelude.{if◌then◌else◌}
 use mathlib.Core.Path.{◌≡◌, refl, sym, ap, ap₂, ◌∙◌, subst}
 use mathlib.Core.Bool.{Bool, true, false}
 use mathlib.Core.List.{List, [], ◌∷◌, ◌++◌, map, append_assoc}
@@ -13,7 +14,7 @@ use Rattle.grammar.specs.Notation.{Letter, dec, has, skip, head, name, stop}
 use Rattle.grammar.specs.Viable.{bytes}
 use Rattle.grammar.specs.Tables.{letter}
 use Rattle.definition.specs.Limits.{largest, most_shapes}
-use Rattle.definition.specs.Words.{if◌then◌else◌, Placed, at, Point, same, any}
+use Rattle.definition.specs.Words.{Placed, at, Point, same, any}
 use Rattle.definition.specs.Commands.{Shape, Turn, Number, Command, draw, layer, named, command_at, commands, ◌plays◌}
 use Rattle.definition.specs.Standing.{outside, after, scaled_shape}
 use Rattle.definition.specs.Faults.{beyond, both}

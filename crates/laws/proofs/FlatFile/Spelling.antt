@@ -1,5 +1,6 @@
 -- The flat file is in the grammar: a derivation of its letters, built from the productions.
 -- Assumes nothing.
+use Rattle.std.specs.Prelude.{if◌then◌else◌}
 use mathlib.Core.Path.{◌≡◌, refl, sym, ap, ◌∙◌, subst}
 use mathlib.Core.Bool.{Bool, true, false}
 use mathlib.Core.List.{List, [], ◌∷◌, ◌++◌, append_assoc, append-nil}
@@ -14,7 +15,7 @@ use Rattle.grammar.specs.Notation.{skip, head, sign, lead, later, name, stop, on
 use Rattle.grammar.specs.Productions.{sep, semi, c, shortname, integer_d, integer, sinteger, point, path, prim_command, command, cif_file}
 use Rattle.grammar.specs.Viable.{Marked}
 use Rattle.grammar.specs.Tables.{letter}
-use Rattle.definition.specs.Words.{if◌then◌else◌, Point, same}
+use Rattle.definition.specs.Words.{Point, same}
 use Rattle.definition.specs.Commands.{Shape}
 use Rattle.definition.specs.Faults
 use Rattle.definition.specs.Flat.{shortest, letter_of, numbers_of_shape, flat}

@@ -1,5 +1,6 @@
 -- The definitions on joined lists: of transformations, steps, deeds, events, commands and letters.
 -- Assumes nothing.
+use Rattle.std.specs.Prelude.{if◌then◌else◌}
 use mathlib.Core.Path.{◌≡◌, refl, sym, ap, ap₂, ◌∙◌, subst}
 use mathlib.Core.Bool.{Bool, true, false, ◌||◌}
 use mathlib.Core.List.{List, [], ◌∷◌, ◌++◌, append_assoc, map, flat_map}
@@ -8,7 +9,7 @@ use native.Mathlib.Omega.{arith}
 use lib.IntN.{ℤ}
 use lib.ListN.{length}
 use Rattle.grammar.specs.Notation.{Role, Letter, dec, Role-discrete, head, second, axis, sign, stop, later}
-use Rattle.definition.specs.Words.{if◌then◌else◌, Placed, at, Point, those}
+use Rattle.definition.specs.Words.{Placed, at, Point, those}
 use Rattle.definition.specs.Commands.{Turn, Command, start, worth, numbers, named, next, turn_at, turns, command_at, commands, ◌plays◌}
 use Rattle.definition.specs.Standing.{Standing, outside, after}
 use Rattle.definition.specs.declared.Refusal.{Refusal}

@@ -1,6 +1,7 @@
 -- The refusals 10 to 17, 20 and 25 as RULES 12 has them, in plain facts, and the theorem that they are the refusals of the drawing: it is stopped with a number and a place
 -- exactly where the first moment stands that breaks a rule, by the first rule of the order that it breaks; and it finishes exactly when no moment breaks any.
 -- Assumes nothing.
+use Rattle.std.specs.Prelude.{if◌then◌else◌}
 use mathlib.Core.Path.{◌≡◌, refl, sym, ap, ap₂, ◌∙◌, subst}
 use mathlib.Core.Bool.{Bool}
 use mathlib.Core.List.{List, [], ◌∷◌, ◌++◌, map, nil≢cons, head-eq_of_cons-eq, tail-eq_of_cons-eq}
@@ -12,7 +13,7 @@ use lib.IntN.{ℤ}
 use lib.ListN.{length}
 use Rattle.definition.specs.declared.Refusal.{Refusal}
 use Rattle.definition.specs.Limits.{most_definitions, deepest, most_calls, most_shapes}
-use Rattle.definition.specs.Words.{if◌then◌else◌, none?}
+use Rattle.definition.specs.Words.{none?}
 use Rattle.definition.specs.Rules.{Rule, too_many_definitions, too_few_words, off_the_axes, undefined_symbol, being_drawn, too_deep, too_many_calls, x_out_of_range, y_out_of_range, too_many_shapes, refuse}
 use Rattle.definition.specs.Commands.{Shape, Turn}
 use Rattle.definition.specs.Turns.{moved}

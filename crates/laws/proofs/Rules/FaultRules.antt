@@ -1,6 +1,7 @@
 -- Demand 2 for the refusals 3 to 9: a rule for each row of the table of RULES 12, and that the first fault of a text is the first rule broken: the commands in
 -- text order, within a command by number, within a number by place.
 -- Assumes nothing.
+use Rattle.std.specs.Prelude.{if◌then◌else◌}
 use mathlib.Core.Path.{◌≡◌, refl, sym, ap, ◌∙◌, subst, ap₂}
 use mathlib.Core.Bool.{Bool, true, false, ◌&&◌, ◌||◌}
 use mathlib.Core.List.Memᴰ
@@ -19,7 +20,7 @@ use Rattle.grammar.specs.Viable.{Marked}
 use Rattle.definition.specs.declared.Refusal.{Refusal}
 use Rattle.definition.specs.Limits.{largest, most_points, most_turns}
 use Rattle.definition.specs.Rules.{Rule, number_too_large, zero_factor, scaled_too_large, degenerate_command, no_layer, too_many_parts, refuse, order}
-use Rattle.definition.specs.Words.{if◌then◌else◌, Placed, at, Point, any, those, first}
+use Rattle.definition.specs.Words.{Placed, at, Point, any, those, first}
 use Rattle.definition.specs.Commands.{Number, Kind, box, flash, wire, polygon, Shape, Turn, translate, mirror_x, mirror_y, rotate}
 use Rattle.definition.specs.Commands.{Command, draw, layer, call, start, finish, delete, nothing, commands}
 use Rattle.definition.specs.Standing.{Standing, outside, after, nearest, scaled, given, scaled_point, scaled_shape}

@@ -1,6 +1,7 @@
 -- The rules of the table of RULES 12 by their order and by their numbers: when a rule is earlier than another, that no two have the same rank or the same
 -- number, and that no number is 0, which says success. And the two stretches of the order: the rules that a command breaks, and those that stop a drawing.
 -- Assumes nothing.
+use Rattle.std.specs.Prelude.{if◌then◌else◌}
 use mathlib.Core.Path.{◌≡◌, refl, sym, ap, ◌∙◌}
 use mathlib.Core.List.{List, [], ◌∷◌}
 use Prim.Native.Nat.{ℕ, suc, ◌≤◌, ◌<◌}
@@ -11,7 +12,6 @@ use Rattle.definition.specs.declared.Refusal.{Refusal}
 use Rattle.definition.specs.Rules.{Rule, text_too_long, not_in_grammar, number_too_large, zero_factor, scaled_too_large, degenerate_command, no_layer}
 use Rattle.definition.specs.Rules.{too_many_parts, too_many_layers, too_many_definitions, too_few_words, off_the_axes, undefined_symbol, being_drawn, too_deep, too_few_records, too_many_calls, x_out_of_range, y_out_of_range}
 use Rattle.definition.specs.Rules.{too_many_shapes, flat_file_too_long, no_such_shape, number_of, refuse, order}
-use Rattle.definition.specs.Words.{if◌then◌else◌}
 
 abbrev pub rank_in : List Rule → (number : ℕ) → ℕ  -- how many rules stand before the one of this number
 rank_in [] n = 0

@@ -1,6 +1,7 @@
 -- How an outcome comes about: every way to a refusal and to an acceptance, in the words of the table of RULES 12, and nothing else. Demands 1 and 2 go by
 -- these cases.
 -- Assumes nothing.
+use Rattle.std.specs.Prelude.{if◌then◌else◌}
 use mathlib.Core.Path.{◌≡◌, refl, sym, ap, ◌∙◌, subst}
 use mathlib.Core.Bool.{Bool, true, false, ◌&&◌}
 use mathlib.Core.List.{List, []}
@@ -14,7 +15,7 @@ use Rattle.grammar.specs.Notation.{Letter}
 use Rattle.grammar.specs.Viable.{Marked, Grammatical, LongestViable}
 use Rattle.definition.specs.declared.Refusal.{Refusal}
 use Rattle.definition.specs.Limits.{most_bytes}
-use Rattle.definition.specs.Words.{if◌then◌else◌, Placed}
+use Rattle.definition.specs.Words.{Placed}
 use Rattle.definition.specs.Rules.{Rule, text_too_long, not_in_grammar, flat_file_too_long, refuse}
 use Rattle.definition.specs.Commands.{Command, commands}
 use Rattle.definition.specs.Faults.{first_fault}

@@ -1,13 +1,14 @@
 -- What happens at a shape: 16 where some x of its final points lies beyond the range, or else 20 where some y does, or else it is drawn, and then none of
 -- their numbers lies beyond. Every law about all that happens goes by these three cases.
 -- Assumes nothing.
+use Rattle.std.specs.Prelude.{if◌then◌else◌}
 use mathlib.Core.Path.{◌≡◌, refl, subst}
 use mathlib.Core.Bool.{Bool, true, false, ◌||◌}
 use mathlib.Core.List.{List, [], ◌∷◌}
 use Prim.Native.Nat.{ℕ}
 use lib.Dec.{T}
 use lib.IntN.{ℤ}
-use Rattle.definition.specs.Words.{if◌then◌else◌, Point, any}
+use Rattle.definition.specs.Words.{Point, any}
 use Rattle.definition.specs.Rules.{x_out_of_range, y_out_of_range, refuse}
 use Rattle.definition.specs.Commands.{Shape, Turn}
 use Rattle.definition.specs.Faults.{beyond, both}

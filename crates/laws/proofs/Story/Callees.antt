@@ -1,6 +1,7 @@
 -- Which moments follow a call: one that keeps the rules 11 to 14 draws the body that it found, and one that breaks such a rule draws nothing.
 -- It says what the moments are without the tests that the story makes.
 -- Assumes nothing.
+use Rattle.std.specs.Prelude.{if◌then◌else◌}
 use mathlib.Core.Path.{◌≡◌, refl, ap}
 use mathlib.Core.Bool.{Bool, true, false}
 use mathlib.Core.List.{List, [], ◌∷◌, ◌++◌}
@@ -11,7 +12,7 @@ use lib.Dec.{eqb}
 use lib.IntN.{ℤ}
 use lib.ListN.{length}
 use Rattle.definition.specs.Limits.{deepest}
-use Rattle.definition.specs.Words.{if◌then◌else◌, at, any}
+use Rattle.definition.specs.Words.{at, any}
 use Rattle.definition.specs.Rules.{Rule, off_the_axes, undefined_symbol, being_drawn, too_deep, too_many_calls}
 use Rattle.definition.specs.Commands.{Turn}
 use Rattle.definition.specs.Turns.{off_axes}

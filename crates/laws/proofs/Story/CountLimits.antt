@@ -1,6 +1,7 @@
 -- The limits of refusals 15 and 17 from both sides, for drawings that are too long to compute: a list of events without a refusal is finished up to
 -- 1,048,576 calls and shapes, and stopped at the call or shape after that.
 -- Assumes nothing.
+use Rattle.std.specs.Prelude.{if◌then◌else◌}
 use mathlib.Core.Path.{◌≡◌, refl, ap, ◌∙◌}
 use mathlib.Core.List.{List, [], ◌∷◌, ◌++◌}
 use Prim.Native.Nat.{ℕ, ◌+◌, ◌≤◌}
@@ -9,7 +10,7 @@ use lib.ListN.{length}
 use Rattle.definition.specs.declared.Refusal.{Refusal}
 use Rattle.definition.specs.Limits.{most_calls, most_shapes}
 use Rattle.definition.specs.Rules.{too_many_calls, too_many_shapes, refuse}
-use Rattle.definition.specs.Words.{if◌then◌else◌, Placed, none?}
+use Rattle.definition.specs.Words.{Placed, none?}
 use Rattle.definition.specs.Table.{Definition, Table, find}
 use Rattle.definition.specs.Drawing.{Chain, Drawn, Event, called, drew, entered, removed, refused}
 use Rattle.definition.specs.Counts.{Counts, counts, End, finished, stopped, counted, go_on, ending, shapes_of}

@@ -1,5 +1,6 @@
 -- The counts are those of the drawing: a drawing that finishes has counted its calls, its shapes and its redefinitions, each once.
 -- Assumes nothing.
+use Rattle.std.specs.Prelude.{if◌then◌else◌}
 use mathlib.Core.Path.{◌≡◌, refl, sym, subst}
 use mathlib.Core.Bool.{Bool, true, false}
 use mathlib.Core.List.{List, [], ◌∷◌}
@@ -9,7 +10,7 @@ use lib.ListN.{length}
 use Rattle.definition.specs.declared.Refusal.{Refusal}
 use Rattle.definition.specs.Limits.{most_calls, most_shapes}
 use Rattle.definition.specs.Rules.{too_many_calls, too_many_shapes, refuse}
-use Rattle.definition.specs.Words.{if◌then◌else◌, none?}
+use Rattle.definition.specs.Words.{none?}
 use Rattle.definition.specs.Table.{Definition, find}
 use Rattle.definition.specs.Drawing.{Chain, Event, called, drew, entered, removed, refused}
 use Rattle.definition.specs.Counts.{Counts, counts, End, finished, stopped, counted, go_on, ending, shapes_of}

@@ -1,5 +1,6 @@
 -- The tests that the drawing makes, and the facts that they decide: so what RULES 12 says can be stated as facts.
 -- Assumes nothing.
+use Rattle.std.specs.Prelude.{if◌then◌else◌}
 use mathlib.Core.Path.{◌≡◌, refl, sym, ap, subst}
 use mathlib.Core.Bool.{Bool, true, false, not, ◌&&◌, ◌||◌}
 use mathlib.Core.List.Memᴰ
@@ -12,7 +13,7 @@ use borrow.Author.Tests.{ltb-true, ltb-false, eqb-true, eqb-false}
 use lib.Dec.{ltb, eqb}
 use lib.IntN.{ℤ, pos, negsuc, nat_abs}
 use Rattle.definition.specs.Limits.{largest, deepest}
-use Rattle.definition.specs.Words.{if◌then◌else◌, Placed, Point, any, none?}
+use Rattle.definition.specs.Words.{Placed, Point, any, none?}
 use Rattle.definition.specs.Commands.{Shape, Turn, translate, mirror_x, mirror_y, rotate}
 use Rattle.definition.specs.Faults.{beyond, zero?, bearings}
 use Rattle.definition.specs.Turns.{+x, +y, -x, -y, negative, heading, act, in_order, moved, off_axes}

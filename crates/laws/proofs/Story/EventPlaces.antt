@@ -1,6 +1,7 @@
 -- What holds of the place of every command holds of every place that the drawing names: of what is drawn, of a refusal, and of the calls open
 -- there. And a drawing is stopped by a rule of 10 to 17, 20 or 25, with no calls open at 10 and 25.
 -- Assumes nothing.
+use Rattle.std.specs.Prelude.{if◌then◌else◌}
 use mathlib.Core.Path.{◌≡◌, refl, subst}
 use mathlib.Core.Bool.{Bool, true, false}
 use mathlib.Core.List.{List, [], ◌∷◌, ◌++◌, map}
@@ -12,7 +13,7 @@ use lib.IntN.{ℤ}
 use lib.ListN.{length}
 use Rattle.definition.specs.declared.Refusal.{Refusal}
 use Rattle.definition.specs.Limits.{most_definitions, deepest, most_calls, most_shapes}
-use Rattle.definition.specs.Words.{if◌then◌else◌, Placed, at, any, those}
+use Rattle.definition.specs.Words.{Placed, at, any, those}
 use Rattle.definition.specs.Rules.{Rule, too_many_definitions, too_few_words, off_the_axes, being_drawn, too_deep, too_many_calls, x_out_of_range, y_out_of_range, too_many_shapes, refuse}
 use Rattle.definition.specs.Commands.{Shape, Turn, Command, draw, layer, call, start, finish, delete, nothing}
 use Rattle.definition.specs.Standing.{Standing, outside, after}

@@ -1,6 +1,7 @@
 -- Refusal 25 (RULES 8, request 10): a story that is held to the words lent is the story itself where enough are lent. Where they are too few, it ends as it did, or it is stopped
 -- at the first definition for which they do not suffice, if nothing stops it before; and the shapes are the same.
 -- Assumes nothing.
+use Rattle.std.specs.Prelude.{if◌then◌else◌}
 use mathlib.Core.Path.{◌≡◌, refl, sym, ap, ap₂, ◌∙◌, subst}
 use mathlib.Core.Bool.{Bool, true, false}
 use mathlib.Core.List.{List, [], ◌∷◌, ◌++◌, map, map-append, nil≢cons, head-eq_of_cons-eq, tail-eq_of_cons-eq}
@@ -10,7 +11,6 @@ use native.Mathlib.Omega.{arith}
 use lib.Dec.{ltb}
 use borrow.Author.Tests.{lt-ltb, le-ltb, ltb-true, ltb-false}
 use Rattle.definition.specs.declared.Refusal.{Refusal}
-use Rattle.definition.specs.Words.{if◌then◌else◌}
 use Rattle.definition.specs.Rules.{too_few_words, refuse}
 use Rattle.definition.specs.Table.{Definition, Table, enter}
 use Rattle.definition.specs.Drawing.{Chain, Drawn, Event, called, drew, entered, removed, refused}

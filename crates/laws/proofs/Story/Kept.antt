@@ -1,5 +1,6 @@
 -- What moving makes of every shape that a step may draw holds of every shape drawn: the one walk through the drawing, for any property of shapes.
 -- Assumes nothing.
+use Rattle.std.specs.Prelude.{if◌then◌else◌}
 use mathlib.Core.Path.{◌≡◌}
 use mathlib.Core.Bool.{Bool, true, false}
 use mathlib.Core.List.{List, [], ◌∷◌, ◌++◌, map}
@@ -9,7 +10,7 @@ use lib.Dec.{ltb, eqb}
 use lib.IntN.{ℤ}
 use lib.ListN.{length}
 use Rattle.definition.specs.Limits.{most_definitions, deepest}
-use Rattle.definition.specs.Words.{if◌then◌else◌, Placed, at, any, those}
+use Rattle.definition.specs.Words.{Placed, at, any, those}
 use Rattle.definition.specs.Rules.{too_many_definitions, off_the_axes, being_drawn, too_deep, refuse}
 use Rattle.definition.specs.Commands.{Shape, Turn, Command, draw, layer, call, start, finish, delete, nothing}
 use Rattle.definition.specs.Standing.{Standing, after}

@@ -1,5 +1,6 @@
 -- Sets of layers as numbers of marks (crates/definition, specs/Marks.antt): of joined lists, of one layer, how many marks are set, and which is the lowest.
 -- Assumes nothing.
+use Rattle.std.specs.Prelude.{if◌then◌else◌}
 use mathlib.Core.Path.{◌≡◌, refl, sym, ap, ap₂, ◌∙◌, subst}
 use mathlib.Core.Bool.{Bool, true, false, ◌||◌}
 use mathlib.Core.List.{List, [], ◌∷◌, ◌++◌}
@@ -11,7 +12,7 @@ use lib.Dec.{T, eqb, eqb_refl}
 use lib.Bits.{bit_or, or_step}
 use lib.Count.{ones, ones_step, count_trailing_zeros, under}
 use lib.ListN.{length, get_or}
-use Rattle.definition.specs.Words.{if◌then◌else◌, any, those, first, same}
+use Rattle.definition.specs.Words.{any, those, first, same}
 use Rattle.definition.specs.Summary.{Names, among, appearing}
 use Rattle.definition.specs.Marks.{set_of_layers}
 use Rattle.definition.proofs.Rows.{same-eq}

@@ -2,6 +2,7 @@
 -- The rules 10 to 17, 20 and 25 of RULES 12 speak of moments (DrawingRules); here each event of the story is what one moment leads to, and no
 -- moment is left out.
 -- Assumes nothing.
+use Rattle.std.specs.Prelude.{if◌then◌else◌}
 use mathlib.Core.Path.{◌≡◌, refl, sym, ap, ap₂, ◌∙◌}
 use mathlib.Core.List.{List, [], ◌∷◌, ◌++◌, map}
 use Prim.Native.Nat.{ℕ, zero, suc, ◌+◌, ◌-◌}
@@ -10,7 +11,7 @@ use lib.Dec.{ltb}
 use lib.IntN.{ℤ}
 use lib.ListN.{length, length-append}
 use Rattle.definition.specs.Limits.{most_definitions, deepest}
-use Rattle.definition.specs.Words.{if◌then◌else◌, Placed, at}
+use Rattle.definition.specs.Words.{Placed, at}
 use Rattle.definition.specs.Rules.{too_many_definitions, too_few_words, refuse}
 use Rattle.definition.specs.Commands.{Shape, Turn}
 use Rattle.definition.specs.Table.{Step, shape, instance, setting, Definition, Table, enter}

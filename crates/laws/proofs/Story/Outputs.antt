@@ -1,6 +1,7 @@
 -- What happens where a command is output: calls and shapes, and refusals by the rules 11 to 16 and 20, and nothing else. So what holds of these, whatever their places and their
 -- open calls, holds of all that a call draws.
 -- Assumes nothing.
+use Rattle.std.specs.Prelude.{if◌then◌else◌}
 use mathlib.Core.Bool.{Bool, true, false}
 use mathlib.Core.List.{List, [], ◌∷◌, ◌++◌}
 use mathlib.Core.Option.{Option, none, some}
@@ -9,7 +10,7 @@ use native.Mathlib.Omega.{arith}
 use lib.Dec.{eqb}
 use lib.IntN.{ℤ}
 use Rattle.definition.specs.Limits.{deepest}
-use Rattle.definition.specs.Words.{if◌then◌else◌, Placed, at, any}
+use Rattle.definition.specs.Words.{Placed, at, any}
 use Rattle.definition.specs.Rules.{Rule, off_the_axes, being_drawn, too_deep, x_out_of_range, y_out_of_range, refuse}
 use Rattle.definition.specs.Commands.{Shape, Turn}
 use Rattle.definition.specs.Turns.{off_axes}

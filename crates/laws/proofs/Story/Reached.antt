@@ -1,5 +1,6 @@
 -- Wherever the drawing gets, its limits have been kept; so the rule that stops it is broken by just one: 513 live definitions, depth 33, call 1,048,577, shape 1,048,577.
 -- Assumes nothing.
+use Rattle.std.specs.Prelude.{if◌then◌else◌}
 use mathlib.Core.Path.{◌≡◌, refl, sym, subst}
 use mathlib.Core.Bool.{Bool, true, false}
 use mathlib.Core.List.{List, [], ◌∷◌, ◌++◌}
@@ -10,7 +11,7 @@ use lib.IntN.{ℤ}
 use lib.ListN.{length}
 use Rattle.definition.specs.Limits.{most_definitions, deepest, most_calls, most_shapes}
 use Rattle.definition.specs.Rules.{Rule, too_many_definitions}
-use Rattle.definition.specs.Words.{if◌then◌else◌, those}
+use Rattle.definition.specs.Words.{those}
 use Rattle.definition.specs.Commands.{Turn}
 use Rattle.definition.specs.Table.{Definition, Table, enter, forget}
 use Rattle.definition.specs.Drawing.{Deed, output, define, remove, Chain, table_after}

@@ -1,6 +1,7 @@
 -- The symbol table: that it stays in order, each number once; what `forget` leaves is its beginning; and that a change of its definitions which keeps their numbers goes
 -- through every operation.
 -- Assumes nothing.
+use Rattle.std.specs.Prelude.{if◌then◌else◌}
 use mathlib.Core.Path.{◌≡◌, refl, ap, ap₂, ◌∙◌}
 use mathlib.Core.Bool.{Bool, true, false, not}
 use mathlib.Core.List.{List, [], ◌∷◌, ◌++◌, map}
@@ -11,7 +12,7 @@ use native.Mathlib.Omega.{arith}
 use lib.Dec.{ltb, eqb}
 use lib.IntN.{ℤ}
 use borrow.Author.Tests.{le-ltb, ltb-true, ltb-false, eqb-true, eqb-false, ne_eqb}
-use Rattle.definition.specs.Words.{if◌then◌else◌, those, any}
+use Rattle.definition.specs.Words.{those, any}
 use Rattle.definition.specs.Commands.{Turn}
 use Rattle.definition.specs.Turns.{off_axes}
 use Rattle.definition.specs.Table.{Definition, Table, find, enter, forget}

@@ -1,6 +1,7 @@
 -- The words that bodies need, as a sum that is kept up step by step: what a step more, a definition entered and entries forgotten make of it. And a lean body
 -- needs no more than the body.
 -- Assumes nothing.
+use Rattle.std.specs.Prelude.{if◌then◌else◌}
 use mathlib.Core.Path.{◌≡◌, refl, sym, ap, subst}
 use mathlib.Core.Bool.{Bool, true, false, not}
 use mathlib.Core.List.{List, [], ◌∷◌, ◌++◌}
@@ -9,7 +10,7 @@ use Prim.Native.Nat.{ℕ, ◌+◌, ◌≤◌}
 use native.Mathlib.Omega.{arith}
 use lib.Dec.{ltb, eqb}
 use borrow.Author.Tests.{ltb-true, eqb-true, eqb-false, ne_eqb, eq-eqb}
-use Rattle.definition.specs.Words.{if◌then◌else◌, Placed, those}
+use Rattle.definition.specs.Words.{Placed, those}
 use Rattle.definition.specs.Table.{Step, shape, instance, setting, Definition, Table, find, enter, forget}
 use Rattle.definition.specs.Held.{total, words_of_step, words_of_body, words_in}
 use Rattle.definition.specs.Lean.{last_then, add, add_all, lean, lean_table}

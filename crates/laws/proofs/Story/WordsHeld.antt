@@ -1,6 +1,7 @@
 -- How many words the live bodies of a drawing need at most: those of the commands that its definitions retain. A command is retained by one
 -- definition at most, so words for all commands of a text are words enough, and then refusal 25 falls nowhere.
 -- Assumes nothing.
+use Rattle.std.specs.Prelude.{if◌then◌else◌}
 use mathlib.Core.Path.{◌≡◌, refl, sym, ap₂, subst}
 use mathlib.Core.Bool.{Bool, true, false}
 use mathlib.Core.List.{List, [], ◌∷◌, ◌++◌, map}
@@ -11,7 +12,7 @@ use lib.Dec.{ltb, eqb}
 use lib.IntN.{ℤ}
 use lib.ListN.{length}
 use Rattle.definition.specs.Limits.{most_definitions, deepest}
-use Rattle.definition.specs.Words.{if◌then◌else◌, Placed, at, those}
+use Rattle.definition.specs.Words.{Placed, at, those}
 use Rattle.definition.specs.Rules.{too_many_definitions, refuse}
 use Rattle.definition.specs.Commands.{Shape, Turn, Command, draw, layer, call, start, finish, delete, nothing}
 use Rattle.definition.specs.Standing.{Standing, outside, after}
