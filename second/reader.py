@@ -1,9 +1,9 @@
 """A second opinion on the CIF reader: what document 01, sections 7.1.1 and 7.1.2 of Chapter 7 and the requests of document 02 say of a text, as plainly
 as can be.
 
-`flatten(text, room, lent, records)` gives number, place, length, shapes, calls, redefinitions, rounded distances, line, column, the chain and the bytes of the
-flat file, where room is the room's length, lent how many words are lent for bodies and records how many records for open calls; None, or left out, where there
-are always enough. Sentences in quotation marks are document 01's, those after "request" document 02's, and a rule stands under its sentence.
+`flatten(text, room, lent)` gives number, place, length, shapes, calls, redefinitions, rounded distances, line, column, the chain and the bytes of the flat
+file, where room is the room's length and lent how many words are lent for bodies; None, or left out, where there are always enough. Sentences in quotation
+marks are document 01's, those after "request" document 02's, and a rule stands under its sentence.
 """
 from typing import NamedTuple, Optional
 
@@ -263,7 +263,7 @@ def words(command):
     return 2 + 1 if command.kind == "L" else 0
 
 
-# ---- Drawing: refusals 10 to 17, 20, 21 and 25
+# ---- Drawing: refusals 10 to 17, 20 and 25
 
 
 def turned(letter, to_x, to_y, x, y):
@@ -292,12 +292,11 @@ def moved(transformations, x, y):
 
 
 class Drawing:
-    def __init__(self, lent, records=None):
-        self.lent, self.records = lent, records  # words and records, or None for as many as are needed
+    def __init__(self, lent):
+        self.lent = lent  # words, or None for as many as are needed
         self.table = {}  # the live definitions: each symbol number with the shapes and calls of its body
         self.needs = {}  # and with the words that its body needs
         self.most_needed = 0  # by all live bodies together, after some DF
-        self.deepest = 0  # of the calls that were drawn
         self.calls = self.shapes = self.redefinitions = 0
         self.flat, self.layer = bytearray(), None  # the flat file so far, and the layer name of its last L line
 
@@ -354,13 +353,9 @@ class Drawing:
             raise Refused(13, call.place, open_calls)  # "drawn call of a symbol already being drawn"
         if len(open_calls) + 1 > MOST_DEPTH:  # "An executable call has depth 1; a call inside its body has depth 2."
             raise Refused(14, call.place, open_calls)
-        # request 7: "one record per level"; "21, with its chain, at the first call that needs one record more than lent, directly after 14"
-        if self.records is not None and len(open_calls) + 1 > self.records:
-            raise Refused(21, call.place, open_calls)
         if self.calls == MOST_CALLS:
             raise Refused(15, call.place, open_calls)  # "call 1,048,577"
         self.calls += 1  # "Every call drawn, at any depth, counts as one call."
-        self.deepest = max(self.deepest, len(open_calls) + 1)
         # "The inner call's list acts before the outer's."
         self.draw_body(self.table[call.symbol], call.transformations + transformations, open_calls + [call])
 
@@ -402,13 +397,13 @@ def refused(text, number, place, chain=()):
     return Answer(number, place, 0, 0, 0, 0, 0, *position(text, place), chain, b"")
 
 
-def draw(text, lent=None, records=None):
+def draw(text, lent=None):
     """The answer to a text in a room that holds whatever it is. "Order: 1; then 2 [..]; then 3 to 9 [..]; then 10 to 17 in the order of drawing" """
     try:
         if len(text) > LONGEST:
             raise Refused(1, 0)
         meant = list(meaning(commands(text)))
-        drawing = Drawing(lent, records)
+        drawing = Drawing(lent)
         drawing.draw_text(meant)
     except Refused as found:
         return refused(text, found.number, found.place, found.chain)
@@ -417,19 +412,14 @@ def draw(text, lent=None, records=None):
     return Answer(0, 0, len(drawing.flat), drawing.shapes, drawing.calls, drawing.redefinitions, off_grid, 0, 0, (), bytes(drawing.flat))
 
 
-def needs(text):
-    """The least numbers of words and of records with which a text is refused neither with 25 nor with 21; 0 for one that is refused before anything is defined,
-    or drawn."""
-    drawing = Drawing(None, None)
+def most_needed(text):
+    """The least number of words with which a text is not refused with 25; 0 for one that is refused before anything is defined."""
+    drawing = Drawing(None)
     try:
         drawing.draw_text(list(meaning(commands(text))))
     except Refused:
         pass
-    return drawing.most_needed, drawing.deepest
-
-
-def most_needed(text):
-    return needs(text)[0]
+    return drawing.most_needed
 
 
 def put(answer, room):
@@ -439,5 +429,5 @@ def put(answer, room):
     return answer
 
 
-def flatten(text, room, lent=None, records=None):
-    return put(draw(text, lent, records), room)
+def flatten(text, room, lent=None):
+    return put(draw(text, lent), room)

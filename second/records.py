@@ -1,13 +1,11 @@
 """The format of the program `batch` (docs/PROGRAMS.md): what is asked, and what must be told. Shared by second/compare and tools/batch.py."""
 import glob
 import os
-import re
 from typing import NamedTuple
 
 import listing
 import reader
 import summary
-import why
 
 REQUESTS = os.path.join(os.path.dirname(os.path.dirname(os.path.abspath(__file__))), "tests", "requests")
 
@@ -17,10 +15,9 @@ MOST_WORDS = 1_048_576  # lent for bodies
 MOST_CHAIN = 32  # calls open at once
 LARGEST = 4_294_967_295  # that four bytes hold; as the number of words: as many as the texts have bytes, which always suffice
 
-FLATTEN, STACKED, LIST, SUMMARISE, WHY = 0, 1, 2, 3, 7  # STACKED: by the engine that keeps the open calls in records
+FLATTEN, LIST, SUMMARISE = 0, 2, 3
 FLATTENED, LISTED, SUMMARISED = range(9, 9 + MOST_CHAIN + 1), range(3, 4), range(11, 12)  # how many fields the line of each may have
-EXPLAINED = range(12, 12 + MOST_CHAIN + 1)
-TO_COME = (4, 5, 6, 8, 9)  # tasks whose requests have not landed
+TO_COME = (1, 4, 5, 6, 7, 8, 9)  # tasks whose requests have not landed
 
 
 def head(task, text, second=0, room=0, words=LARGEST, records=MOST_OPEN, argument=0):
@@ -50,27 +47,15 @@ def summarised(found):
     return line(found.number, found.place, len(found.first), *found[2:10]) + found.first
 
 
-def explained(found):
-    """What is told of a shape: no bytes follow, and each place of the chain is a field."""
-    return line(found.number, found.place, 0, *found[2:11], *found.chain)
-
-
 NOTHING = line(0, 0, 0)
 
 
-def answer(task, text, room, words=LARGEST, lent=MOST_OPEN):
-    """What the second opinion says of a text that is to be flattened, by either engine; only STACKED looks at the records lent."""
-    return reader.flatten(text, room, None if words == LARGEST else words, lent if task == STACKED else None)
-
-
-def told(task, text, room, words=LARGEST, lent=MOST_OPEN, argument=0):
+def told(task, text, room, words=LARGEST, argument=0):
     """What the second opinion tells. To the list and the summary enough words are lent, whatever the number says."""
-    if task in (FLATTEN, STACKED):
-        return flattened(answer(task, text, room, words, lent))
+    if task == FLATTEN:
+        return flattened(reader.flatten(text, room, None if words == LARGEST else words))
     if task == SUMMARISE:
         return summarised(summary.summarise(text, argument))
-    if task == WHY:
-        return explained(why.why(text, argument, None if words == LARGEST else words))
     return listed(listing.listing(text)) if task == LIST else NOTHING
 
 
@@ -80,7 +65,6 @@ class Written(NamedTuple):
     task: int
     room: int
     words: int
-    lent: int
     argument: int
     text: bytes
     record: bytes
@@ -97,10 +81,7 @@ def written():
                 text, second = bytes.fromhex(text), bytes.fromhex(second)
                 asked = record(task, text, room, second, words=words, records=lent, argument=argument)
                 label = "%s:%d (%s)" % (os.path.basename(path), at, name)
-                yield Written(label, task, room, words, lent, argument, text, asked, line(*map(int, fields.split(" "))) + bytes.fromhex(found))
-
-
-SHORTEST = re.compile(rb"0|-?[1-9][0-9]*")  # a decimal; only of a shape, by task 7, is something negative told
+                yield Written(label, task, room, words, argument, text, asked, line(*map(int, fields.split(" "))) + bytes.fromhex(found))
 
 
 def parted(said, fields):
@@ -109,10 +90,10 @@ def parted(said, fields):
     while True:
         end = said.find(b"\n", at)
         given = said[at:end].split(b"\t")
-        if end < 0 or len(given) not in fields or not all(SHORTEST.fullmatch(f) for f in given):
+        if end < 0 or len(given) not in fields or not all(f.isdigit() and (f == b"0" or f[:1] != b"0") for f in given):
             return out, said[at:]
         after = end + 1 + int(given[2])
-        if not end < after <= len(said):
+        if after > len(said):
             return out, said[at:]
         out.append(([int(f) for f in given], said[end + 1:after]))
         at = after

@@ -3,8 +3,7 @@
 
 No answer is taken from the program. Those of the rows of tests/*.tsv and of the records of tests/requests/*.tsv stand there; the places of refusal 2 in document 01's texts and in texts that
 are cut short or hold a byte from 128 up stand in tools/each_rule.py; for all others, and for what is listed, the second opinion (second/) is asked.
-Whatever the source of an answer, the account of tools/account.py has to agree with it, with the warnings of a list, and with what is told of a symbol or of a
-shape. Each flat file is flattened again, in a room that just holds it.
+Whatever the source of an answer, the account of tools/account.py has to agree with it, with the warnings of a list, and with what is told of a symbol. Each flat file is flattened again, in a room that just holds it.
 """
 import os
 import sys
@@ -16,8 +15,6 @@ import each_rule  # noqa: E402
 import listing  # noqa: E402
 import reader  # noqa: E402
 import records  # noqa: E402
-import summary  # noqa: E402
-import why  # noqa: E402
 
 STDIN, STDOUT = "crates/batch/stdin", "crates/batch/stdout"
 ROWS = ["tests/base.tsv", "tests/digits.tsv", "tests/document.tsv", "tests/drawing.tsv", "tests/positions.tsv", "tests/scaling.tsv"]
@@ -73,26 +70,18 @@ def listed(asked):
         yield records.record(records.LIST, text), records.listed(lines)
 
 
-def in_list(text, count):
-    """Letter and numbers of the shape with a count in the flat list, where there is one; nothing is asked of rows that take it long."""
-    shapes = [] if len(text) > 4_000 else list(listing.shapes_of(reader.draw(text).flat))
-    return shapes[count - 1][1:] if 1 <= count <= len(shapes) else None
-
-
 def requests():
     """The records of tests/requests, on which the second opinion has to agree."""
     for one in records.written():
-        if one.told != records.told(one.task, one.text, one.room, one.words, one.lent, one.argument):
+        if one.told != records.told(one.task, one.text, one.room, one.words, one.argument):
             sys.exit(f"no agreement on {one.label}: {one.told!r} is written")
-        if one.task in (records.FLATTEN, records.STACKED):
-            answer = records.answer(one.task, one.text, one.room, one.words, one.lent)
-            account.agree(one.text, account.place(one.text), answer, None if one.words == records.LARGEST else one.words, one.lent if one.task == records.STACKED else None)
+        if one.task == records.FLATTEN:
+            answer = reader.flatten(one.text, one.room, None if one.words == records.LARGEST else one.words)
+            account.agree(one.text, account.place(one.text), answer, None if one.words == records.LARGEST else one.words)
         if one.task == records.LIST:
             account.agree_list(one.text, one.told.split(b"\n", 1)[1])
         if one.task == records.SUMMARISE:
             account.agree_symbol(one.text, account.place(one.text), one.argument, one.told)
-        if one.task == records.WHY:
-            account.agree_why(one.text, account.place(one.text), one.argument, one.told, None if one.words == records.LARGEST else one.words, in_list(one.text, one.argument))
         yield one.record, one.told
 
 
@@ -119,8 +108,6 @@ def words_lent():
         for second in (b"", b"E", b"LA;R1 0 0;E"):
             yield records.record(records.FLATTEN, body, 2, second, words=words), told
             yield records.record(records.LIST, body, 2, second, words=words), records.listed(listing.listing(body))
-            none = why.refused(body, 26, 0) if told == end else why.refused(body, 25, 0)
-            yield records.record(records.WHY, body, 0, second, words=words, argument=1), records.explained(none)
 
 
 def ignored_numbers():
@@ -130,17 +117,6 @@ def ignored_numbers():
         for others in (dict(records=0), dict(argument=1), dict(argument=records.LARGEST), dict(second=b"E"), dict(second=b"\n" * 5_000)):
             yield records.record(records.FLATTEN, b"LA;R1 0 0;E", 64, words=words, **others), records.flattened(answer)
             yield records.record(records.LIST, b" E", words=words, **others), records.listed(listing.listing(b" E"))
-            yield records.record(records.STACKED, b"LA;R1 0 0;E", 64, words=words, **others), records.flattened(answer)
-        for room in (0, 1, records.LONGEST):
-            for others in (dict(records=0), dict(second=b"E"), dict(second=b"X" * 100)):
-                yield records.record(records.WHY, b"LA;R1 0 0;E", room, words=words, argument=1, **others), records.explained(why.why(b"LA;R1 0 0;E", 1))
-    # only the engine that keeps its open calls in records looks at them, so that a call draws for the others where none is lent
-    drawn = b"DS1;LA;R1 0 0;DF;C1;E"
-    for count in (0, 1, records.MOST_OPEN):
-        yield records.record(records.FLATTEN, drawn, 64, records=count), records.flattened(reader.flatten(drawn, 64))
-        yield records.record(records.LIST, drawn, records=count), records.listed(listing.listing(drawn))
-        yield records.record(records.SUMMARISE, drawn, records=count, argument=1), records.summarised(summary.summarise(drawn, 1))
-        yield records.record(records.WHY, drawn, records=count, argument=1), records.explained(why.why(drawn, 1))
 
 
 def cases():

@@ -73,7 +73,7 @@ def vectors(file):
         fields = line.rstrip("\n").split("\t")
         if line.startswith("#"):
             continue
-        if os.path.basename(os.path.dirname(SOURCE)) != "requests":
+        if os.path.basename(os.path.dirname(SOURCE)) not in ("requests", "coming"):
             yield fields
         elif fields[1] == "0":
             yield flattened(fields)

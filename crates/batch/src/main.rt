@@ -5,11 +5,10 @@
 //   too long         a number of a record is over its limit
 #![tactic(auto)]
 
-ghost use Rattle.std.specs.Prelude.{◌≤◌, ◌<◌, ◌≡◌, IfOk, length, vec_len};
+ghost use Rattle.std.specs.Prelude.{◌≤◌, ◌<◌, ◌≡◌, length};
 ghost use Rattle.printout.specs.Prints.{listing_length};
 
 use definition::{Answer, Summary};
-use std::alloc::{AllocError, Global};
 use std::io;
 use std::io::{Read, Write};
 use streams::Failure;
@@ -25,16 +24,17 @@ const SUMMARISE: usize = 3;
 // A packed name has 32 bits: all are below this.
 const NAMES: usize = 4294967296;
 
-fn bytes(alloc: Global) -> Result<Vec<u8>, AllocError>
-    ensures { IfOk result (λ v. 1048576 ≡ vec_len v) }
+// The contracts of these two spare callers the zeros.
+fn bytes() -> [u8; MOST]
+    ensures { 1048576 ≡ length result }
 {
-    vec![in alloc; 0; MOST]
+    [0; MOST]
 }
 
-fn body_words(alloc: Global) -> Result<Vec<i32>, AllocError>
-    ensures { IfOk result (λ v. 1048576 ≡ vec_len v) }
+fn body_words() -> [i32; MOST]
+    ensures { 1048576 ≡ length result }
 {
-    vec![in alloc; 0; MOST]
+    [0; MOST]
 }
 
 // A field of a line that is followed by others.
@@ -420,11 +420,10 @@ fn answer_all<R: Read, W: Write>(
 }
 
 fn main(rt: HostRuntime) -> anyhow::Result<()> {
-    let alloc = rt.alloc();
-    let mut text = bytes(alloc)?;
-    let mut second = bytes(alloc)?;
-    let mut words = body_words(alloc)?;
-    let mut room = bytes(alloc)?;
+    let mut text = bytes();
+    let mut second = bytes();
+    let mut words = body_words();
+    let mut room = bytes();
     answer_all(
         &mut rt.reader(),
         &mut io::writer(&rt),

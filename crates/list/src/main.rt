@@ -2,44 +2,40 @@
 // fails nothing is printed of the text.
 #![tactic(auto)]
 
-ghost use Rattle.std.specs.Prelude.{◌≡◌, IfOk, vec_len};
+ghost use Rattle.std.specs.Prelude.{◌≡◌, length};
 ghost use Rattle.printout.specs.Prints.{listing_length};
 
-use std::alloc::{AllocError, Global};
 use std::io;
 use std::io::{Read, Write};
+use streams::Failure;
 
-// One byte more than is taken, to see whether the text goes on.
-fn text_room(alloc: Global) -> Result<Vec<u8>, AllocError>
-    ensures { IfOk result (λ v. 32769 ≡ vec_len v) }
+// One byte more than is taken, to see whether the text goes on. The contracts of these two spare callers the zeros.
+fn text_room() -> [u8; printout::MOST + 1]
+    ensures { 32769 ≡ length result }
 {
-    vec![in alloc; 0; printout::MOST + 1]
+    [0; printout::MOST + 1]
 }
 
-fn listing_room(alloc: Global) -> Result<Vec<u8>, AllocError>
-    ensures { IfOk result (λ v. listing_length ≡ vec_len v) }
+fn listing_room() -> [u8; printout::LONGEST_LISTING]
+    ensures { listing_length ≡ length result }
 {
-    vec![in alloc; 0; printout::LONGEST_LISTING]
+    [0; printout::LONGEST_LISTING]
 }
 
-fn list<W: Write>(alloc: Global, output: &mut W, text: &[u8]) -> anyhow::Result<()> {
-    let mut out = listing_room(alloc)?;
+fn list<W: Write>(output: &mut W, text: &[u8]) -> Result<(), Failure> {
+    let mut out = listing_room();
     let length = printout::print_text(text, &mut out);
-    streams::write(output, &out[..length])?;
-    Ok(())
+    streams::write(output, &out[..length])
 }
 
 // Lists the text that is read.
-fn list_read<R: Read, W: Write>(
-    alloc: Global,
-    input: &mut R,
-    output: &mut W,
-) -> anyhow::Result<()> {
-    let mut text = text_room(alloc)?;
+fn list_read<R: Read, W: Write>(input: &mut R, output: &mut W) -> Result<(), Failure> {
+    let mut text = text_room();
     let n = streams::read(input, &mut text)?;
-    list(alloc, output, &text[..n])
+    list(output, &text[..n])
 }
 
 fn main(rt: HostRuntime) -> anyhow::Result<()> {
-    list_read(rt.alloc(), &mut rt.reader(), &mut io::writer(&rt))
+    list_read(&mut rt.reader(), &mut io::writer(&rt))?;
+    Ok(())
 }

@@ -1,0 +1,9 @@
+-- `listing_room` meets its contract, by a law: counting so many zeros is more than the prover's stack holds. With its level and type written, the law's
+-- statement is compared with the goal as it stands and not computed.
+use mathlib.Core.Path.{sym}
+use Prim.Native.Nat.{ℕ}
+use lib.ListN.{length-replicate}
+use Rattle.list.proofs.listing_room.Goals as goal
+
+pub returns : goal.returns
+returns c = sym (length-replicate {0} {A = ℕ} 623616 0)
