@@ -3,7 +3,7 @@
 
 Links tools/speed/stack.c with the archive and prints for each text its answer, its calls and the bytes of stack that were touched
 below the caller's frame, by the engine that calls itself and by the one that keeps the open calls in records (request 7). Without FILE it makes texts of 0 to
-33 levels of calls; then the second engine has to take the same for each number of levels from 1 on, and no more than for none, or the exit status is 1.
+33 levels of calls; then the second engine has to take the same for each number of levels that it draws, from 1 on, and no more than that for 33, which it refuses, nor than for none, or the exit status is 1.
 """
 import os
 import shutil
@@ -39,10 +39,11 @@ def main():
                 number, place, calls, stack = subprocess.run([*command, path, engine], capture_output=True, text=True, check=True).stdout.split()
                 so_far.append(int(stack))
                 print(f"{os.path.basename(path):24} {engine:>8} {number + ' ' + place:>12} {calls:>8} {stack:>8}")
-        none, *some = taken["records"]
-        if not sys.argv[1:] and (len(set(some)) > 1 or some[0] > none):
-            print("the engine with records takes more stack for some levels than for others")
-            sys.exit(1)
+        if not sys.argv[1:]:
+            none, *some, refused = taken["records"]
+            if len(set(some)) > 1 or not refused <= some[0] <= none:
+                print("the engine with records takes more stack for some levels than for others")
+                sys.exit(1)
     finally:
         shutil.rmtree(work)
 
