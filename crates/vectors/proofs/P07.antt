@@ -1,4 +1,4 @@
--- The vectors of tests/requests/p07.tsv that lend records, made into rows by tools/vectors.py: answers that were worked out apart from the definitions.
+-- The vectors of tests/coming/p07.tsv that lend records, made into rows by tools/vectors.py: answers that were worked out apart from the definitions.
 -- A trailing comment is the vector's name. They stand in batches, so that a row that does not compute is found.
 -- Assumes nothing.
 use mathlib.Core.List.{List, [], ◌∷◌}

@@ -1,4 +1,4 @@
--- The vectors of tests/requests/p11.tsv that ask why a shape is there, made into rows by tools/vectors.py: answers that were worked out apart from the definitions.
+-- The vectors of tests/coming/p11.tsv that ask why a shape is there, made into rows by tools/vectors.py: answers that were worked out apart from the definitions.
 -- A trailing comment is the vector's name. They stand in batches, so that a row that does not compute is found.
 -- Assumes nothing.
 use mathlib.Core.List.{List, [], ◌∷◌}
