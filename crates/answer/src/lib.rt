@@ -80,7 +80,7 @@ pub fn refused(text: &[u8], refusal: Refusal, run: &[usize], counted: Counts) ->
     let opened = chain::opened(run);
     let chain = chain::places(run);
     Answer {
-        number: refusal.number,
+        number: definition::number_of(refusal.rule),
         place: refusal.place,
         length: 0,
         shapes: none.shapes,

@@ -9,8 +9,6 @@ use lib.ListN.{length}
 use Rattle.definition.specs.Drawing.{Event}
 use Rattle.pieces.specs.declared.Spot.{Spot}
 use Rattle.rules.specs.Written.{Written}
-use Rattle.commands.specs.declared.Read.{Read}
-use Rattle.commands.specs.declared.Read.TheVariants.{Nothing}
 use Rattle.commands.specs.Words.{DecodedOne, ReadsCommand}
 use Rattle.moves.specs.Moves.{most_values}
 use Rattle.shapes.specs.declared.Ink.{Ink}
@@ -22,14 +20,16 @@ use Rattle.keeping.specs.declared.Stock.{Stock}
 use Rattle.passing.proofs.Reading.{run_kept, read_none}
 use Rattle.passing.proofs.Stands.{deletable}
 use Rattle.between.specs.declared.Stand.{Stand}
-use Rattle.between.specs.declared.Text.{Text}
-use Rattle.between.specs.declared.Text.TheVariants.{Over, Calls, Stops}
-use Rattle.between.specs.declared.Outer.{Outer}
-use Rattle.between.specs.declared.Outer.TheVariants.{Shown, Opens}
 use Rattle.opening.specs.declared.Call.{Call}
 use Rattle.definition.specs.declared.Refusal.{Refusal}
 use Rattle.between.specs.Texts.{Origin, Paused, Pausing, TextBy, TextComes, OuterGrows, TextGrows}
 use Rattle.between.proofs.Onward.{stand_at, text_out}
+use Rattle.std.specs.Prelude.{Err, None, Ok, Option, Result}
+use Rattle.commands.specs.declared.Decoded.{Decoded}
+use Rattle.between.specs.declared.Text.{Text}
+use Rattle.between.specs.declared.Outer.{Outer}
+use Rattle.between.specs.declared.Text.TheVariants.{Over, Calls}
+use Rattle.between.specs.declared.Outer.TheVariants.{Shown, Opens}
 
 pub record Along (t : List ℕ) (n : ℕ) (rows₀ : List ℕ) (b₀ words₀ : List ℤ) (room₀ : List ℕ) (stand₀ : Stand) (ink₀ : Ink)
     (rows : List ℕ) (b words : List ℤ) (room : List ℕ) (spot : Spot) (l : ℕ) (stock : Stock) (ink : Ink) : Type 0 where
@@ -39,7 +39,7 @@ pub record Along (t : List ℕ) (n : ℕ) (rows₀ : List ℕ) (b₀ words₀ : 
   pub grown : ink₀.counts.calls ≤ ink.counts.calls
 
 -- a refusal counts nothing
-pub stops-grows : (ink : Ink) (why : Refusal) → TextGrows ink (Stops why)
+pub stops-grows : (ink : Ink) (why : Refusal) → TextGrows ink (Err why)
 unfolding TextGrows
 stops-grows ink why = tt
 
@@ -73,7 +73,7 @@ module _ {t : List ℕ} {n : ℕ} {rows₀ : List ℕ} {b₀ words₀ : List ℤ
   big_now h = omega (arith, h, u.words_kept)
 
   -- what comes of every drawing that stands here comes of those that stood at the start
-  pub comes_so : {r : Text} {rows' : List ℕ} {b' : List ℤ} {room' : List ℕ}
+  pub comes_so : {r : Result Text Refusal} {rows' : List ℕ} {b' : List ℤ} {room' : List ℕ}
       → ((w : ℕ) (all : List Event) (r₀ : Origin) → Paused t w n all r₀ rows b (stand_at spot l stock) ink room → TextBy t w n all r₀ r rows' b' room')
       → TextComes t n rows₀ b₀ stand₀ ink₀ room₀ r rows' b' room'
   comes_so f w all r₀ p = f w all r₀ (u.along w all r₀ p)
@@ -84,22 +84,22 @@ module _ {t : List ℕ} {n : ℕ} {rows₀ : List ℕ} {b₀ words₀ : List ℤ
   goes-along e k f = record { some = u.some; along = λ w all r₀ p. f w all r₀ (u.along w all r₀ p); words_kept = e ∙ u.words_kept; grown = omega (arith, k, u.grown) }
 
   -- nothing is left
-  pub all_read : (r : Read) (words' : List ℤ) → ReadsCommand t spot 1 1 words r words' → r ≡ Nothing → TextComes t n rows₀ b₀ stand₀ ink₀ room₀ (Over ink) rows b room
+  pub all_read : (r : Option Decoded) (words' : List ℤ) → ReadsCommand t spot 1 1 words r words' → r ≡ None → TextComes t n rows₀ b₀ stand₀ ink₀ room₀ (Ok (Over ink)) rows b room
   all_read r words' x e = comes_so (λ w all r₀ p. text_out p (read_none t spot 1 1 words r words' x e))
 
   pub long_now : {account : Written} {kind place e : ℕ} {to : Spot} {words' : List ℤ} → most_values + 2 ≤ length words₀ → DecodedOne t spot 1 1 account words kind place e to words'
       → most_values + 2 ≤ length words'
   long_now h r = let k = run_kept r in omega (arith, h, k, u.words_kept)
 
-  pub over-grows : TextGrows ink₀ (Over ink)
+  pub over-grows : TextGrows ink₀ (Ok (Over ink))
   unfolding TextGrows
   over-grows = u.grown
 
-  module _ {o : Outer} (k : OuterGrows ink o) where
-    pub grows_shown : {ink' : Ink} → o ≡ Shown ink' → ink.counts.calls ≤ ink'.counts.calls
+  module _ {o : Result Outer Refusal} (k : OuterGrows ink o) where
+    pub grows_shown : {ink' : Ink} → o ≡ Ok (Shown ink') → ink.counts.calls ≤ ink'.counts.calls
     unfolding OuterGrows
     grows_shown q = subst (OuterGrows ink) q k
 
-    pub grows-calls : (stand : Stand) {call : Call} {row : ℕ} {ink' : Ink} → o ≡ Opens call row ink' → TextGrows ink₀ (Calls stand call row ink')
+    pub grows-calls : (stand : Stand) {call : Call} {row : ℕ} {ink' : Ink} → o ≡ Ok (Opens call row ink') → TextGrows ink₀ (Ok (Calls stand call row ink'))
     unfolding OuterGrows TextGrows
     grows-calls stand {call} {row} {ink'} q = let h : ink.counts.calls < ink'.counts.calls = subst (OuterGrows ink) q k in omega (arith, h, u.grown)

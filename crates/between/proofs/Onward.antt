@@ -16,7 +16,7 @@ use mir.Val.{Fits, SFits, to_z, of_z}
 use mir.Facts.{to_z-of_z}
 use Rattle.definition.specs.Limits.{most_definitions}
 use Rattle.definition.specs.Words.{Placed, at}
-use Rattle.definition.specs.Rules.{too_many_definitions, too_few_words, refuse}
+use Rattle.definition.specs.Rules.{TooManyDefinitions, TooFewWords, refuse}
 use Rattle.definition.specs.Commands.{Number, Command, layer, delete}
 use Rattle.definition.specs.Standing.{Standing, outside, after}
 use Rattle.definition.specs.Table.{Step, Definition, Table, enter}
@@ -39,8 +39,6 @@ use Rattle.counts.specs.declared.Counts.{Counts}
 use Rattle.counts.specs.Counting.{tally}
 use Rattle.moves.specs.Moves.{most_values}
 use Rattle.shapes.specs.declared.Ink.{Ink}
-use Rattle.shapes.specs.declared.Drawn.{Drawn}
-use Rattle.shapes.specs.declared.Drawn.TheVariants as drawn
 use Rattle.shapes.specs.Painting.{inked, Reached, Goes, Answered, Painted}
 use Rattle.shapes.proofs.Painting.{PaintedSoFar, so_far, goes_on, skips, stops, over, quiet, refusal}
 use Rattle.shapes.proofs.Alike.{alike_painted}
@@ -48,8 +46,6 @@ use Rattle.library.proofs.Holding.{held-table}
 use Rattle.keeping.specs.Keeping.{most_words, Begins, Takes, Defines, DefinesAt}
 use Rattle.keeping.specs.declared.Start.{Start}
 use Rattle.keeping.specs.declared.Stock.{Stock}
-use Rattle.keeping.specs.declared.Defined.{Defined}
-use Rattle.keeping.specs.declared.Defined.TheVariants.{Taken, Overfull, Short}
 use Rattle.engine.specs.Outer.{Says}
 use Rattle.engine.proofs.Heads.{natural_fits}
 use Rattle.passing.specs.Passed.{outputs, start_in, Deletes}
@@ -59,12 +55,16 @@ use Rattle.passing.proofs.Stands.{Stands, to_do, met, deeds_are, past_layer, lay
 use Rattle.passing.proofs.Outer.{is_output, is_idle}
 use Rattle.opening.specs.declared.Call.{Call}
 use Rattle.between.specs.declared.Stand.{Stand}
-use Rattle.between.specs.declared.Text.{Text}
-use Rattle.between.specs.declared.Text.TheVariants.{Over, Calls, Stops}
-use Rattle.between.specs.declared.Outer.{Outer}
-use Rattle.between.specs.declared.Outer.TheVariants.{Shown, Opens, Refused}
 use Rattle.between.specs.Texts.{held_story, held_deed, Origin, Paused, shown_by, OuterOpens, OuterCase, OuterBy, OuterComes, CallsOut, TextCase, TextBy}
 use Rattle.between.proofs.Redefined.{alike_stacked, shown_same}
+use Rattle.std.specs.Prelude.{Err, Ok, Result}
+use Rattle.keeping.specs.declared.Taken.{Taken}
+use Rattle.definition.specs.declared.Rule.{Rule}
+use Rattle.between.specs.declared.Text.{Text}
+use Rattle.between.specs.declared.Outer.{Outer}
+use Rattle.definition.specs.declared.Rule.TheVariants.{TooManyDefinitions, TooFewWords}
+use Rattle.between.specs.declared.Text.TheVariants.{Over, Calls}
+use Rattle.between.specs.declared.Outer.TheVariants.{Shown, Opens}
 
 abbrev pub stand_at : Spot → ℕ → Stock → Stand
 stand_at spot l stock = record { spot = spot; layer = l; stock = stock }
@@ -89,16 +89,16 @@ module _ (n w : ℕ) (t : Table) where
         let e : map (held_to w) (happens t (define d)) ≡ entered d t ∷ [] = held-define w t d ∙ rw (le-ltb most_definitions (length (enter d t)) h, le-ltb w (words_in (enter d t)) g) in
         ap (map (stacked_to n)) e
 
-    overfull_is : most_definitions < length (enter d t) → held_deed n w t (define d) ≡ refused (refuse too_many_definitions d.place) [] ∷ []
+    overfull_is : most_definitions < length (enter d t) → held_deed n w t (define d) ≡ refused (refuse TooManyDefinitions d.place) [] ∷ []
     unfolding stacked_to
     overfull_is h =
-        let e : map (held_to w) (happens t (define d)) ≡ refused (refuse too_many_definitions d.place) [] ∷ [] = held-define w t d ∙ rw (lt-ltb most_definitions (length (enter d t)) h) in
+        let e : map (held_to w) (happens t (define d)) ≡ refused (refuse TooManyDefinitions d.place) [] ∷ [] = held-define w t d ∙ rw (lt-ltb most_definitions (length (enter d t)) h) in
         ap (map (stacked_to n)) e
 
-    short_is : length (enter d t) ≤ most_definitions → w < words_in (enter d t) → held_deed n w t (define d) ≡ refused (refuse too_few_words d.place) [] ∷ []
+    short_is : length (enter d t) ≤ most_definitions → w < words_in (enter d t) → held_deed n w t (define d) ≡ refused (refuse TooFewWords d.place) [] ∷ []
     unfolding stacked_to
     short_is h g =
-        let e : map (held_to w) (happens t (define d)) ≡ refused (refuse too_few_words d.place) [] ∷ [] =
+        let e : map (held_to w) (happens t (define d)) ≡ refused (refuse TooFewWords d.place) [] ∷ [] =
         held-define w t d ∙ rw (le-ltb most_definitions (length (enter d t)) h, lt-ltb w (words_in (enter d t)) g) in
         ap (map (stacked_to n)) e
 
@@ -117,7 +117,7 @@ module _ {t : List ℕ} {w n : ℕ} {all : List Event} {from : Origin} {rows : L
   After u ds ink' room' = PaintedSoFar all from.ink from.room (held_story n w u ds) ink' room'
 
   -- no command is left
-  pub text_out : written (stream t stand.spot) ≡ [] → TextBy t w n all from (Over ink) rows b room
+  pub text_out : written (stream t stand.spot) ≡ [] → TextBy t w n all from (Ok (Over ink)) rows b room
   unfolding deeds story TextCase
   text_out e = record { comes = over g.going (ap (λ (ds : List (Placed Command)). held_story n w table (deeds σ ds)) (none_met t stand.spot g.stands.told e)) }
 
@@ -130,7 +130,7 @@ module _ {t : List ℕ} {w n : ℕ} {all : List Event} {from : Origin} {rows : L
     left_is = ap (held_story n w table) e ∙ held_more n w table d ds
 
     -- it does a deed, which happens
-    does : {chain : Chain} {ink' : Ink} {room' : List ℕ} → Painted ink (held_deed n w table d) room chain (drawn.Done ink') room' → After (table_after table d) ds ink' room'
+    does : {chain : Chain} {ink' : Ink} {room' : List ℕ} → Painted ink (held_deed n w table d) room chain (Ok ink') room' → After (table_after table d) ds ink' room'
     does x = goes_on g.going _ _ left_is x
 
     -- what stops it stops all
@@ -141,7 +141,7 @@ module _ {t : List ℕ} {w n : ℕ} {all : List Event} {from : Origin} {rows : L
         went = unfold Answered in g.going.drawn.answer
 
     -- or is refused
-    ends : {chain : Chain} {why : Refusal} {room' : List ℕ} → Painted ink (held_deed n w table d) room chain (drawn.Refused why) room' → Painted from.ink all from.room chain (drawn.Refused why) room'
+    ends : {chain : Chain} {why : Refusal} {room' : List ℕ} → Painted ink (held_deed n w table d) room chain (Err why) room' → Painted from.ink all from.room chain (Err why) room'
     ends x = stops g.going _ _ left_is x
 
   module _ {account : Written} {kind place e : ℕ} {to : Spot} {words words' : List ℤ} (big : most_values + 2 ≤ length words) (r : DecodedOne t stand.spot 1 1 account words kind place e to words') where
@@ -183,7 +183,7 @@ module _ {t : List ℕ} {w n : ℕ} {all : List Event} {from : Origin} {rows : L
           layer_is = g.layer_is;
           going =
               does (remove x) (deeds σ it_met.rest) (delete-left g.stands it_met i.0 i.1)
-              (subst (λ (es : List Event). Painted ink es room [] (drawn.Done ink) room) (sym (removed_is n w table x))
+              (subst (λ (es : List Event). Painted ink es room [] (Ok ink) room) (sym (removed_is n w table x))
               (quiet ink ink.counts (removed x table) room refl refl (so_far g.going)));
           short = g.short;
           fit = r.fit;
@@ -203,17 +203,17 @@ module _ {t : List ℕ} {w n : ℕ} {all : List Event} {from : Origin} {rows : L
       abbrev new : Definition
       new = made g.stands it_met k
 
-      module _ {rows' : List ℕ} {b' : List ℤ} {d : Defined} (defines : DefinesAt t rows b stand.stock to start ink.counts d rows' b') where
+      module _ {rows' : List ℕ} {b' : List ℤ} {d : Result Taken Rule} (defines : DefinesAt t rows b stand.stock to start ink.counts d rows' b') where
         same_size : length b' ≡ w
         same_size = defines.size ∙ g.size
 
-        pub text-ahead : {stock' : Stock} {c' : Counts} {to' : Spot} → d ≡ Taken stock' c' to' → length t - to'.at < length t - stand.spot.at
+        pub text-ahead : {stock' : Stock} {c' : Counts} {to' : Spot} → d ≡ Ok (record { stock = stock'; counts = c'; to = to' }) → length t - to'.at < length t - stand.spot.at
         text-ahead f = let x = takes g.stands it_met k start q defines f in omega (arith, x.ahead, x.fit.within, r.ahead)
 
-        pub text-counts : {stock' : Stock} {c' : Counts} {to' : Spot} → d ≡ Taken stock' c' to' → ink.counts.calls ≤ (inked c' ink.pen).counts.calls
+        pub text-counts : {stock' : Stock} {c' : Counts} {to' : Spot} → d ≡ Ok (record { stock = stock'; counts = c'; to = to' }) → ink.counts.calls ≤ (inked c' ink.pen).counts.calls
         text-counts f = let x = takes g.stands it_met k start q defines f in omega (arith, x.same_calls)
 
-        pub text_defined : {stock' : Stock} {c' : Counts} {to' : Spot} → d ≡ Taken stock' c' to' → Next rows' b' stock' to' stand.layer (inked c' ink.pen) room
+        pub text_defined : {stock' : Stock} {c' : Counts} {to' : Spot} → d ≡ Ok (record { stock = stock'; counts = c'; to = to' }) → Next rows' b' stock' to' stand.layer (inked c' ink.pen) room
         unfolding after table_after shapes_of
         text_defined {stock'} {c'} {to'} f =
             let x = takes g.stands it_met k start q defines f in
@@ -224,7 +224,7 @@ module _ {t : List ℕ} {w n : ℕ} {all : List Event} {from : Origin} {rows : L
               going =
                   subst (λ (ds : List Deed). After (enter new table) ds (inked c' ink.pen) room) x.passes.left
                   (does (define new) (deeds (open_there g.stands it_met k) it_met.rest) (define-left g.stands it_met k)
-                  (subst (λ (es : List Event). Painted ink es room [] (drawn.Done (inked c' ink.pen)) room)
+                  (subst (λ (es : List Event). Painted ink es room [] (Ok (inked c' ink.pen)) room)
                   (sym (defined_is n w table new x.few (let h = x.kept.enough in let z = same_size in omega (arith, z, h))))
                   (quiet ink c' (entered new table) room x.counts_so refl
                   (record { calls_most = omega (arith, s.calls_most, x.same_calls); shapes_most = omega (arith, s.shapes_most, x.same_shapes); place_most = omega (arith, s.place_most, x.same_shapes) }))));
@@ -235,17 +235,17 @@ module _ {t : List ℕ} {w n : ℕ} {all : List Event} {from : Origin} {rows : L
             }
 
         -- refused outside of every call
-        text-refused : (why : Refusal) → held_deed n w table (define new) ≡ refused why [] ∷ [] → Painted from.ink all from.room [] (drawn.Refused why) room
+        text-refused : (why : Refusal) → held_deed n w table (define new) ≡ refused why [] ∷ [] → Painted from.ink all from.room [] (Err why) room
         unfolding counted
         text-refused why is =
             ends (define new) (deeds (open_there g.stands it_met k) it_met.rest) (define-left g.stands it_met k)
-            (subst (λ (es : List Event). Painted ink es room [] (drawn.Refused why) room) (sym is) (refusal ink _ [] room _ [] refl))
+            (subst (λ (es : List Event). Painted ink es room [] (Err why) room) (sym is) (refusal ink _ [] room _ [] refl))
 
-        pub text_overfull : d ≡ Overfull → TextBy t w n all from (Stops (record { number = 10; place = place })) rows' b' room
+        pub text_overfull : d ≡ (Err TooManyDefinitions) → TextBy t w n all from (Err (record { number = 10; place = place })) rows' b' room
         unfolding Defines TextCase
         text_overfull f = record { comes = text-refused _ (overfull_is n w table new (comes g.stands it_met k start q defines f)) }
 
-        pub text_short : d ≡ Short → TextBy t w n all from (Stops (record { number = 25; place = place })) rows' b' room
+        pub text_short : d ≡ (Err TooFewWords) → TextBy t w n all from (Err (record { number = 25; place = place })) rows' b' room
         unfolding Defines TextCase
         text_short f =
             let x = comes g.stands it_met k start q defines f in
@@ -283,15 +283,15 @@ module _ {t : List ℕ} {w n : ℕ} {all : List Event} {from : Origin} {rows : L
         its_events = shown_by n rows b stand.stock.live place shown
 
         -- drawn from the lean table, it is drawn as from the whole
-        shown_painted : {chain : Chain} {y : Drawn} {room' : List ℕ} → Painted ink its_events room chain y room' → Painted ink (map (stacked_to n) (happens table (output (at place shown)))) room chain y room'
+        shown_painted : {chain : Chain} {y : Result Ink Refusal} {room' : List ℕ} → Painted ink its_events room chain y room' → Painted ink (map (stacked_to n) (happens table (output (at place shown)))) room chain y room'
         shown_painted {chain} {y} {room'} x =
             alike_painted (alike_stacked n (alike_output table (at place shown))) ink
             (subst (λ (u : Table). Painted ink (map (stacked_to n) (happens u (output (at place shown)))) room chain y room') (held-table g.stands.kept.holds) x)
 
-        deed_painted : {chain : Chain} {y : Drawn} {room' : List ℕ} → Painted ink its_events room chain y room' → Painted ink (held_deed n w table (output (at place shown))) room chain y room'
+        deed_painted : {chain : Chain} {y : Result Ink Refusal} {room' : List ℕ} → Painted ink its_events room chain y room' → Painted ink (held_deed n w table (output (at place shown))) room chain y room'
         deed_painted {chain} {y} {room'} x = subst (λ (es : List Event). Painted ink es room chain y room') (sym (output_is n w table (at place shown))) (shown_painted x)
 
-        text-goes : {chain : Chain} {ink' : Ink} {room' : List ℕ} → Painted ink its_events room chain (drawn.Done ink') room' → Next rows b stand.stock to stand.layer ink' room'
+        text-goes : {chain : Chain} {ink' : Ink} {room' : List ℕ} → Painted ink its_events room chain (Ok ink') room' → Next rows b stand.stock to stand.layer ink' room'
         unfolding table_after
         text-goes x = record {
           stands = past_other g.stands it_met (is_output g.stands.closed place it_met.rest it_met.voice k no_l no_d no_s).stays;
@@ -303,7 +303,7 @@ module _ {t : List ℕ} {w n : ℕ} {all : List Event} {from : Origin} {rows : L
           redefined = omega (arith, g.redefined, r.ahead, shown_same n table (at place shown) (shown_painted x));
         }
 
-        text-halts : {chain : Chain} {why : Refusal} {room' : List ℕ} → Painted ink its_events room chain (drawn.Refused why) room' → Painted from.ink all from.room chain (drawn.Refused why) room'
+        text-halts : {chain : Chain} {why : Refusal} {room' : List ℕ} → Painted ink its_events room chain (Err why) room' → Painted from.ink all from.room chain (Err why) room'
         text-halts x = ends (output (at place shown)) (deeds σ it_met.rest) deed_shown (deed_painted x)
 
         lean_alike : Alike its_events (held_deed n w table (output (at place shown)))
@@ -315,19 +315,19 @@ module _ {t : List ℕ} {w n : ℕ} {all : List Event} {from : Origin} {rows : L
         text-stops : StopsIn (tally from.ink.counts) all (tally ink.counts) its_events
         text-stops = stops-both (stops_it (output (at place shown)) (deeds σ it_met.rest) deed_shown) (stops_alike lean_alike (tally ink.counts))
 
-        module _ {o : Outer} {room' : List ℕ} (x : OuterComes n rows stand.stock.live words' kind place e stand.layer ink room o room') where
-          outer_by : {y : Outer} → o ≡ y → OuterBy n rows stand.stock.live place shown ink room y room'
-          outer_by q = subst (λ (y : Outer). OuterBy n rows stand.stock.live place shown ink room y room') q (x shown text_says)
+        module _ {o : Result Outer Refusal} {room' : List ℕ} (x : OuterComes n rows stand.stock.live words' kind place e stand.layer ink room o room') where
+          outer_by : {y : Result Outer Refusal} → o ≡ y → OuterBy n rows stand.stock.live place shown ink room y room'
+          outer_by q = subst (λ (y : Result Outer Refusal). OuterBy n rows stand.stock.live place shown ink room y room') q (x shown text_says)
 
-          pub text_shown : {ink' : Ink} → o ≡ Shown ink' → Next rows b stand.stock to stand.layer ink' room'
+          pub text_shown : {ink' : Ink} → o ≡ Ok (Shown ink') → Next rows b stand.stock to stand.layer ink' room'
           unfolding OuterCase
           text_shown q = text-goes ((outer_by q).comes b)
 
-          pub text-stopped : {why : Refusal} → o ≡ Refused why → TextBy t w n all from (Stops why) rows b room'
+          pub text-stopped : {why : Refusal} → o ≡ Err why → TextBy t w n all from (Err why) rows b room'
           unfolding OuterCase TextCase
           text-stopped q = record { comes = text-halts ((outer_by q).comes b) }
 
-          pub text-calls : {call : Call} {row : ℕ} {ink' : Ink} → o ≡ Opens call row ink' → TextBy t w n all from (Calls (stand_at to stand.layer stand.stock) call row ink') rows b room'
+          pub text-calls : {call : Call} {row : ℕ} {ink' : Ink} → o ≡ Ok (Opens call row ink') → TextBy t w n all from (Ok (Calls (stand_at to stand.layer stand.stock) call row ink')) rows b room'
           unfolding OuterCase TextCase
           text-calls {call} {row} {ink'} q =
               let y : OuterOpens n rows stand.stock.live place shown ink room call row ink' room' = (outer_by q).comes in

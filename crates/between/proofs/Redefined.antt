@@ -9,7 +9,7 @@ use native.Mathlib.Omega.{arith}
 use lib.Dec.{leb}
 use lib.ListN.{length}
 use Rattle.definition.specs.Words.{Placed}
-use Rattle.definition.specs.Rules.{too_few_records, refuse}
+use Rattle.definition.specs.Rules.{TooFewRecords, refuse}
 use Rattle.definition.specs.Table.{Step, Definition, Table}
 use Rattle.definition.specs.Drawing.{Chain, Event, called, drew, entered, removed, refused, output, happens}
 use Rattle.definition.specs.Records.{stacked_to}
@@ -19,8 +19,8 @@ use Rattle.laws.proofs.Story.Outputs.{Outputs, output-events}
 use Rattle.laws.proofs.Story.Lean.{Alike, no_more, same, same-call}
 use Rattle.counts.specs.Counting.{tally}
 use Rattle.shapes.specs.declared.Ink.{Ink}
-use Rattle.shapes.specs.declared.Drawn.TheVariants.{Done}
 use Rattle.shapes.specs.Painting.{Goes, Answered, Painted}
+use Rattle.std.specs.Prelude.{Ok}
 
 module _ (n : ℕ) where
   -- what is alike but for the definitions that calls name is refused alike
@@ -31,8 +31,8 @@ module _ (n : ℕ) where
   alike_stacked (same-call {a} {b} p chain d f h) = go (leb n (length chain)) (alike_stacked h)
     where
       go : (t : Bool) → Alike (map (stacked_to n) a) (map (stacked_to n) b)
-          → Alike ((if t then refused (refuse too_few_records p) chain else called p chain d) ∷ map (stacked_to n) a) ((if t then refused (refuse too_few_records p) chain else called p chain f) ∷ map (stacked_to n) b)
-      go true k = same (refused (refuse too_few_records p) chain) k
+          → Alike ((if t then refused (refuse TooFewRecords p) chain else called p chain d) ∷ map (stacked_to n) a) ((if t then refused (refuse TooFewRecords p) chain else called p chain f) ∷ map (stacked_to n) b)
+      go true k = same (refused (refuse TooFewRecords p) chain) k
       go false k = same-call p chain d f k
 
   abbrev Enters : Event → Type 0
@@ -48,7 +48,7 @@ module _ (n : ℕ) where
   none_redefined (entered d before ∷ es) h = absurd h.0
   none_redefined (called p chain d ∷ es) h = go (leb n (length chain)) (none_redefined es h.1)
     where
-      go : (t : Bool) → redefinitions_of (map (stacked_to n) es) ≡ [] → redefinitions_of ((if t then refused (refuse too_few_records p) chain else called p chain d) ∷ map (stacked_to n) es) ≡ []
+      go : (t : Bool) → redefinitions_of (map (stacked_to n) es) ≡ [] → redefinitions_of ((if t then refused (refuse TooFewRecords p) chain else called p chain d) ∷ map (stacked_to n) es) ≡ []
       go true k = k
       go false k = k
   none_redefined (drew d ∷ es) h = none_redefined es h.1
@@ -59,7 +59,7 @@ module _ (n : ℕ) where
   enters_none = record { of_call = λ p chain d. tt; of_shape = λ d. tt; of_refusal = λ r p chain h. tt }
 
   -- so a command that is output leaves the count as it is
-  pub shown_same : (t : Table) (s : Placed Step) {ink ink' : Ink} {room room' : List ℕ} {chain : Chain} → Painted ink (map (stacked_to n) (happens t (output s))) room chain (Done ink') room'
+  pub shown_same : (t : Table) (s : Placed Step) {ink ink' : Ink} {room room' : List ℕ} {chain : Chain} → Painted ink (map (stacked_to n) (happens t (output s))) room chain (Ok ink') room'
       → ink'.counts.redefinitions ≡ ink.counts.redefinitions
   unfolding Answered
   shown_same t s {ink} {ink'} x =

@@ -20,16 +20,12 @@ use Rattle.turns.proofs.Nets.{near-more}
 use Rattle.moves.specs.Moves.{ShapedAt}
 use Rattle.counts.specs.declared.Counts.{Counts}
 use Rattle.shapes.specs.declared.Ink.{Ink}
-use Rattle.shapes.specs.declared.Drawn.{Drawn}
-use Rattle.shapes.specs.declared.Drawn.TheVariants as drawn
 use Rattle.shapes.specs.Painting.{inked, Reached, Painted, ShapeDraws}
 use Rattle.shapes.proofs.Painting.{PaintedSoFar, begun, skips}
 use Rattle.library.specs.Memory.{call_letter, table_of}
 use Rattle.chain.specs.Chain.{open_calls}
 use Rattle.chain.proofs.Runs.{none_open}
 use Rattle.opening.specs.declared.Call.{Call}
-use Rattle.opening.specs.declared.Opened.{Opened}
-use Rattle.opening.specs.declared.Opened.TheVariants as opened
 use Rattle.opening.specs.Calls.{CalledAt, ReadsCall}
 use Rattle.engine.specs.Draws.{open_at}
 use Rattle.engine.specs.Outer.{Says, a_shape, a_call}
@@ -40,9 +36,11 @@ use Rattle.stretch.specs.Bodies.{call_story, Led}
 use Rattle.stretch.specs.Bodies.{Opens as OpensCall}
 use Rattle.stretch.proofs.Calls.{call-stopped, call-led, call-counts, call-going}
 use Rattle.stretch.proofs.Counting.{painted-grows}
-use Rattle.between.specs.declared.Outer.{Outer}
-use Rattle.between.specs.declared.Outer.TheVariants.{Shown, Opens, Refused}
 use Rattle.between.specs.Texts.{shown_by, OuterOpens, OuterCase, OuterBy, OuterComes, OuterGrows}
+use Rattle.std.specs.Prelude.{Err, Ok, Result}
+use Rattle.opening.specs.declared.Entered.{Entered}
+use Rattle.between.specs.declared.Outer.{Outer}
+use Rattle.between.specs.declared.Outer.TheVariants.{Shown, Opens}
 
 shape-held : (n : ℕ) (chain : Chain) (net : List (Turn ℤ)) (p : ℕ) (l : List ℕ) (k : Shape ℤ) → stacked_to n (drawn_shape chain net p l k) ≡ drawn_shape chain net p l k
 unfolding stacked_to
@@ -57,7 +55,7 @@ unfolding happens drawn_step
 shown_call n rows b live p m ts = refl
 
 -- a refusal counts nothing
-pub refused-grows : (ink : Ink) (why : Refusal) → OuterGrows ink (Refused why)
+pub refused-grows : (ink : Ink) (why : Refusal) → OuterGrows ink (Err why)
 unfolding OuterGrows
 refused-grows ink why = tt
 
@@ -84,19 +82,19 @@ module _ {words : List ℤ} {kind end : ℕ} where
           ∙ ap₂ {C = List Event} (λ (p m : ℕ). call_story n t 32 [] [] p m h.turns) (sym k.at_place) (sym k.symbol)
           ∙ ap (λ (o : Chain). call_story n t 32 o [] call.place call.symbol h.turns) (sym none)
 
-      module _ {o : Opened} (x : OpensWith n rows live (open_calls drawing 0) 32 call ink.counts o) where
-        pub outer-refused : {why : Refusal} → o ≡ opened.Refused why → OuterComes n rows live words kind place end layer ink room (Refused why) room
+      module _ {o : Result Entered Refusal} (x : OpensWith n rows live (open_calls drawing 0) 32 call ink.counts o) where
+        pub outer-refused : {why : Refusal} → o ≡ Err why → OuterComes n rows live words kind place end layer ink room (Err why) room
         unfolding OuterCase
         outer-refused q s (a_shape h) = absurd (no_shape h e)
         outer-refused {why} q s (a_call z h) = record {
           comes = λ b.
-              subst (λ (o : Chain). Painted ink (shown_by n rows b live place (instance (nat_abs h.symbol) h.turns)) room o (drawn.Refused why) room) none
-              (subst (λ (es : List Event). Painted ink es room chain (drawn.Refused why) room) (sym (is_call h b))
+              subst (λ (o : Chain). Painted ink (shown_by n rows b live place (instance (nat_abs h.symbol) h.turns)) room o (Err why) room) none
+              (subst (λ (es : List Event). Painted ink es room chain (Err why) room) (sym (is_call h b))
               (call-stopped n rows live drawing 32 call ink x q b [] h.turns (reads h).askew room));
         }
 
-        pub outer-opens : Near 0 still → Reached ink → {row : ℕ} {more : Counts} → o ≡ opened.Descends row more
-            → OuterComes n rows live words kind place end layer ink room (Opens call row (inked more ink.pen)) room
+        pub outer-opens : Near 0 still → Reached ink → {row : ℕ} {more : Counts} → o ≡ Ok (record { row = row; counts = more })
+            → OuterComes n rows live words kind place end layer ink room (Ok (Opens call row (inked more ink.pen))) room
         unfolding OuterCase
         outer-opens near reach q s (a_shape h) = absurd (no_shape h e)
         outer-opens near reach {row} {more} q s (a_call z h) =
@@ -118,26 +116,26 @@ module _ {words : List ℤ} {kind end : ℕ} where
               };
             }
 
-        pub opens-grows : {row : ℕ} {more : Counts} → o ≡ opened.Descends row more → OuterGrows ink (Opens call row (inked more ink.pen))
+        pub opens-grows : {row : ℕ} {more : Counts} → o ≡ Ok (record { row = row; counts = more }) → OuterGrows ink (Ok (Opens call row (inked more ink.pen)))
         unfolding OuterGrows
         opens-grows q = let k = call-counts n rows live drawing 32 call ink x q in omega (arith, k)
 
-    module _ (e : kind ≡ call_letter → ⊥) {d : Drawn} {room' : List ℕ} (x : ShapeDraws words kind end still layer place ink room d room') where
-      shape-painted : {y : Drawn} → d ≡ y → (h : ShapedAt words kind end) (b : List ℤ) → Painted ink (shown_by n rows b live place (shape (name_of layer) h.shape)) room [] y room'
+    module _ (e : kind ≡ call_letter → ⊥) {d : Result Ink Refusal} {room' : List ℕ} (x : ShapeDraws words kind end still layer place ink room d room') where
+      shape-painted : {y : Result Ink Refusal} → d ≡ y → (h : ShapedAt words kind end) (b : List ℤ) → Painted ink (shown_by n rows b live place (shape (name_of layer) h.shape)) room [] y room'
       shape-painted {y} q h b =
           subst (λ (es : List Event). Painted ink es room [] y room') (sym (shown_shape n rows b live place (name_of layer) h.shape))
-          (subst (λ (y : Drawn). Painted ink (drawn_shape [] [] place (name_of layer) h.shape ∷ []) room [] y room') q (x h [] [] fixed))
+          (subst (λ (y : Result Ink Refusal). Painted ink (drawn_shape [] [] place (name_of layer) h.shape ∷ []) room [] y room') q (x h [] [] fixed))
 
-      pub outer_shown : {ink' : Ink} → d ≡ drawn.Done ink' → OuterComes n rows live words kind place end layer ink room (Shown ink') room'
+      pub outer_shown : {ink' : Ink} → d ≡ Ok ink' → OuterComes n rows live words kind place end layer ink room (Ok (Shown ink')) room'
       unfolding OuterCase
       outer_shown q s (a_shape h) = record { comes = λ b. shape-painted q h b }
       outer_shown q s (a_call z h) = absurd (e z)
 
-      pub outer-stopped : {why : Refusal} → d ≡ drawn.Refused why → OuterComes n rows live words kind place end layer ink room (Refused why) room'
+      pub outer-stopped : {why : Refusal} → d ≡ Err why → OuterComes n rows live words kind place end layer ink room (Err why) room'
       unfolding OuterCase
       outer-stopped q s (a_shape h) = record { comes = λ b. shape-painted q h b }
       outer-stopped q s (a_call z h) = absurd (e z)
 
-      pub shown_grows : ShapedAt words kind end → {ink' : Ink} → d ≡ drawn.Done ink' → OuterGrows ink (Shown ink')
+      pub shown_grows : ShapedAt words kind end → {ink' : Ink} → d ≡ Ok ink' → OuterGrows ink (Ok (Shown ink'))
       unfolding OuterGrows
       shown_grows h q = painted-grows (shape-painted q h [])

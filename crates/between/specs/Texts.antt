@@ -14,7 +14,6 @@ use Rattle.names.specs.Names.{name_of}
 use Rattle.pieces.specs.Pieces.{Fit}
 use Rattle.counts.specs.Counting.{tally}
 use Rattle.shapes.specs.declared.Ink.{Ink}
-use Rattle.shapes.specs.declared.Drawn.TheVariants as drawn
 use Rattle.shapes.specs.Painting.{Painted}
 use Rattle.shapes.proofs.Painting.{PaintedSoFar}
 use Rattle.library.specs.Memory.{table_of, most_words, row_numbers}
@@ -26,10 +25,11 @@ use Rattle.opening.specs.declared.Call.{Call}
 use Rattle.stretch.specs.Bodies.{Led}
 use Rattle.stretch.specs.Bodies.{Opens as OpensCall}
 use Rattle.between.specs.declared.Stand.{Stand}
+use Rattle.std.specs.Prelude.{Err, Ok, Result}
 use Rattle.between.specs.declared.Text.{Text}
-use Rattle.between.specs.declared.Text.TheVariants.{Over, Calls, Stops}
 use Rattle.between.specs.declared.Outer.{Outer}
-use Rattle.between.specs.declared.Outer.TheVariants.{Shown, Opens, Refused}
+use Rattle.between.specs.declared.Text.TheVariants.{Over, Calls}
+use Rattle.between.specs.declared.Outer.TheVariants.{Shown, Opens}
 
 -- what deeds come to, held to the words and to the records lent; and one of them
 abbrev pub held_story : (records words : ℕ) → Table → List Deed → List Event
@@ -69,16 +69,16 @@ pub record OuterOpens (n : ℕ) (rows : List ℕ) (live place : ℕ) (s : Step) 
   pub led : Led n live [] 32 call row
   pub opens : (b : List ℤ) → OpensCall n rows b live [] 32 [] (shown_by n rows b live place s) [] ink room call row ink' room'
 
-unfoldable pub OuterCase : (n : ℕ) (rows : List ℕ) (live place : ℕ) (s : Step) → Ink → List ℕ → Outer → List ℕ → Type 0
-OuterCase n rows live place s ink room (Shown ink') room' = (b : List ℤ) → Painted ink (shown_by n rows b live place s) room [] (drawn.Done ink') room'
-OuterCase n rows live place s ink room (Refused why) room' = (b : List ℤ) → Painted ink (shown_by n rows b live place s) room [] (drawn.Refused why) room'
-OuterCase n rows live place s ink room (Opens call row ink') room' = OuterOpens n rows live place s ink room call row ink' room'
+unfoldable pub OuterCase : (n : ℕ) (rows : List ℕ) (live place : ℕ) (s : Step) → Ink → List ℕ → Result Outer Refusal → List ℕ → Type 0
+OuterCase n rows live place s ink room (Ok (Shown ink')) room' = (b : List ℤ) → Painted ink (shown_by n rows b live place s) room [] (Ok ink') room'
+OuterCase n rows live place s ink room (Err why) room' = (b : List ℤ) → Painted ink (shown_by n rows b live place s) room [] (Err why) room'
+OuterCase n rows live place s ink room (Ok (Opens call row ink')) room' = OuterOpens n rows live place s ink room call row ink' room'
 
-pub record OuterBy (n : ℕ) (rows : List ℕ) (live place : ℕ) (s : Step) (ink : Ink) (room : List ℕ) (r : Outer) (room' : List ℕ) : Type 0 where
+pub record OuterBy (n : ℕ) (rows : List ℕ) (live place : ℕ) (s : Step) (ink : Ink) (room : List ℕ) (r : Result Outer Refusal) (room' : List ℕ) : Type 0 where
   pub comes : OuterCase n rows live place s ink room r room'
 
 -- the contract of `draw_outer`, whatever the bodies are
-abbrev pub OuterComes : (n : ℕ) (rows : List ℕ) (live : ℕ) (words : List ℤ) (kind place end layer : ℕ) → Ink → List ℕ → Outer → List ℕ → Type 0
+abbrev pub OuterComes : (n : ℕ) (rows : List ℕ) (live : ℕ) (words : List ℤ) (kind place end layer : ℕ) → Ink → List ℕ → Result Outer Refusal → List ℕ → Type 0
 OuterComes n rows live words kind place end layer ink room r room' = (s : Step) → Says words kind end (name_of layer) s → OuterBy n rows live place s ink room r room'
 
 -- ---- a stretch
@@ -94,30 +94,30 @@ pub record CallsOut (t : List ℕ) (w n : ℕ) (all : List Event) (from : Origin
   pub stocked : Stocked rows b stand.stock.live
   pub short : length b ≤ most_words
   pub sized : length rows ≡ row_numbers
-  pub resumes : {ink' : Ink} {room' : List ℕ} → Painted ink_there events room_there [] (drawn.Done ink') room' → Paused t w n all from rows b stand ink' room'
-  pub halts : {why : Refusal} {chain : Chain} {room' : List ℕ} → Painted ink_there events room_there chain (drawn.Refused why) room' → Painted from.ink all from.room chain (drawn.Refused why) room'
+  pub resumes : {ink' : Ink} {room' : List ℕ} → Painted ink_there events room_there [] (Ok ink') room' → Paused t w n all from rows b stand ink' room'
+  pub halts : {why : Refusal} {chain : Chain} {room' : List ℕ} → Painted ink_there events room_there chain (Err why) room' → Painted from.ink all from.room chain (Err why) room'
   pub stops_in : StopsIn (tally from.ink.counts) all (tally ink_there.counts) events  -- where it stops it, the same shape does
 
-unfoldable pub TextCase : (t : List ℕ) (w n : ℕ) (all : List Event) (from : Origin) → Text → (rows : List ℕ) (b : List ℤ) (room : List ℕ) → Type 0
-TextCase t w n all from (Over ink) rows b room = Painted from.ink all from.room [] (drawn.Done ink) room
-TextCase t w n all from (Stops why) rows b room = Painted from.ink all from.room [] (drawn.Refused why) room
-TextCase t w n all from (Calls stand call row ink) rows b room = CallsOut t w n all from rows b stand call row ink room
+unfoldable pub TextCase : (t : List ℕ) (w n : ℕ) (all : List Event) (from : Origin) → Result Text Refusal → (rows : List ℕ) (b : List ℤ) (room : List ℕ) → Type 0
+TextCase t w n all from (Ok (Over ink)) rows b room = Painted from.ink all from.room [] (Ok ink) room
+TextCase t w n all from (Err why) rows b room = Painted from.ink all from.room [] (Err why) room
+TextCase t w n all from (Ok (Calls stand call row ink)) rows b room = CallsOut t w n all from rows b stand call row ink room
 
-pub record TextBy (t : List ℕ) (w n : ℕ) (all : List Event) (from : Origin) (r : Text) (rows : List ℕ) (b : List ℤ) (room : List ℕ) : Type 0 where
+pub record TextBy (t : List ℕ) (w n : ℕ) (all : List Event) (from : Origin) (r : Result Text Refusal) (rows : List ℕ) (b : List ℤ) (room : List ℕ) : Type 0 where
   pub comes : TextCase t w n all from r rows b room
 
 -- the contract of `draw_text`
-abbrev pub TextComes : (t : List ℕ) (n : ℕ) (rows : List ℕ) (b : List ℤ) (stand : Stand) → Ink → List ℕ → Text → List ℕ → List ℤ → List ℕ → Type 0
+abbrev pub TextComes : (t : List ℕ) (n : ℕ) (rows : List ℕ) (b : List ℤ) (stand : Stand) → Ink → List ℕ → Result Text Refusal → List ℕ → List ℤ → List ℕ → Type 0
 TextComes t n rows b stand ink room r rows' b' room' =
     (w : ℕ) (all : List Event) (from : Origin) → Paused t w n all from rows b stand ink room → TextBy t w n all from r rows' b' room'
 
 -- calls are counted up, and a call that is opened is one of them
-unfoldable pub OuterGrows : Ink → Outer → Type 0
-OuterGrows ink (Shown ink') = ink.counts.calls ≤ ink'.counts.calls
-OuterGrows ink (Opens call row ink') = ink.counts.calls < ink'.counts.calls
-OuterGrows ink (Refused why) = Unit {0}
+unfoldable pub OuterGrows : Ink → Result Outer Refusal → Type 0
+OuterGrows ink (Ok (Shown ink')) = ink.counts.calls ≤ ink'.counts.calls
+OuterGrows ink (Ok (Opens call row ink')) = ink.counts.calls < ink'.counts.calls
+OuterGrows ink (Err why) = Unit {0}
 
-unfoldable pub TextGrows : Ink → Text → Type 0
-TextGrows ink (Over ink') = ink.counts.calls ≤ ink'.counts.calls
-TextGrows ink (Calls stand call row ink') = ink.counts.calls < ink'.counts.calls
-TextGrows ink (Stops why) = Unit {0}
+unfoldable pub TextGrows : Ink → Result Text Refusal → Type 0
+TextGrows ink (Ok (Over ink')) = ink.counts.calls ≤ ink'.counts.calls
+TextGrows ink (Ok (Calls stand call row ink')) = ink.counts.calls < ink'.counts.calls
+TextGrows ink (Err why) = Unit {0}

@@ -3,7 +3,6 @@
 #![tactic(auto)]
 
 ghost use Rattle.std.specs.Prelude.{◌≡◌, List, ℕ, ◌+◌, ◌≤◌, length};
-ghost use Rattle.grammar.specs.Steps.{KindsLent, NextLent};
 ghost use Rattle.definition.specs.Table.{Step};
 ghost use Rattle.names.specs.Names.{name_of};
 ghost use Rattle.moves.specs.Moves.{most_values};
@@ -14,9 +13,10 @@ ghost use Rattle.engine.specs.Outer.{Says};
 ghost use Rattle.passing.specs.Passed.{outputs};
 ghost use Rattle.between.specs.Texts.{OuterComes, OuterGrows, Pausing, TextComes, TextGrows};
 
-use keeping::{Defined, Stock};
-use opening::{Call, Opened};
-use shapes::{Drawn, Ink};
+use definition::Refusal;
+use keeping::Stock;
+use opening::Call;
+use shapes::Ink;
 
 // Where a text goes on, outside of definitions: its next command, the layer that is set there, and what the memory holds.
 #[derive(Clone, Copy)]
@@ -26,23 +26,21 @@ pub struct Stand {
     pub stock: Stock,
 }
 
-// What a stretch of a text comes to: its end; a call that is opened, with where the text goes on after it and the row of its symbol; or a refusal.
+// What a stretch of a text comes to, if it is not refused: its end; or a call that is opened, with where the text goes on after it and the row of its symbol.
 #[derive(Clone, Copy)]
 pub enum Text {
     Over(Ink),
     Calls(Stand, Call, usize, Ink),
-    Stops(definition::Refusal),
 }
 
 // A command has at most 2,049 numbers (RULES 12, refusal 9: 1,024 points, and a width), and two words in front.
 const COMMAND_WORDS: usize = 2051;
 
-// What a command outside of definitions that draws comes to: a shape is drawn, a call is opened, or it is refused.
+// What a command outside of definitions that draws comes to, if it is not refused: a shape is drawn, or a call is opened.
 #[derive(Clone, Copy)]
 enum Outer {
     Shown(Ink),
     Opens(Call, usize, Ink),
-    Refused(definition::Refusal),
 }
 
 fn draw_outer(
@@ -57,7 +55,7 @@ fn draw_outer(
     end: usize,
     layer: u32,
     ink: Ink,
-) -> Outer
+) -> Result<Outer, Refusal>
     requires sorted { Sorted rows.now live × (length drawing.now ≡ run_length) × Reached ink }
     requires says { (s : Step) × Says words.now kind end (name_of layer) s }
     ensures outer_comes { OuterComes records rows.now live words.now kind place end layer ink room.old result room.new }
@@ -66,7 +64,7 @@ fn draw_outer(
     let still = turns::still();
     if kind == b'C' {
         let call = opening::read_call(words, end, still, place);
-        match stretch::open_call(
+        let entered = stretch::open_call(
             rows,
             live,
             drawing,
@@ -74,20 +72,15 @@ fn draw_outer(
             records,
             call,
             ink.counts,
-        ) {
-            Opened::Refused(refusal) => {
-                return Outer::Refused(refusal);
-            }
-            Opened::Descends(row, counts) => {
-                let pen = ink.pen;
-                return Outer::Opens(call, row, Ink { counts, pen });
-            }
-        }
+        )?;
+        let counted = Ink {
+            counts: entered.counts,
+            pen: ink.pen,
+        };
+        return Ok(Outer::Opens(call, entered.row, counted));
     }
-    match stretch::draw_shape(words, room, kind, end, still, layer, place, ink) {
-        Drawn::Done(shown) => Outer::Shown(shown),
-        Drawn::Refused(refusal) => Outer::Refused(refusal),
-    }
+    let shown = stretch::draw_shape(words, room, kind, end, still, layer, place, ink)?;
+    Ok(Outer::Shown(shown))
 }
 
 // Whether a command draws that stands outside of definitions: a call or a shape.
@@ -103,8 +96,7 @@ fn draws(kind: u8) -> bool
 // A text from where it stands: layers, definitions and deletions change what stands, all else is drawn.
 fn draw_commands(
     text: &[u8],
-    kinds: &[u8; 256],
-    next: &[u16; grammar::tables::ENTRY_COUNT],
+    recogniser: &grammar::Recogniser,
     rows: &mut [usize; library::ROW_NUMBERS],
     bodies: &mut [i32],
     words: &mut [i32],
@@ -113,8 +105,7 @@ fn draw_commands(
     records: usize,
     stand: Stand,
     before: Ink,
-) -> Text
-    requires kinds_lent { KindsLent kinds.now × NextLent next.now }
+) -> Result<Text, Refusal>
     requires most_values_in_bounds { (most_values + 2 ≤ length words.old) × (length drawing.now ≡ run_length) }
     requires pausing { Pausing text.now records rows.old bodies.old stand before room.old }
     ensures text_comes { TextComes text.now records rows.old bodies.old stand before room.old result rows.new bodies.new room.new }
@@ -125,11 +116,15 @@ fn draw_commands(
     let mut stock = stand.stock;
     let mut ink = before;
     loop {
-        match commands::read_command(text, kinds, next, words, spot, 1, 1) {
-            commands::Read::Nothing => {
-                return Text::Over(ink);
+        match commands::read_command(text, recogniser, words, spot, 1, 1) {
+            None => {
+                return Ok(Text::Over(ink));
             }
-            commands::Read::Decoded(kind, place, end, to) => {
+            Some(c) => {
+                let kind = c.kind;
+                let place = c.place;
+                let end = c.end;
+                let to = c.to;
                 spot = to;
                 if kind == b'L' {
                     layer = words[2] as u32;
@@ -138,36 +133,26 @@ fn draw_commands(
                     stock = passing::delete(rows, stock, symbol);
                 } else if kind == b'S' {
                     let start = passing::start_in(words, place);
-                    match keeping::define(
-                        text, kinds, next, rows, bodies, stock, start, to, ink.counts,
-                    ) {
-                        Defined::Taken(more, counts, after) => {
-                            spot = after;
-                            stock = more;
-                            let pen = ink.pen;
-                            ink = Ink { counts, pen };
-                        }
-                        Defined::Overfull => {
-                            return Text::Stops(definition::Refusal { number: 10, place });
-                        }
-                        Defined::Short => {
-                            return Text::Stops(definition::Refusal { number: 25, place });
-                        }
-                    }
+                    let taken = keeping::define(
+                        text, recogniser, rows, bodies, stock, start, to, ink.counts,
+                    ).map_err(|rule| Refusal { rule, place })?;
+                    spot = taken.to;
+                    stock = taken.stock;
+                    ink = Ink {
+                        counts: taken.counts,
+                        pen: ink.pen,
+                    };
                 } else if draws(kind) {
                     match draw_outer(
                         rows, stock.live, drawing, words, room, records, kind, place, end, layer,
                         ink,
-                    ) {
+                    )? {
                         Outer::Shown(shown) => {
                             ink = shown;
                         }
                         Outer::Opens(call, row, counted) => {
                             let on = Stand { spot, layer, stock };
-                            return Text::Calls(on, call, row, counted);
-                        }
-                        Outer::Refused(refusal) => {
-                            return Text::Stops(refusal);
+                            return Ok(Text::Calls(on, call, row, counted));
                         }
                     }
                 }
@@ -186,15 +171,23 @@ pub fn draw_text(
     records: usize,
     stand: Stand,
     ink: Ink,
-) -> Text
+) -> Result<Text, Refusal>
     requires { (length drawing.now ≡ run_length) × Pausing text.now records rows.old bodies.old stand ink room.old }
     ensures text_comes { TextComes text.now records rows.old bodies.old stand ink room.old result rows.new bodies.new room.new }
     ensures text_grows { TextGrows ink result }
 {
-    let kinds = grammar::tables::KINDS;
-    let next = grammar::tables::NEXT;
+    let recogniser = grammar::Recogniser::new();
     let mut words = [0i32; COMMAND_WORDS];
     draw_commands(
-        text, &kinds, &next, rows, bodies, &mut words, drawing, room, records, stand, ink,
+        text,
+        &recogniser,
+        rows,
+        bodies,
+        &mut words,
+        drawing,
+        room,
+        records,
+        stand,
+        ink,
     )
 }

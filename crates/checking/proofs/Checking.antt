@@ -25,31 +25,28 @@ use Rattle.checking.specs.Account.{layer_of, refusal, scope, at_start}
 use Rattle.checking.specs.Along.{lower, blamed, kept, fresh, begun, idle, counted, worded, after_doing, finished, onward, runs, Fair, Sane}
 use Rattle.checking.specs.declared.Scope.{Scope}
 use Rattle.checking.specs.declared.Doing.{Doing}
-use Rattle.checking.specs.declared.Ended.{Ended}
-use Rattle.checking.specs.declared.Ended.TheVariants.{Then, Broken}
-use Rattle.checking.specs.declared.Fault.{Fault}
-use Rattle.checking.specs.declared.Fault.TheVariants.{Clear, Refused}
 use Rattle.pieces.proofs.Finds.{Finds, none, some}
 use Rattle.names.proofs.Naming.{name-room}
+use Rattle.std.specs.Prelude.{Err, Ok, Result}
 
 -- the end of a command
 module _ (s : Scope) (c : Doing) (hb : c.busy ≡ true) (y : ℕ) (ey : y ≡ layer_of s) (k : ℕ) (ek : k ≡ whole_refusal c.letter c.word c.count c.turns c.a c.b y) where
   ek' : k ≡ whole_refusal c.letter c.word c.count c.turns c.a c.b (layer_of s)
   ek' = ek ∙ ap (λ (x : ℕ). whole_refusal c.letter c.word c.count c.turns c.a c.b x) ey
 
-  pub finish-whole : k < c.no → Broken (refusal k c.place) ≡ finished s c
+  pub finish-whole : k < c.no → Err (refusal k c.place) ≡ finished s c
   unfolding finished
   finish-whole h = rw (hb, ← ek', lt-ltb k c.no h)
 
-  pub finish-number : c.no ≤ k → c.no < no_refusal → Broken (refusal c.no c.at) ≡ finished s c
+  pub finish-number : c.no ≤ k → c.no < no_refusal → Err (refusal c.no c.at) ≡ finished s c
   unfolding finished
   finish-number h l = rw (hb, ← ek', le-ltb k c.no h, lt-ltb c.no no_refusal l)
 
-  pub finish_then : c.no ≤ k → no_refusal ≤ c.no → (t : Scope) → t ≡ after_doing s c → Then t ≡ finished s c
+  pub finish_then : c.no ≤ k → no_refusal ≤ c.no → (t : Scope) → t ≡ after_doing s c → Ok t ≡ finished s c
   unfolding finished
-  finish_then h l t e = rw (hb, ← ek', le-ltb k c.no h, le-ltb c.no no_refusal l) (ap Then e)
+  finish_then h l t e = rw (hb, ← ek', le-ltb k c.no h, le-ltb c.no no_refusal l) (ap Ok e)
 
-pub finish_none : (s : Scope) (c : Doing) → c.busy ≡ false → Then s ≡ finished s c
+pub finish_none : (s : Scope) (c : Doing) → c.busy ≡ false → Ok s ≡ finished s c
 unfolding finished
 finish_none s c hb = rw hb
 
@@ -67,9 +64,9 @@ unfolding worded
 with_letter_is c w t v et ev = rw (et, ev)
 
 -- what the code needs is kept
-abbrev FairEnd : Ended → Type 0
-FairEnd (Then s) = Fair s
-FairEnd (Broken r) = 0 ≤ 0
+abbrev FairEnd : Result Scope Refusal → Type 0
+FairEnd (Ok s) = Fair s
+FairEnd (Err r) = 0 ≤ 0
 
 fair_after : (s : Scope) (c : Doing) → Fair s → c.a ≤ too_large → scaleless c.letter c.word c.a c.b ≡ false → Fair (after_doing s c)
 unfolding scaleless
@@ -100,7 +97,7 @@ fair_finished s c f ha =
     k : ℕ
     k = choose (scaleless c.letter c.word c.a c.b) 4 (choose (few c.letter c.count) 7 (choose (bare c.letter (layer_of s)) 8 (choose (many c.letter c.count c.turns) 9 no_refusal)))
 
-    go : (x y z : Bool) → ltb k c.no ≡ y → ltb c.no no_refusal ≡ z → FairEnd (choose x (choose y (Broken (refusal k c.place)) (choose z (Broken (refusal c.no c.at)) (Then (after_doing s c)))) (Then s))
+    go : (x y z : Bool) → ltb k c.no ≡ y → ltb c.no no_refusal ≡ z → FairEnd (choose x (choose y (Err (refusal k c.place)) (choose z (Err (refusal c.no c.at)) (Ok (after_doing s c)))) (Ok s))
     go false y z ey ez = f
     go true true z ey ez = omega arith
     go true false true ey ez = omega arith
@@ -155,7 +152,7 @@ sane_up n m c h k = record {
   name = k.name;
 }
 
-abbrev whole_run : List ℕ → Fault
+abbrev whole_run : List ℕ → Result ℕ Refusal
 whole_run t = runs (stream t start) at_start (idle 0)
 
 -- where the checker stands
@@ -205,26 +202,26 @@ module _ {t : List ℕ} {spot : Spot} {s : Scope} {c : Doing} (g : Checking t sp
       is = ap (λ (k : Doing). runs (stream t to) s k) e
 
   -- a piece that ends a command, or the end of the pieces
-  module _ {e : Ended} (ee : e ≡ finished s c) where
-    ends : (f : Scope → Fault) {y : Ended} → e ≡ y → onward f y ≡ onward f (finished s c)
-    ends f eu = sym (ap (λ (y : Ended). onward f y) (sym ee ∙ eu))
+  module _ {e : Result Scope Refusal} (ee : e ≡ finished s c) where
+    ends : (f : Scope → Result ℕ Refusal) {y : Result Scope Refusal} → e ≡ y → onward f y ≡ onward f (finished s c)
+    ends f eu = sym (ap (λ (y : Result Scope Refusal). onward f y) (sym ee ∙ eu))
 
-    pub checking_bad : {to : Spot} {n : ℕ} {r : Refusal} → Finds t spot to n → (n ≡ number lead → ⊥) → n ≤ number head → e ≡ Broken r → Refused r ≡ whole_run t
+    pub checking_bad : {to : Spot} {n : ℕ} {r : Refusal} → Finds t spot to n → (n ≡ number lead → ⊥) → n ≤ number head → e ≡ Err r → Err r ≡ whole_run t
     unfolding runs
-    checking_bad (none z h) l a eu = ends (λ v. Clear c.rounded) eu ∙ over h
+    checking_bad (none z h) l a eu = ends (λ v. Ok c.rounded) eu ∙ over h
     checking_bad {to} (some (First p b) z st) l a eu = ends (λ v. runs (stream t to) v (begun p b c.rounded)) eu ∙ before (First p b) st
     checking_bad (some (Second b) z st) l a eu = absurd (omega arith)
     checking_bad (some (Number p σ n) z st) l a eu = absurd (l z)
     checking_bad (some (Word b) z st) l a eu = absurd (omega arith)
     checking_bad {to} (some Stop z st) l a eu = ends (λ v. runs (stream t to) v (idle c.rounded)) eu ∙ before Stop st
 
-    module _ {u : Scope} (eu : e ≡ Then u) where
+    module _ {u : Scope} (eu : e ≡ Ok u) where
       fair_then : Fair u
       fair_then = subst FairEnd (sym ee ∙ eu) (fair_finished s c g.fair g.sane.a)
 
-      pub checking_clear : stream t spot ≡ [] → Clear c.rounded ≡ whole_run t
+      pub checking_clear : stream t spot ≡ [] → Ok c.rounded ≡ whole_run t
       unfolding runs
-      checking_clear h = ends (λ v. Clear c.rounded) eu ∙ over h
+      checking_clear h = ends (λ v. Ok c.rounded) eu ∙ over h
 
       pub checking_first : {to : Spot} {p l : ℕ} {d : Doing} → Step t spot (First p l) to → d ≡ begun p l c.rounded → Checking t to u d
       unfolding runs

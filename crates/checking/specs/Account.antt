@@ -8,10 +8,9 @@ use Rattle.definition.specs.Limits.{largest}
 use Rattle.pieces.specs.Pieces.{letter_s, letter_f, pieces}
 use Rattle.rules.specs.Letters.{letter_d, letter_l, no_refusal, first_unit}
 use Rattle.rules.specs.Written.{Written, Figure, written, numbers, letters, last_letter, size_at, packed_by, turns_of}
-use Rattle.rules.specs.Rules.{scaled_by, rounded_by, vital, scaleless, few, bare, many}
+use Rattle.rules.specs.Rules.{rule_of, scaled_by, rounded_by, vital, scaleless, few, bare, many}
 use Rattle.checking.specs.declared.Scope.{Scope}
-use Rattle.checking.specs.declared.Fault.{Fault}
-use Rattle.checking.specs.declared.Fault.TheVariants.{Clear, Refused}
+use Rattle.std.specs.Prelude.{Err, Ok, Result}
 
 -- the layer that is set, packed; 0 for none
 abbrev pub layer_of : Scope → ℕ
@@ -26,7 +25,7 @@ abbrev pub blame : ℕ → ℕ → Blame
 blame n p = record { no = n; place = p }
 
 abbrev pub refusal : (number place : ℕ) → Refusal
-refusal n p = record { number = n; place = p }
+refusal n p = record { rule = rule_of n; place = p }
 
 abbrev pub when : Bool → ℕ → ℕ → List Blame → List Blame
 when b n p r = if b then blame n p ∷ r else r
@@ -66,8 +65,8 @@ unfoldable pub foremost : List Blame → Blame
 foremost [] = blame no_refusal 0
 foremost (x ∷ xs) = sooner x (foremost xs)
 
-abbrev pub fault_by : Blame → Fault → Fault
-fault_by x f = if ltb x.no no_refusal then Refused (refusal x.no x.place) else f
+abbrev pub fault_by : Blame → Result ℕ Refusal → Result ℕ Refusal
+fault_by x f = if ltb x.no no_refusal then Err (refusal x.no x.place) else f
 
 -- what stands behind a command with the first letter l, the last letter w, the scale a, b and the name: DS opens a definition with no layer set, DF
 -- closes it, and L sets the layer where it stands
@@ -91,13 +90,13 @@ rounded_of s l [] = 0
 rounded_of s l (f ∷ fs) = rounded_by s.a s.b l f.word f.index f.size + rounded_of s l fs
 
 -- RULES 12: for all commands in text order; where there is no fault, how many numbers are rounded, after k of them
-unfoldable pub fault_from : Scope → ℕ → List Written → Fault
-fault_from s k [] = Clear k
+unfoldable pub fault_from : Scope → ℕ → List Written → Result ℕ Refusal
+fault_from s k [] = Ok k
 fault_from s k (c ∷ cs) = fault_by (foremost (blames s c)) (fault_from (scope_after s c) (k + rounded_of s c.letter (numbers c)) cs)
 
 abbrev pub at_start : Scope
 at_start = scope false 1 1 0 0
 
 -- the account's first fault of a marked text
-abbrev pub fault_of : List Letter → Fault
+abbrev pub fault_of : List Letter → Result ℕ Refusal
 fault_of m = fault_from at_start 0 (written (pieces 0 0 m))

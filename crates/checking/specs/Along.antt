@@ -11,10 +11,8 @@ use Rattle.rules.specs.Rules.{scaled_by, rounded_by, number_refusal, whole_refus
 use Rattle.checking.specs.Account.{layer_of, refusal, scope_by}
 use Rattle.checking.specs.declared.Scope.{Scope}
 use Rattle.checking.specs.declared.Doing.{Doing}
-use Rattle.checking.specs.declared.Ended.{Ended}
-use Rattle.checking.specs.declared.Ended.TheVariants.{Then, Broken}
-use Rattle.checking.specs.declared.Fault.{Fault}
-use Rattle.checking.specs.declared.Fault.TheVariants.{Clear, Refused}
+use Rattle.std.specs.Prelude.{Err, Ok, Result}
+use Rattle.definition.specs.declared.Refusal.{Refusal}
 
 -- the lower of refusal k and the one before, n, and its place: 7 is placed at the command, others here
 abbrev pub lower : ℕ → ℕ → ℕ
@@ -95,22 +93,22 @@ worded c w = record {
 abbrev pub after_doing : Scope → Doing → Scope
 after_doing s c = scope_by s c.letter c.word c.a c.b c.name
 
-unfoldable pub finished : Scope → Doing → Ended
+unfoldable pub finished : Scope → Doing → Result Scope Refusal
 finished s c =
     let k = whole_refusal c.letter c.word c.count c.turns c.a c.b (layer_of s) in
     if c.busy then
-    (if ltb k c.no then Broken (refusal k c.place)
-    else if ltb c.no no_refusal then Broken (refusal c.no c.at)
-    else Then (after_doing s c))
-    else Then s
+    (if ltb k c.no then Err (refusal k c.place)
+    else if ltb c.no no_refusal then Err (refusal c.no c.at)
+    else Ok (after_doing s c))
+    else Ok s
 
-abbrev pub onward : (Scope → Fault) → Ended → Fault
-onward f (Then s) = f s
-onward f (Broken r) = Refused r
+abbrev pub onward : (Scope → Result ℕ Refusal) → Result Scope Refusal → Result ℕ Refusal
+onward f (Ok s) = f s
+onward f (Err r) = Err r
 
 -- the first fault of the pieces that are left
-unfoldable pub runs : List Piece → Scope → Doing → Fault
-runs [] s c = onward (λ t. Clear c.rounded) (finished s c)
+unfoldable pub runs : List Piece → Scope → Doing → Result ℕ Refusal
+runs [] s c = onward (λ t. Ok c.rounded) (finished s c)
 runs (First p b ∷ xs) s c = onward (λ t. runs xs t (begun p b c.rounded)) (finished s c)
 runs (Second b ∷ xs) s c = runs xs s (worded c b)
 runs (Number p σ n ∷ xs) s c = runs xs s (counted s c p n)

@@ -3,7 +3,6 @@
 #![tactic(auto)]
 
 ghost use Rattle.std.specs.Prelude.{◌≡◌, true, false, ◌+◌, ◌≤◌};
-ghost use Rattle.grammar.specs.Steps.{KindsLent, NextLent};
 ghost use Rattle.pieces.specs.Pieces.{farthest, too_large, stream, start};
 ghost use Rattle.rules.specs.Written.{turning, one};
 ghost use Rattle.checking.specs.Account.{layer_of, scope, at_start};
@@ -19,13 +18,6 @@ pub struct Scope {
     pub b: usize,
     pub outer: usize,
     pub inner: usize,
-}
-
-// What is said of a text: nothing against it, and how many of its distances are rounded; or a refusal.
-#[derive(Clone, Copy)]
-pub enum Fault {
-    Clear(usize),
-    Refused(Refusal),
 }
 
 // The command that is being checked: its place and first letter, its last letter, how many numbers it has had and whether the last was 0, its
@@ -47,13 +39,6 @@ pub struct Doing {
     pub no: usize,
     pub at: usize,
     pub rounded: usize,
-}
-
-// How a command ends: what stands then, or its refusal.
-#[derive(Clone, Copy)]
-pub enum Ended {
-    Then(Scope),
-    Broken(Refusal),
 }
 
 // Of two refusals of a command the lower, and of equals the one before.
@@ -249,7 +234,8 @@ fn after_command(s: Scope, c: Doing) -> Scope
     s
 }
 
-fn finish(s: Scope, c: Doing) -> Ended
+// How a command ends: what stands then, or its refusal.
+fn finish(s: Scope, c: Doing) -> Result<Scope, Refusal>
     ensures { result ≡ finished s c }
 {
     let busy = c.busy;
@@ -258,31 +244,31 @@ fn finish(s: Scope, c: Doing) -> Ended
         let k = rules::whole_no(c.letter, c.word, c.count, c.turns, c.a, c.b, layer);
         let no = c.no;
         if k < no {
-            return Ended::Broken(Refusal {
-                number: k,
+            return Err(Refusal {
+                rule: rules::rule_of(k),
                 place: c.place,
             });
         }
         if no < rules::NO_REFUSAL {
-            return Ended::Broken(Refusal {
-                number: no,
+            return Err(Refusal {
+                rule: rules::rule_of(no),
                 place: c.at,
             });
         }
-        return Ended::Then(after_command(s, c));
+        return Ok(after_command(s, c));
     }
-    Ended::Then(s)
+    Ok(s)
 }
 
-pub fn checked(text: &[u8], kinds: &[u8; 256], next: &[u16; grammar::tables::ENTRY_COUNT]) -> Fault
-    requires { KindsLent kinds.now × NextLent next.now }
+// What is said of a text: nothing against it, and how many of its distances are rounded; or its first refusal.
+pub fn checked(text: &[u8], recogniser: &grammar::Recogniser) -> Result<usize, Refusal>
     ensures { result ≡ runs (stream text.now start) at_start (idle 0) }
 {
     let mut spot = pieces::Spot { at: 0, state: 0 };
     let mut s = without(0);
     let mut c = new_command(false, 0, 0, 0);
     loop {
-        let m = pieces::next_mark(text, kinds, next, spot);
+        let m = pieces::next_mark(text, recogniser, spot);
         let mark = m.mark;
         if mark == grammar::tables::LEAD {
             let n = pieces::read_number(text, m);
@@ -292,22 +278,16 @@ pub fn checked(text: &[u8], kinds: &[u8; 256], next: &[u16; grammar::tables::ENT
             c = add_letter(c, m.byte);
             spot = m.to;
         } else {
-            match finish(s, c) {
-                Ended::Broken(refusal) => {
-                    return Fault::Refused(refusal);
-                }
-                Ended::Then(t) => {
-                    if mark == grammar::tables::SKIP {
-                        return Fault::Clear(c.rounded);
-                    }
-                    s = t;
-                    spot = m.to;
-                    if mark == grammar::tables::HEAD {
-                        c = new_command(true, m.at, m.byte, c.rounded);
-                    } else {
-                        c = new_command(false, 0, 0, c.rounded);
-                    }
-                }
+            let t = finish(s, c)?;
+            if mark == grammar::tables::SKIP {
+                return Ok(c.rounded);
+            }
+            s = t;
+            spot = m.to;
+            if mark == grammar::tables::HEAD {
+                c = new_command(true, m.at, m.byte, c.rounded);
+            } else {
+                c = new_command(false, 0, 0, c.rounded);
             }
         }
     }

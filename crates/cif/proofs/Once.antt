@@ -5,7 +5,6 @@ use mathlib.Core.List.{List}
 use Prim.Native.Nat.{ℕ, ◌≤◌}
 use lib.IntN.{ℤ}
 use lib.ListN.{length}
-use Rattle.grammar.specs.declared.Verdict.{Verdict}
 use Rattle.grammar.proofs.Unique.{one_verdict}
 use Rattle.definition.specs.declared.Answer.{Answer}
 use Rattle.definition.specs.declared.Summary.{Summary}
@@ -14,16 +13,17 @@ use Rattle.definition.specs.Limits.{deepest}
 use Rattle.definition.proofs.Right.{one_answer}
 use Rattle.definition.proofs.Summed.{one_summary}
 use Rattle.definition.proofs.Reasons.{one_why}
-use Rattle.checking.specs.declared.Fault.{Fault}
 use Rattle.reading.proofs.Unique.{one_refusal}
 use Rattle.answer.specs.Words.{answer_words, summary_words, why_words}
 use Rattle.listing.specs.Listed.{Listed}
 use Rattle.listing.proofs.Agrees.{one_listing}
 use Rattle.machine.specs.declared.Frame.{Frame}
 use Rattle.stacking.proofs.Engines.{one_answer_with, engines_agree}
-use Rattle.join.specs.declared.JoinAnswer.{JoinAnswer}
 use Rattle.join.proofs.Once.{made_once}
 use Rattle.cif.specs.Told.{FlattenTold, StackedTold, ListTold, RefusalTold, VerdictTold, JoinTold, SummaryTold, WhyTold, answer_of_fault, answer_of_verdict, words_of_join}
+use Rattle.std.specs.Prelude.{Result}
+use Rattle.definition.specs.declared.Refusal.{Refusal}
+use Rattle.join.specs.declared.NotJoined.{NotJoined}
 
 -- words that say one answer are one list
 same_words : {words words' : List ℕ} {a a' : Answer} → words ≡ answer_words a → words' ≡ answer_words a' → a ≡ a' → words ≡ words'
@@ -50,19 +50,19 @@ list_told_once {t} {f = f} {old} {new' = new'} {lent} {r' = r'} a b =
 
 pub refusal-told_once : {t words words' : List ℕ} → RefusalTold t words → RefusalTold t words' → words ≡ words'
 refusal-told_once {t} a b =
-    let one = ap (λ (f : Fault). answer_of_fault t f) (one_refusal t a.fault b.fault a.refuses b.refuses) in
+    let one = ap (λ (f : Result ℕ Refusal). answer_of_fault t f) (one_refusal t a.fault b.fault a.refuses b.refuses) in
     same_words a.said b.said (a.is ∙ one ∙ sym b.is)
 
 pub verdict-told_once : {t words words' : List ℕ} → VerdictTold t words → VerdictTold t words' → words ≡ words'
 verdict-told_once {t} a b =
-    let one = ap (λ (v : Verdict). answer_of_verdict t v) (one_verdict t a.verdict b.verdict a.judged b.judged) in
+    let one = ap (λ (v : Result Unit ℕ). answer_of_verdict t v) (one_verdict t a.verdict b.verdict a.judged b.judged) in
     same_words a.said b.said (a.is ∙ one ∙ sym b.is)
 
 pub join-told_once : {first second room words words' left left' : List ℕ} → JoinTold first second room words left → JoinTold first second room words' left'
     → (words ≡ words') × (left ≡ left')
 join-told_once {first} {second} a b =
     let one = made_once a.made b.made in
-    (a.said ∙ (ap (λ (x : JoinAnswer). words_of_join first second x) one.0 ∙ sym b.said), one.1)
+    (a.said ∙ (ap (λ (x : Result ℕ NotJoined). words_of_join first second x) one.0 ∙ sym b.said), one.1)
 
 pub summary_told_once : {t words words' : List ℕ} {lent lent' lent'' : List ℤ} {symbol : ℕ} → SummaryTold t lent symbol words lent' → SummaryTold t lent symbol words' lent''
     → (words ≡ words') × (lent' ≡ lent'')

@@ -1,40 +1,36 @@
 -- What a host is told by each function, in the words of crate answer: the contracts of the exported functions cite it.
 use Rattle.std.specs.Prelude.{◌≡◌, List, [], ℕ, eqb, ℤ, length, if◌then◌else◌}
 use Rattle.grammar.specs.Viable.{Judged}
-use Rattle.grammar.specs.declared.Verdict.{Verdict}
-use Rattle.grammar.specs.declared.Verdict.TheVariants.{InGrammar, StuckAt}
 use Rattle.definition.specs.declared.Answer.{Answer}
 use Rattle.definition.specs.declared.Refusal.{Refusal}
 use Rattle.definition.specs.declared.Summary.{Summary}
 use Rattle.definition.specs.declared.Why.{Why}
-use Rattle.definition.specs.Rules.{not_in_grammar, refuse}
+use Rattle.definition.specs.Rules.{NotInGrammar, refuse}
 use Rattle.definition.specs.Counts.{counts}
 use Rattle.definition.specs.Answer.{success, failure, zeros, Promised}
 use Rattle.definition.specs.Records.{PromisedWith}
 use Rattle.definition.specs.Summary.{Summarised}
 use Rattle.definition.specs.Why.{PromisedWhy}
-use Rattle.checking.specs.declared.Fault.{Fault}
-use Rattle.checking.specs.declared.Fault.TheVariants.{Clear, Refused}
 use Rattle.reading.specs.Refusal.{Refuses}
 use Rattle.answer.specs.Words.{answer_words, words_about, summary_words, why_words, answer_by}
 use Rattle.machine.specs.States.{no_frame}
 use Rattle.machine.specs.declared.Frame.{Frame}
 use Rattle.listing.specs.Listed.{Listed}
-use Rattle.join.specs.declared.JoinAnswer.{JoinAnswer}
-use Rattle.join.specs.declared.JoinAnswer.TheVariants.{Written, NotJoined}
 use Rattle.join.specs.Made.{Made}
+use Rattle.std.specs.Prelude.{Err, Ok, Result}
+use Rattle.join.specs.declared.NotJoined.{NotJoined}
 
 -- where nothing is drawn there is no length, no counts, no rounded distances, and no call is open
 abbrev pub clean : Answer
 clean = success 0 (counts 0 0 0) 0
 
-abbrev pub answer_of_fault : List ℕ → Fault → Answer  -- of a text
-answer_of_fault t (Clear k) = clean
-answer_of_fault t (Refused r) = failure t r []
+abbrev pub answer_of_fault : List ℕ → Result ℕ Refusal → Answer  -- of a text
+answer_of_fault t (Ok k) = clean
+answer_of_fault t (Err r) = failure t r []
 
-abbrev pub answer_of_verdict : List ℕ → Verdict → Answer  -- RULES 12, refusal 2: "not in the grammar"
-answer_of_verdict t InGrammar = clean
-answer_of_verdict t (StuckAt n) = failure t (refuse not_in_grammar n) []
+abbrev pub answer_of_verdict : List ℕ → Result Unit ℕ → Answer  -- RULES 12, refusal 2: "not in the grammar"
+answer_of_verdict t (Ok tt) = clean
+answer_of_verdict t (Err n) = failure t (refuse NotInGrammar n) []
 
 -- `cif_flatten`: the promised answer, and the room and the words lent that go with it
 pub record FlattenTold (t : List ℕ) (lent : List ℤ) (room words : List ℕ) (lent' : List ℤ) (left : List ℕ) : Type 0 where
@@ -56,14 +52,14 @@ pub record ListTold (t : List ℕ) (lent : List ℤ) (words f old : List ℕ) (l
   pub cleared : lent' ≡ zeros lent
 
 pub record RefusalTold (t words : List ℕ) : Type 0 where  -- `cif_refusal`: the first of refusals 2 to 9
-  pub fault : Fault
+  pub fault : Result ℕ Refusal
   pub refuses : Refuses t fault
   pub given : Answer
   pub is : given ≡ answer_of_fault t fault
   pub said : words ≡ answer_words given
 
 pub record VerdictTold (t words : List ℕ) : Type 0 where  -- `cif_recognise`: refusal 2
-  pub verdict : Verdict
+  pub verdict : Result Unit ℕ
   pub judged : Judged t verdict
   pub given : Answer
   pub is : given ≡ answer_of_verdict t verdict
@@ -73,12 +69,12 @@ pub record VerdictTold (t words : List ℕ) : Type 0 where  -- `cif_recognise`: 
 abbrev pub refused_in : (first second : List ℕ) → Refusal → (text : ℕ) → List ℕ
 refused_in first second r text = words_about (failure (if eqb text 2 then second else first) r []) text
 
-abbrev pub words_of_join : (first second : List ℕ) → JoinAnswer → List ℕ
-words_of_join first second (Written length) = answer_words (success length (counts 0 0 0) 0)
-words_of_join first second (NotJoined r text) = refused_in first second r text
+abbrev pub words_of_join : (first second : List ℕ) → Result ℕ NotJoined → List ℕ
+words_of_join first second (Ok length) = answer_words (success length (counts 0 0 0) 0)
+words_of_join first second (Err (record { refusal = r; text = text })) = refused_in first second r text
 
 pub record JoinTold (first second room words left : List ℕ) : Type 0 where  -- `cif_join`: the joined text in the room, and its length; or a refusal
-  pub answer : JoinAnswer
+  pub answer : Result ℕ NotJoined
   pub made : Made first second room answer left
   pub said : words ≡ words_of_join first second answer
 

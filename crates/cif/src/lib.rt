@@ -6,29 +6,28 @@ ghost use Rattle.std.specs.Prelude.{◌≡◌};
 ghost use Rattle.answer.specs.Words.{answer_words};
 ghost use Rattle.cif.specs.Told.{FlattenTold, StackedTold, ListTold, RefusalTold, VerdictTold, JoinTold, SummaryTold, WhyTold, answer_of_fault, answer_of_verdict, refused_in, words_of_join};
 
-use checking::Fault;
-use definition::{Answer, Refusal};
-use grammar::Verdict;
-use join::JoinAnswer;
+use definition::{Answer, Refusal, Rule};
+use join::NotJoined;
 use machine::Frame;
 
 // A check makes no flat file and counts nothing, and no call is open.
-fn fault_answer(text: &[u8], fault: Fault) -> Answer
+fn fault_answer(text: &[u8], fault: Result<usize, Refusal>) -> Answer
     ensures { result ≡ answer_of_fault text.now fault }
 {
     match fault {
-        Fault::Clear(_) => answer::accepted(0, counts::no_counts(), 0),
-        Fault::Refused(refusal) => answer::refused_outside(text, refusal, counts::no_counts()),
+        Ok(_) => answer::accepted(0, counts::no_counts(), 0),
+        Err(refusal) => answer::refused_outside(text, refusal, counts::no_counts()),
     }
 }
 
-fn verdict_answer(text: &[u8], verdict: Verdict) -> Answer
+fn verdict_answer(text: &[u8], verdict: Result<(), usize>) -> Answer
     ensures { result ≡ answer_of_verdict text.now verdict }
 {
-    match verdict {
-        Verdict::InGrammar => fault_answer(text, Fault::Clear(0)),
-        Verdict::StuckAt(place) => fault_answer(text, Fault::Refused(Refusal { number: 2, place })),
-    }
+    let fault = verdict.map(|_| 0).map_err(|place| Refusal {
+        rule: Rule::NotInGrammar,
+        place,
+    });
+    fault_answer(text, fault)
 }
 
 // The whole reader: the flat file comes to stand in the room, the answer in its words, and the words lent for bodies are all zero. All is settled:
@@ -111,16 +110,12 @@ fn refusal_words(first: &[u8], second: &[u8], refusal: Refusal, text: usize) -> 
     answer::words_about(given, text)
 }
 
-fn join_words(first: &[u8], second: &[u8], made: JoinAnswer) -> [u64; answer::WORDS]
+fn join_words(first: &[u8], second: &[u8], made: Result<usize, NotJoined>) -> [u64; answer::WORDS]
     ensures { result ≡ words_of_join first.now second.now made }
 {
     match made {
-        JoinAnswer::Written(length) => answer::words(answer::accepted(
-            length,
-            counts::no_counts(),
-            0,
-        )),
-        JoinAnswer::NotJoined(refusal, text) => refusal_words(first, second, refusal, text),
+        Ok(length) => answer::words(answer::accepted(length, counts::no_counts(), 0)),
+        Err(not_joined) => { refusal_words(first, second, not_joined.refusal, not_joined.text) }
     }
 }
 

@@ -10,9 +10,8 @@ use lib.ListN.{length, get_or, set, length-set}
 use lib.Seq.{get_or-set_same, get_or-set_other}
 use Rattle.library.specs.Memory.{symbol_at}
 use Rattle.library.specs.Rows.{Finds}
-use Rattle.library.specs.declared.Found.{Found}
-use Rattle.library.specs.declared.Found.TheVariants.{Live, Nothing}
 use Rattle.columns.specs.Columns.{Shifted, Puts, More, Stands}
+use Rattle.std.specs.Prelude.{None, Option, Some}
 
 -- ---- moved up, from the last down to k
 
@@ -80,10 +79,10 @@ row_low (inr e) h m = omega (arith, e, h)
 
 -- ---- the row of a number that is live
 
-pub row_found : (rows : List ℕ) (live n : ℕ) {f : Found} {i : ℕ} → Finds rows live n f → f ≡ Live i → (i < live) × (symbol_at rows i ≡ n)
+pub row_found : (rows : List ℕ) (live n : ℕ) {f : Option ℕ} {i : ℕ} → Finds rows live n f → f ≡ Some i → (i < live) × (symbol_at rows i ≡ n)
 unfolding Finds
 row_found rows live n x e = let y = subst (Finds rows live n) e x in (y.0, y.1)
 
-pub row_lost : (rows : List ℕ) (live n : ℕ) {f : Found} → Finds rows live n f → f ≡ Nothing → Stands rows live n → ⊥
+pub row_lost : (rows : List ℕ) (live n : ℕ) {f : Option ℕ} → Finds rows live n f → f ≡ None → Stands rows live n → ⊥
 unfolding Finds
 row_lost rows live n x e s = subst (Finds rows live n) e x s.at s.within s.is

@@ -86,8 +86,8 @@ fn row_of(rows: &[usize; library::ROW_NUMBERS], live: usize, symbol: usize) -> u
     ensures { (result < live) × (symbol_at rows.now result ≡ symbol) }
 {
     match library::find(rows, live, symbol) {
-        library::Found::Live(row) => row,
-        library::Found::Nothing => 0,
+        Some(row) => row,
+        None => 0,
     }
 }
 

@@ -31,10 +31,10 @@ use Rattle.rules.specs.Rules.{scaled_by, rounded_by, scaled_to}
 use Rattle.rules.specs.declared.AtScale.{AtScale}
 use Rattle.commands.specs.Words.{widest, held, signed, word, value_of, letter_words, body_of, tally, kind_by, framed, words_of, Writes, line_number, line_letter, Lined, closed, Closed, Tells, inside_first, preceding, letters_on, piece_end, pieces_on, ReadsCommand, ReadsItems}
 use Rattle.commands.specs.declared.Line.{Line}
-use Rattle.commands.specs.declared.Read.{Read}
-use Rattle.commands.specs.declared.Read.TheVariants.{Decoded, Nothing}
 use Rattle.pieces.proofs.Finds.{Finds, none, some}
 use Rattle.names.proofs.Naming.{name-room}
+use Rattle.std.specs.Prelude.{None, Option, Some}
+use Rattle.commands.specs.declared.Decoded.{Decoded}
 
 never : false ≡ true → ⊥
 never e = let z : ◌≡◌ {A = ℕ} 0 1 = cc in omega arith
@@ -113,7 +113,7 @@ lined_letter ws ws' c l x y at ey w = record {
 }
 
 pub closed_is : (ws ws₁ ws₂ : List ℤ) (l p : ℕ) (c : Line) (to : Spot) (end n k r : ℕ) → Writes ws c.at (closed l c) end ws₁ → n ≡ held (end - 2) → k ≡ kind_by l c.word → (y : ℕ) → y ≡ k
-    → Writes ws₁ 0 (word false (y + byte_unit * n) ∷ word false p ∷ []) r ws₂ → Closed ws l p c to (Decoded k p end to) ws₂
+    → Writes ws₁ 0 (word false (y + byte_unit * n) ∷ word false p ∷ []) r ws₂ → Closed ws l p c to (Some (record { kind = k; place = p; end = end; to = to })) ws₂
 closed_is ws ws₁ ws₂ l p c to end n k r w en ek y ey v = record {
   is = rw (ek, w.next);
   laid = v.laid ∙ rw (ey, ek, en, w.next, w.laid);
@@ -346,7 +346,7 @@ module _ {t : List ℕ} {s₀ : Spot} {l a b : ℕ} {ws₀ : List ℤ} {s : Spot
     left_over k = ap (λ (z : List Piece). pieces_on t (length z + k) s) no_items ∙ ap (λ (j : ℕ). pieces_on t j s) (zero-add k)
 
     wording_done : (to : Spot) → to ≡ pieces_on t (one (stops (stream t s))) s → written (stream t s) ≡ written (stream t to) → Fit t to → s.at ≤ to.at → (stops (stream t s) ≡ true → to ≡ behind (inside s.state) to.at)
-        → (r : Read) (ws' : List ℤ) → Closed ws l p c to r ws' → ReadsItems t s₀ p l a b ws₀ r ws'
+        → (r : Option Decoded) (ws' : List ℤ) → Closed ws l p c to r ws' → ReadsItems t s₀ p l a b ws₀ r ws'
     wording_done to end ec f h st r ws' k =
         let D = g.drawn in
         let cl = closed l c in
@@ -354,7 +354,7 @@ module _ {t : List ℕ} {s₀ : Spot} {l a b : ℕ} {ws₀ : List ℤ} {s : Spot
         let m : c.at + length cl ≡ suc (suc (length (D ++ cl))) = let e = length-append D cl in let i = g.at_is in omega arith in
         let m₂ : c.at + length cl - 2 ≡ length (D ++ cl) = omega arith in
         let front : ℕ → List ℤ = λ n. word false (kind_by l c.word + byte_unit * held n) ∷ word false p ∷ [] in
-        let out : ReadsItems t s₀ p l a b ws₀ (Decoded (kind_by l c.word) p (c.at + length cl) to) ws' = record {
+        let out : ReadsItems t s₀ p l a b ws₀ (Some (record { kind = (kind_by l c.word); place = p; end = (c.at + length cl); to = to })) ws' = record {
           is = sym g.rest ∙ ec;
           exact = end ∙ sym (left_over (one (stops (stream t s)))) ∙ g.onward (one (stops (stream t s))) ∙ ap (λ (z : Bool). pieces_on t (length (items_of (stream t s₀)) + one z) s₀) g.stopping;
           tells = record {
@@ -373,16 +373,16 @@ module _ {t : List ℕ} {s₀ : Spot} {l a b : ℕ} {ws₀ : List ℤ} {s : Spot
           fit = f;
           ahead = omega arith;
         } in
-        subst (λ (q : Read). ReadsItems t s₀ p l a b ws₀ q ws') (sym k.is) out
+        subst (λ (q : Option Decoded). ReadsItems t s₀ p l a b ws₀ q ws') (sym k.is) out
 
-  ended : {p : ℕ} {r : Read} {ws' : List ℤ} (xs : List Piece) → stream t s ≡ xs → items_of xs ≡ [] → stops xs ≡ false → Closed ws l p c s r ws' → ReadsItems t s₀ p l a b ws₀ r ws'
+  ended : {p : ℕ} {r : Option Decoded} {ws' : List ℤ} (xs : List Piece) → stream t s ≡ xs → items_of xs ≡ [] → stops xs ≡ false → Closed ws l p c s r ws' → ReadsItems t s₀ p l a b ws₀ r ws'
   unfolding pieces_on
   ended {p} {r} {ws'} xs e i o k =
       wording_done (ap (λ (z : List Piece). items_of z) e ∙ i) p s
       (sym (ap (λ (z : Bool). pieces_on t (one z) s) (ap (λ (z : List Piece). stops z) e ∙ o))) refl g.fit (omega arith) (λ h. absurd (never (sym (ap (λ (z : List Piece). stops z) e ∙ o) ∙ h))) r ws' k
 
   -- where no piece is left, or before the next command's first letter
-  pub wording_ended : {to : Spot} {n p : ℕ} {r : Read} {ws' : List ℤ} → Finds t s to n → (n ≡ number lead → ⊥) → n ≤ number head → (n ≡ number stop → ⊥) → Closed ws l p c s r ws' → ReadsItems t s₀ p l a b ws₀ r ws'
+  pub wording_ended : {to : Spot} {n p : ℕ} {r : Option Decoded} {ws' : List ℤ} → Finds t s to n → (n ≡ number lead → ⊥) → n ≤ number head → (n ≡ number stop → ⊥) → Closed ws l p c s r ws' → ReadsItems t s₀ p l a b ws₀ r ws'
   unfolding items_of stops
   wording_ended (none z h) d u e k = ended [] h refl refl k
   wording_ended {to} (some (First q y) z st) d u e k = ended (First q y ∷ stream t to) st.is refl refl k
@@ -391,7 +391,7 @@ module _ {t : List ℕ} {s₀ : Spot} {l a b : ℕ} {ws₀ : List ℤ} {s : Spot
   wording_ended (some (Word y) z st) d u e k = absurd (omega arith)
   wording_ended (some Stop z st) d u e k = absurd (e z)
 
-  pub wording_stop : {to : Spot} {p : ℕ} {r : Read} {ws' : List ℤ} → Step t s Stop to → to ≡ piece_end t (begun t s) → Closed ws l p c to r ws' → ReadsItems t s₀ p l a b ws₀ r ws'
+  pub wording_stop : {to : Spot} {p : ℕ} {r : Option Decoded} {ws' : List ℤ} → Step t s Stop to → to ≡ piece_end t (begun t s) → Closed ws l p c to r ws' → ReadsItems t s₀ p l a b ws₀ r ws'
   unfolding items_of written stops pieces_on
   wording_stop {to} {p} {r} {ws'} st end k =
       let h = st.ahead in
@@ -450,9 +450,9 @@ module _ {t : List ℕ} {s₀ s : Spot} (g : Seeking t s₀ s) where
   unfolding preceding letters_on
   first_on st = sym (ap (λ (z : List Piece). letters_on t (preceding z + 1) s) st.is) ∙ g.onward 1
 
-  pub seeking_found : {to : Spot} {p l : ℕ} {ws ws₁ : List ℤ} → Step t s (First p l) to → to ≡ (begun t s).to → ws₁ ≡ ws → (a b : ℕ) (r : Read) (ws' : List ℤ) → ReadsItems t to p l a b ws₁ r ws' → ReadsCommand t s₀ a b ws r ws'
+  pub seeking_found : {to : Spot} {p l : ℕ} {ws ws₁ : List ℤ} → Step t s (First p l) to → to ≡ (begun t s).to → ws₁ ≡ ws → (a b : ℕ) (r : Option Decoded) (ws' : List ℤ) → ReadsItems t to p l a b ws₁ r ws' → ReadsCommand t s₀ a b ws r ws'
   unfolding written
-  seeking_found {to} {p} {l} {ws} st x e a b (Decoded k q n end) ws' d =
+  seeking_found {to} {p} {l} {ws} st x e a b (Some (record { kind = k; place = q; end = n; to = end })) ws' d =
       let c = written_at p l (stream t to) in
       let h₁ = st.ahead in
       let h₂ = g.from in
@@ -467,4 +467,4 @@ module _ {t : List ℕ} {s₀ s : Spot} (g : Seeking t s₀ s) where
           ahead = omega arith;
         },
       )
-  seeking_found st x e a b Nothing ws' d = absurd d
+  seeking_found st x e a b None ws' d = absurd d

@@ -14,8 +14,8 @@ use Rattle.rules.specs.Letters.{letter_b, letter_c, letter_d, letter_l, letter_m
 use Rattle.rules.specs.Written.{Written, written, written_at, letters, last_letter, packed_by, one, inside_behind}
 use Rattle.rules.specs.Rules.{scaled_by}
 use Rattle.commands.specs.declared.Line.{Line}
-use Rattle.commands.specs.declared.Read.{Read}
-use Rattle.commands.specs.declared.Read.TheVariants.{Decoded, Nothing}
+use Rattle.std.specs.Prelude.{None, Option, Some}
+use Rattle.commands.specs.declared.Decoded.{Decoded}
 
 -- the largest number that a word holds
 abbrev pub widest : ℕ
@@ -107,8 +107,8 @@ abbrev pub closed : ℕ → Line → List ℤ
 closed l c = closing l c.word c.count c.name
 
 -- the two words in front are written last
-pub record Closed (ws : List ℤ) (l p : ℕ) (c : Line) (to : Spot) (r : Read) (ws' : List ℤ) : Type 0 where
-  pub is : r ≡ Decoded (kind_by l c.word) p (c.at + length (closed l c)) to
+pub record Closed (ws : List ℤ) (l p : ℕ) (c : Line) (to : Spot) (r : Decoded) (ws' : List ℤ) : Type 0 where
+  pub is : r ≡ record { kind = kind_by l c.word; place = p; end = c.at + length (closed l c); to = to }
   pub laid : ws' ≡ sets (sets ws c.at (closed l c)) 0 (word false (kind_by l c.word + byte_unit * held (c.at + length (closed l c) - 2)) ∷ word false p ∷ [])
 
 -- the command c: its kind, its place, how many words it has, the words themselves from the run's start on, and where the next begins, which is known
@@ -159,9 +159,9 @@ pub record DecodedOne (t : List ℕ) (s : Spot) (a b : ℕ) (c : Written) (ws : 
   pub fit : Fit t to
   pub ahead : s.at < to.at
 
-abbrev pub ReadsCommand : List ℕ → Spot → ℕ → ℕ → List ℤ → Read → List ℤ → Type 0
-ReadsCommand t s a b ws (Decoded k p n to) ws' = (c : Written) × DecodedOne t s a b c ws k p n to ws'
-ReadsCommand t s a b ws Nothing ws' = (written (stream t s) ≡ []) × (ws' ≡ ws)
+abbrev pub ReadsCommand : List ℕ → Spot → ℕ → ℕ → List ℤ → Option Decoded → List ℤ → Type 0
+ReadsCommand t s a b ws (Some d) ws' = (c : Written) × DecodedOne t s a b c ws d.kind d.place d.end d.to ws'
+ReadsCommand t s a b ws None ws' = (written (stream t s) ≡ []) × (ws' ≡ ws)
 
 -- the same, behind its first letter
 pub record DecodedItems (t : List ℕ) (s : Spot) (a b : ℕ) (c : Written) (ws : List ℤ) (k p n : ℕ) (to : Spot) (ws' : List ℤ) : Type 0 where
@@ -171,6 +171,5 @@ pub record DecodedItems (t : List ℕ) (s : Spot) (a b : ℕ) (c : Written) (ws 
   pub fit : Fit t to
   pub ahead : s.at ≤ to.at
 
-abbrev pub ReadsItems : List ℕ → Spot → ℕ → ℕ → ℕ → ℕ → List ℤ → Read → List ℤ → Type 0
-ReadsItems t s p l a b ws (Decoded k q n to) ws' = DecodedItems t s a b (written_at p l (stream t s)) ws k q n to ws'
-ReadsItems t s p l a b ws Nothing ws' = ⊥
+abbrev pub ReadsItems : List ℕ → Spot → ℕ → ℕ → ℕ → ℕ → List ℤ → Decoded → List ℤ → Type 0
+ReadsItems t s p l a b ws d ws' = DecodedItems t s a b (written_at p l (stream t s)) ws d.kind d.place d.end d.to ws'

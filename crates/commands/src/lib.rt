@@ -3,7 +3,6 @@
 #![tactic(auto)]
 
 ghost use Rattle.std.specs.Prelude.{◌≡◌, false, [], ◌∷◌, ◌+◌, ◌*◌, ◌/◌, ◌<◌, ◌≤◌, if◌then◌else◌};
-ghost use Rattle.grammar.specs.Steps.{KindsLent, NextLent};
 ghost use Rattle.pieces.specs.Pieces.{too_large, Fit};
 ghost use Rattle.rules.specs.Letters.{byte_unit, first_unit};
 ghost use Rattle.rules.specs.Rules.{distance};
@@ -23,11 +22,13 @@ pub struct Line {
     pub name: usize,
 }
 
-// A decoded command: its kind, its place, how many words it has, and where the next begins; or that no command is left.
+// A decoded command: its kind, its place, how many words it has, and where the next begins.
 #[derive(Clone, Copy)]
-pub enum Read {
-    Decoded(u8, usize, usize, pieces::Spot),
-    Nothing,
+pub struct Decoded {
+    pub kind: u8,
+    pub place: usize,
+    pub end: usize,
+    pub to: pieces::Spot,
 }
 
 fn wide(b: u8) -> usize
@@ -172,7 +173,7 @@ fn kind_by(letter: u8, word: u8) -> u8
     letter
 }
 
-fn close(words: &mut [i32], letter: u8, place: usize, c: Line, to: pieces::Spot) -> Read
+fn close(words: &mut [i32], letter: u8, place: usize, c: Line, to: pieces::Spot) -> Decoded
     requires { (2 ≤ c.at) × (c.at + 1 < outmost) }
     ensures { Closed words.old letter place c to result words.new }
 {
@@ -181,22 +182,25 @@ fn close(words: &mut [i32], letter: u8, place: usize, c: Line, to: pieces::Spot)
     let kind = kind_by(letter, c.word);
     let h = wide(kind) + names::BYTE_UNIT * n;
     put_two(words, 0, h, place);
-    Read::Decoded(kind, place, end, to)
+    Decoded {
+        kind,
+        place,
+        end,
+        to,
+    }
 }
 
 // The rest of a command behind its first letter. The two words in front are written when the rest is counted.
 fn read_items(
     text: &[u8],
-    kinds: &[u8; 256],
-    next: &[u16; grammar::tables::ENTRY_COUNT],
+    recogniser: &grammar::Recogniser,
     words: &mut [i32],
     from: pieces::Spot,
     place: usize,
     letter: u8,
     a: usize,
     b: usize,
-) -> Read
-    requires kinds_lent { KindsLent kinds.now × NextLent next.now }
+) -> Decoded
     requires fit { Fit text.now from × (a ≤ too_large) × (1 ≤ b) }
     ensures { ReadsItems text.now from place letter a b words.old result words.new }
 {
@@ -210,7 +214,7 @@ fn read_items(
         name: 0,
     };
     loop {
-        let m = pieces::next_mark(text, kinds, next, spot);
+        let m = pieces::next_mark(text, recogniser, spot);
         let mark = m.mark;
         if mark == grammar::tables::LEAD {
             let minus = m.place < m.at;
@@ -229,29 +233,27 @@ fn read_items(
     }
 }
 
-// The first command from a spot on, at the scale a, b, laid out in the run.
+// The first command from a spot on, at the scale a, b, laid out in the run; none where no command is left.
 pub fn read_command(
     text: &[u8],
-    kinds: &[u8; 256],
-    next: &[u16; grammar::tables::ENTRY_COUNT],
+    recogniser: &grammar::Recogniser,
     words: &mut [i32],
     from: pieces::Spot,
     a: usize,
     b: usize,
-) -> Read
-    requires kinds_lent { KindsLent kinds.now × NextLent next.now }
+) -> Option<Decoded>
     requires fit { Fit text.now from × (a ≤ too_large) × (1 ≤ b) }
     ensures { ReadsCommand text.now from a b words.old result words.new }
 {
     let mut spot = from;
     loop {
-        let m = pieces::next_mark(text, kinds, next, spot);
+        let m = pieces::next_mark(text, recogniser, spot);
         let mark = m.mark;
         if mark == grammar::tables::SKIP {
-            return Read::Nothing;
+            return None;
         }
         if mark == grammar::tables::HEAD {
-            return read_items(text, kinds, next, words, m.to, m.at, m.byte, a, b);
+            return Some(read_items(text, recogniser, words, m.to, m.at, m.byte, a, b));
         }
         spot = m.to;
     }

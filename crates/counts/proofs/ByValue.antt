@@ -14,29 +14,29 @@ use Rattle.definition.specs.Table.{Definition}
 use Rattle.definition.specs.Drawing.{Chain, Drawn, called, drew}
 use Rattle.definition.specs.Counts.{End, finished, stopped, counted}
 use Rattle.counts.specs.declared.Counts.{Counts}
-use Rattle.counts.specs.declared.Counted.{Counted}
-use Rattle.counts.specs.declared.Counted.TheVariants.{More, Full}
 use Rattle.definition.specs.Limits.{most_calls, most_shapes}
 use Rattle.counts.specs.Counting.{tally, with_calls, with_shapes, with_redefinitions, tried, answered, end_of}
 use Rattle.counts.specs.Counting.{AddsCall, AddsShape, CountsCall, CountsShape, CountsRedefinition}
+use Rattle.std.specs.Prelude.{Err, Ok, Result}
+use Rattle.definition.specs.declared.Rule.{Rule}
 
 -- ---- the two answers
-two_answers : (n : ℕ) (c : Counts) → Full n ≡ More c → ⊥
+two_answers : (n : ℕ) (c : Counts) → Err n ≡ Ok c → ⊥
 two_answers n c e = let z : ◌≡◌ {A = ℕ} 0 1 = cc in omega arith
 
-module _ {r : Counted} {x : End} (p : ℕ) (chain : Chain) (ends : x ≡ end_of r p chain) where
-  goes_so : (c' : Counts) → r ≡ More c' → x ≡ finished (tally c')
+module _ {r : Result Counts Rule} {x : End} (p : ℕ) (chain : Chain) (ends : x ≡ end_of r p chain) where
+  goes_so : (c' : Counts) → r ≡ Ok c' → x ≡ finished (tally c')
   unfolding end_of
-  goes_so c' q = ends ∙ ap (λ (a : Counted). end_of a p chain) q
+  goes_so c' q = ends ∙ ap (λ (a : Result Counts Rule). end_of a p chain) q
 
-  stops_so : (n : ℕ) → r ≡ Full n → x ≡ stopped (record { number = n; place = p }) chain
+  stops_so : (n : ℕ) → r ≡ Err n → x ≡ stopped (record { number = n; place = p }) chain
   unfolding end_of
-  stops_so n q = ends ∙ ap (λ (a : Counted). end_of a p chain) q
+  stops_so n q = ends ∙ ap (λ (a : Result Counts Rule). end_of a p chain) q
 
 -- ---- a count that has a limit, over any record that a number goes into
 module _ (had most number : ℕ) (into : ℕ → Counts) where
-  abbrev written_out : Counted
-  written_out = if ltb had most then More (into (had + 1)) else Full number
+  abbrev written_out : Result Counts Rule
+  written_out = if ltb had most then Ok (into (had + 1)) else Err number
 
   -- the answer
   answered_so : eqb number 0 ≡ false → (r : ℕ) (c' : Counts) → r ≡ (tried had most number).refusal → c' ≡ into (tried had most number).count
@@ -57,10 +57,10 @@ module _ (had most number : ℕ) (into : ℕ → Counts) where
       go false e = rw e refl
 
   -- what it tells
-  more_so : (c' : Counts) → written_out ≡ More c' → (had < most) × (c' ≡ into (had + 1))
+  more_so : (c' : Counts) → written_out ≡ Ok c' → (had < most) × (c' ≡ into (had + 1))
   more_so c' q = go (ltb had most) refl q
     where
-      go : (b : Bool) → ltb had most ≡ b → (if b then More (into (had + 1)) else Full number) ≡ More c' → (had < most) × (c' ≡ into (had + 1))
+      go : (b : Bool) → ltb had most ≡ b → (if b then Ok (into (had + 1)) else Err number) ≡ Ok c' → (had < most) × (c' ≡ into (had + 1))
       go true e q = (ltb-true had most e, cc)
       go false e q = absurd (two_answers number c' q)
 
@@ -69,16 +69,16 @@ pub call-counted : (c : Counts) (r : ℕ) (c' : Counts) → AddsCall c r c' → 
 unfolding counted
 call-counted c r c' a =
     let q = answered_so c.calls most_calls 15 (with_calls c) refl r c' a.refuses a.leaves in
-    record { is = q; ends = λ p chain d. ends_so c.calls most_calls 15 (with_calls c) p chain ∙ ap (λ (x : Counted). end_of x p chain) (sym q) }
+    record { is = q; ends = λ p chain d. ends_so c.calls most_calls 15 (with_calls c) p chain ∙ ap (λ (x : Result Counts Rule). end_of x p chain) (sym q) }
 
-module _ (c : Counts) {r : Counted} (k : CountsCall c r) where
-  pub call-goes : (c' : Counts) → r ≡ More c' → (p : ℕ) (chain : Chain) (d : Definition) → counted (tally c) (called p chain d) ≡ finished (tally c')
+module _ (c : Counts) {r : Result Counts Rule} (k : CountsCall c r) where
+  pub call-goes : (c' : Counts) → r ≡ Ok c' → (p : ℕ) (chain : Chain) (d : Definition) → counted (tally c) (called p chain d) ≡ finished (tally c')
   call-goes c' q p chain d = goes_so p chain (k.ends p chain d) c' q
 
-  pub call-stops : (n : ℕ) → r ≡ Full n → (p : ℕ) (chain : Chain) (d : Definition) → counted (tally c) (called p chain d) ≡ stopped (record { number = n; place = p }) chain
+  pub call-stops : (n : ℕ) → r ≡ Err n → (p : ℕ) (chain : Chain) (d : Definition) → counted (tally c) (called p chain d) ≡ stopped (record { number = n; place = p }) chain
   call-stops n q p chain d = stops_so p chain (k.ends p chain d) n q
 
-  pub call-more : (c' : Counts) → r ≡ More c' → (c.calls < most_calls) × (c' ≡ with_calls c (c.calls + 1))
+  pub call-more : (c' : Counts) → r ≡ Ok c' → (c.calls < most_calls) × (c' ≡ with_calls c (c.calls + 1))
   call-more c' q = more_so c.calls most_calls 15 (with_calls c) c' (sym k.is ∙ q)
 
 -- ---- a shape
@@ -86,16 +86,16 @@ pub shape-counted : (c : Counts) (r : ℕ) (c' : Counts) → AddsShape c r c' �
 unfolding counted
 shape-counted c r c' a =
     let q = answered_so c.shapes most_shapes 17 (with_shapes c) refl r c' a.refuses a.leaves in
-    record { is = q; ends = λ d. ends_so c.shapes most_shapes 17 (with_shapes c) d.place d.chain ∙ ap (λ (x : Counted). end_of x d.place d.chain) (sym q) }
+    record { is = q; ends = λ d. ends_so c.shapes most_shapes 17 (with_shapes c) d.place d.chain ∙ ap (λ (x : Result Counts Rule). end_of x d.place d.chain) (sym q) }
 
-module _ (c : Counts) {r : Counted} (k : CountsShape c r) where
-  pub shape-goes : (c' : Counts) → r ≡ More c' → (d : Drawn) → counted (tally c) (drew d) ≡ finished (tally c')
+module _ (c : Counts) {r : Result Counts Rule} (k : CountsShape c r) where
+  pub shape-goes : (c' : Counts) → r ≡ Ok c' → (d : Drawn) → counted (tally c) (drew d) ≡ finished (tally c')
   shape-goes c' q d = goes_so d.place d.chain (k.ends d) c' q
 
-  pub shape-stops : (n : ℕ) → r ≡ Full n → (d : Drawn) → counted (tally c) (drew d) ≡ stopped (record { number = n; place = d.place }) d.chain
+  pub shape-stops : (n : ℕ) → r ≡ Err n → (d : Drawn) → counted (tally c) (drew d) ≡ stopped (record { number = n; place = d.place }) d.chain
   shape-stops n q d = stops_so d.place d.chain (k.ends d) n q
 
-  pub shape-more : (c' : Counts) → r ≡ More c' → (c.shapes < most_shapes) × (c' ≡ with_shapes c (c.shapes + 1))
+  pub shape-more : (c' : Counts) → r ≡ Ok c' → (c.shapes < most_shapes) × (c' ≡ with_shapes c (c.shapes + 1))
   shape-more c' q = more_so c.shapes most_shapes 17 (with_shapes c) c' (sym k.is ∙ q)
 
 -- ---- a redefinition

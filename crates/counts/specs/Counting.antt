@@ -1,7 +1,7 @@
 -- What one more does to the running counts, and that this is how the definition's `counted` counts the event. A running account, not to be believed:
 -- what is counted, and where a limit refuses, is said by crates/definition.
 -- Assumes nothing.
-use Rattle.std.specs.Prelude.{◌≡◌, false, ℕ, ◌+◌, eqb, ltb, if◌then◌else◌}
+use Rattle.std.specs.Prelude.{◌≡◌, false, ℕ, ◌+◌, ltb, if◌then◌else◌}
 use Rattle.definition.specs.Words.{none?}
 use Rattle.definition.specs.Table.{Definition, Table, find}
 use Rattle.definition.specs.Drawing.{Chain, Drawn, called, drew, entered}
@@ -9,9 +9,8 @@ use Rattle.definition.specs.Counts.{counts, End, finished, stopped, counted}
 use Rattle.definition.specs.Counts.{Counts as Tally}
 use Rattle.definition.specs.Limits.{most_calls, most_shapes}
 use Rattle.counts.specs.declared.Counts.{Counts}
-use Rattle.counts.specs.declared.Tried.{Tried}
-use Rattle.counts.specs.declared.Counted.{Counted}
-use Rattle.counts.specs.declared.Counted.TheVariants.{More, Full}
+use Rattle.std.specs.Prelude.{Err, Ok, Result}
+use Rattle.definition.specs.Rules.{Rule, TooManyCalls, TooManyShapes, refuse}
 
 -- the record, as the definition has it
 abbrev pub tally : Counts → Tally
@@ -32,34 +31,21 @@ abbrev pub with_redefinitions : Counts → ℕ → Counts
 with_redefinitions c n = record { calls = c.calls; shapes = c.shapes; redefinitions = n }
 
 -- one more of what is counted, up to the most that there may be
-abbrev pub tried : (had most refusal : ℕ) → Tried
-tried had most refusal = if ltb had most then record { count = had + 1; refusal = 0 } else record { count = had; refusal = refusal }
+abbrev pub one_more : (had most : ℕ) → Rule → Result ℕ Rule
+one_more had most rule = if ltb had most then Ok (had + 1) else Err rule
 
--- the contracts on the record lent: the refusal's number, 0 for none, and the whole record afterwards
-pub record AddsCall (c : Counts) (r : ℕ) (c' : Counts) : Type 0 where
-  pub refuses : r ≡ (tried c.calls most_calls 15).refusal
-  pub leaves : c' ≡ with_calls c (tried c.calls most_calls 15).count
-
-pub record AddsShape (c : Counts) (r : ℕ) (c' : Counts) : Type 0 where
-  pub refuses : r ≡ (tried c.shapes most_shapes 17).refusal
-  pub leaves : c' ≡ with_shapes c (tried c.shapes most_shapes 17).count
-
--- the counts afterwards are answered, or the refusal's number
-abbrev pub answered : ℕ → Counts → Counted
-answered refusal c = if eqb refusal 0 then More c else Full refusal
-
--- how the definition says what is answered at a place and under open calls: one definition for both cases, with the number of RULES 12 in it
-unfoldable pub end_of : Counted → ℕ → Chain → End
-end_of (More c) p chain = finished (tally c)
-end_of (Full number) p chain = stopped (record { number = number; place = p }) chain
+-- how the definition says what is answered at a place and under open calls: one definition for both cases, with the rule of RULES 12 in it
+unfoldable pub end_of : Result Counts Rule → ℕ → Chain → End
+end_of (Ok c) p chain = finished (tally c)
+end_of (Err rule) p chain = stopped (refuse rule p) chain
 
 -- the contracts by value: the answer written out, and that it is the definition's
-pub record CountsCall (c : Counts) (r : Counted) : Type 0 where
-  pub is : r ≡ (if ltb c.calls most_calls then More (with_calls c (c.calls + 1)) else Full 15)
+pub record CountsCall (c : Counts) (r : Result Counts Rule) : Type 0 where
+  pub is : r ≡ (if ltb c.calls most_calls then Ok (with_calls c (c.calls + 1)) else Err TooManyCalls)
   pub ends : (p : ℕ) (chain : Chain) (d : Definition) → counted (tally c) (called p chain d) ≡ end_of r p chain
 
-pub record CountsShape (c : Counts) (r : Counted) : Type 0 where
-  pub is : r ≡ (if ltb c.shapes most_shapes then More (with_shapes c (c.shapes + 1)) else Full 17)
+pub record CountsShape (c : Counts) (r : Result Counts Rule) : Type 0 where
+  pub is : r ≡ (if ltb c.shapes most_shapes then Ok (with_shapes c (c.shapes + 1)) else Err TooManyShapes)
   pub ends : (d : Drawn) → counted (tally c) (drew d) ≡ end_of r d.place d.chain
 
 pub record CountsRedefinition (c c' : Counts) : Type 0 where

@@ -1,9 +1,10 @@
-// The running counts (RULES 8), one record that is carried along through the drawing: thin functions take the record lent, by `&mut`, and call a function on
-// its numbers. Their callers stand below, with the record by value in and out.
+// The running counts (RULES 8), one record that is carried along through the drawing, by value in and out.
 #![tactic(auto)]
 
 ghost use Rattle.std.specs.Prelude.{◌≡◌, ◌+◌, ◌<◌, ◌^◌};
-ghost use Rattle.counts.specs.Counting.{zero_counts, with_redefinitions, tried, answered, AddsCall, AddsShape, CountsCall, CountsShape, CountsRedefinition};
+ghost use Rattle.counts.specs.Counting.{zero_counts, one_more, CountsCall, CountsShape, CountsRedefinition};
+
+use definition::Rule;
 
 #[derive(Clone, Copy)]
 pub struct Counts {
@@ -12,43 +13,14 @@ pub struct Counts {
     pub redefinitions: usize,
 }
 
-// What is answered where one more is counted: the counts with it, or the number of the refusal.
-#[derive(Clone, Copy)]
-pub enum Counted {
-    More(Counts),
-    Full(usize),
-}
-
-// One count with one more, and the number of the refusal, 0 for none.
-#[derive(Clone, Copy)]
-struct Tried {
-    count: usize,
-    refusal: usize,
-}
-
-// ---- on numbers
-
-// One more, unless it would be more than the most; then the count stays.
-fn one_more(had: usize, most: usize, refusal: usize) -> Tried
-    ensures { result ≡ tried had most refusal }
+// One more, unless it would be more than the most; then the rule that limits it.
+fn one_more(had: usize, most: usize, rule: Rule) -> Result<usize, Rule>
+    ensures { result ≡ one_more had most rule }
 {
     if had < most {
-        return Tried {
-            count: had + 1,
-            refusal: 0,
-        };
+        return Ok(had + 1);
     }
-    Tried {
-        count: had,
-        refusal,
-    }
-}
-
-fn next(had: usize) -> usize
-    requires { had + 1 < 2 ^ 64 }
-    ensures { result ≡ had + 1 }
-{
-    had + 1
+    Err(rule)
 }
 
 // Nothing is counted: as a drawing begins, and as a refusal gives the counts back.
@@ -62,82 +34,37 @@ pub fn no_counts() -> Counts
     }
 }
 
-// What is answered, from a refusal's number and the counts afterwards.
-fn answer(refusal: usize, counts: Counts) -> Counted
-    ensures { result ≡ answered refusal counts }
-{
-    if refusal == 0 {
-        return Counted::More(counts);
-    }
-    Counted::Full(refusal)
-}
-
-// ---- on the record, lent
-
 // One call more, or 15.
-fn add_call(counts: &mut Counts) -> usize
-    ensures { AddsCall counts.old result counts.new }
+pub fn count_call(counts: Counts) -> Result<Counts, Rule>
+    ensures { CountsCall counts result }
 {
-    let tried = one_more(counts.calls, definition::MOST_CALLS, 15);
-    counts.calls = tried.count;
-    tried.refusal
+    let calls = one_more(counts.calls, definition::MOST_CALLS, Rule::TooManyCalls)?;
+    Ok(Counts { calls, ..counts })
 }
 
 // One shape more, or 17.
-fn add_shape(counts: &mut Counts) -> usize
-    ensures { AddsShape counts.old result counts.new }
+pub fn count_shape(counts: Counts) -> Result<Counts, Rule>
+    ensures { CountsShape counts result }
 {
-    let tried = one_more(counts.shapes, definition::MOST_SHAPES, 17);
-    counts.shapes = tried.count;
-    tried.refusal
+    let shapes = one_more(counts.shapes, definition::MOST_SHAPES, Rule::TooManyShapes)?;
+    Ok(Counts { shapes, ..counts })
 }
 
 // One redefinition more: no refusal limits them.
-fn add_redefinition(counts: &mut Counts)
-    requires { counts.old.redefinitions + 1 < 2 ^ 64 }
-    ensures { counts.new ≡ with_redefinitions counts.old (counts.old.redefinitions + 1) }
-{
-    counts.redefinitions = next(counts.redefinitions);
-}
-
-// All counts set to zero, for a refusal.
-fn clear(counts: &mut Counts)
-    ensures { counts.new ≡ zero_counts }
-{
-    *counts = no_counts();
-}
-
-// ---- by value: the reference is made in a local
-
-pub fn count_call(counts: Counts) -> Counted
-    ensures { CountsCall counts result }
-{
-    let mut lent = counts;
-    let refusal = add_call(&mut lent);
-    answer(refusal, lent)
-}
-
-pub fn count_shape(counts: Counts) -> Counted
-    ensures { CountsShape counts result }
-{
-    let mut lent = counts;
-    let refusal = add_shape(&mut lent);
-    answer(refusal, lent)
-}
-
 pub fn count_redefinition(counts: Counts) -> Counts
     requires { counts.redefinitions + 1 < 2 ^ 64 }
     ensures { CountsRedefinition counts result }
 {
-    let mut lent = counts;
-    add_redefinition(&mut lent);
-    lent
+    let redefinitions = counts.redefinitions + 1;
+    Counts {
+        redefinitions,
+        ..counts
+    }
 }
 
+// All counts at zero, for a refusal, whatever has been counted.
 pub fn cleared(counts: Counts) -> Counts
     ensures { result ≡ zero_counts }
 {
-    let mut lent = counts;
-    clear(&mut lent);
-    lent
+    no_counts()
 }

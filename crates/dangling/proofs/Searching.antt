@@ -14,8 +14,6 @@ use Rattle.definition.specs.Warnings.{dangles, dangling_calls, dangling_at}
 use Rattle.library.specs.Memory.{call_letter, words_at, start_at, length_at, definition_at, table_from, table_of}
 use Rattle.library.specs.Sound.{letter_of_step, values_of, all_words, Proper, Stocked}
 use Rattle.library.specs.Rows.{Finds}
-use Rattle.library.specs.declared.Found.{Found}
-use Rattle.library.specs.declared.Found.TheVariants.{Live, Nothing}
 use Rattle.library.proofs.Decoded.{steps_are}
 use Rattle.library.proofs.Looking.{found, not_found}
 use Rattle.engine.specs.declared.Head.{Head}
@@ -23,15 +21,14 @@ use Rattle.engine.specs.Heads.{head_in}
 use Rattle.engine.proofs.Taking.{Met, meets, two_words, values-call, call_is}
 use Rattle.engine.proofs.Underway.{none_left}
 use Rattle.dangling.specs.Searched.{Misses, warning_by, Searched}
-use Rattle.dangling.specs.declared.Dangling.{Dangling}
-use Rattle.dangling.specs.declared.Dangling.TheVariants.{At, Nowhere}
+use Rattle.std.specs.Prelude.{None, Option, Some}
 
 -- ---- whether a number is live
 
-pub lives : (rows : List ℕ) (live n : ℕ) {r : Found} {i : ℕ} → Finds rows live n r → r ≡ Live i → Misses rows live n false
+pub lives : (rows : List ℕ) (live n : ℕ) {r : Option ℕ} {i : ℕ} → Finds rows live n r → r ≡ Some i → Misses rows live n false
 lives rows live n {r} {i} h e b = sym (ap none? (found rows b n live r i h e).1)
 
-pub missing : (rows : List ℕ) (live n : ℕ) {r : Found} → Finds rows live n r → r ≡ Nothing → Misses rows live n true
+pub missing : (rows : List ℕ) (live n : ℕ) {r : Option ℕ} → Finds rows live n r → r ≡ None → Misses rows live n true
 missing rows live n {r} h e b = sym (ap none? (not_found rows b n live r h e))
 
 -- ---- the dangling calls of a body, and of definitions
@@ -82,15 +79,15 @@ module _ (rows : List ℕ) (b : List ℤ) (live : ℕ) where
 
 -- ---- between two definitions
 
-pub record Between (rows : List ℕ) (b : List ℤ) (live : ℕ) (r : Dangling) (i : ℕ) : Type 0 where
-  pub none_yet : r ≡ Nowhere
+pub record Between (rows : List ℕ) (b : List ℤ) (live : ℕ) (r : Option ℕ) (i : ℕ) : Type 0 where
+  pub none_yet : r ≡ None
   pub within : i ≤ live
   pub left : dangling_calls (table rows b live) ≡ from rows b live i
 
 -- ---- between two commands of row i, whose words end here
 
-pub record Within (rows : List ℕ) (b : List ℤ) (live : ℕ) (r : Dangling) (i end at : ℕ) : Type 0 where
-  pub none_yet : r ≡ Nowhere
+pub record Within (rows : List ℕ) (b : List ℤ) (live : ℕ) (r : Option ℕ) (i end at : ℕ) : Type 0 where
+  pub none_yet : r ≡ None
   pub low : at ≤ end
   pub layer : List ℕ
   pub steps : List (Placed Step)
@@ -98,7 +95,7 @@ pub record Within (rows : List ℕ) (b : List ℤ) (live : ℕ) (r : Dangling) (
   pub words : words_at b at (end - at) ≡ all_words steps
   pub left : dangling_calls (table rows b live) ≡ dangling_in (table rows b live) steps ++ from rows b live (i + 1)
 
-pub begin : (rows : List ℕ) (b : List ℤ) (live : ℕ) → Between rows b live Nowhere 0
+pub begin : (rows : List ℕ) (b : List ℤ) (live : ℕ) → Between rows b live None 0
 unfolding dangling_calls
 begin rows b live = let e : live ≡ live - 0 = omega arith in record { none_yet = refl; within = omega arith; left = ap (λ (n : ℕ). dangling_of (table rows b live) (table_from rows b 0 n)) e }
 
@@ -106,7 +103,7 @@ first_none : dangling_at (first []) ≡ []
 unfolding dangling_at first
 first_none = refl
 
-module _ {rows : List ℕ} {b : List ℤ} {live : ℕ} {r : Dangling} {i : ℕ} (g : Between rows b live r i) where
+module _ {rows : List ℕ} {b : List ℤ} {live : ℕ} {r : Option ℕ} {i : ℕ} (g : Between rows b live r i) where
   next_row : i < live → table_from rows b i (live - i) ≡ definition_at rows b i ∷ table_from rows b (i + 1) (live - (i + 1))
   unfolding table_from
   next_row h = let e : live - i ≡ suc (live - (i + 1)) = omega arith in ap (table_from rows b i) e
@@ -140,13 +137,13 @@ module _ {rows : List ℕ} {b : List ℤ} {live : ℕ} {r : Dangling} {i : ℕ} 
       let e : live - i ≡ 0 = omega arith in
       let t = table rows b live in
       let q : dangling_calls t ≡ [] = g.left ∙ (ap (λ (n : ℕ). dangling_of t (table_from rows b i n)) e ∙ none_of t) in
-      ap (λ (d : Dangling). warning_by d) g.none_yet ∙ (sym first_none ∙ ap (λ (x : List (Placed Step)). dangling_at (first x)) (sym q))
+      ap (λ (d : Option ℕ). warning_by d) g.none_yet ∙ (sym first_none ∙ ap (λ (x : List (Placed Step)). dangling_at (first x)) (sym q))
 
 first_word : (b : List ℤ) (i n : ℕ) (x : ℤ) (xs : List ℤ) → words_at b i (suc n) ≡ x ∷ xs → get_or b i (pos 0) ≡ x
 unfolding words_at
 first_word b i n x xs e = cc
 
-module _ {rows : List ℕ} {b : List ℤ} {live : ℕ} {r : Dangling} {i end at : ℕ} (g : Within rows b live r i end at) where
+module _ {rows : List ℕ} {b : List ℤ} {live : ℕ} {r : Option ℕ} {i end at : ℕ} (g : Within rows b live r i end at) where
   abbrev t : Table
   t = table rows b live
 
@@ -206,7 +203,7 @@ module _ {rows : List ℕ} {b : List ℤ} {live : ℕ} {r : Dangling} {i end at 
       pub passes-call : {n : ℕ} {x : Bool} → n ≡ nat_abs (get_or b (at + 2) (pos 0)) → Misses rows live n x → x ≡ false → Within rows b live r i end h.next
       passes-call q f z = passes (dangles_by q f ∙ z)
 
-      pub found_call : {n : ℕ} {x : Bool} → n ≡ nat_abs (get_or b (at + 2) (pos 0)) → Misses rows live n x → x ≡ true → Searched rows b live (At h.place)
+      pub found_call : {n : ℕ} {x : Bool} → n ≡ nat_abs (get_or b (at + 2) (pos 0)) → Misses rows live n x → x ≡ true → Searched rows b live (Some h.place)
       unfolding dangling_at first
       found_call q f z =
           let s : dangling_calls t ≡ m.step ∷ dangling_in t m.rest ++ from rows b live (i + 1) =

@@ -8,30 +8,24 @@ ghost use Rattle.library.specs.Rows.{Sorted};
 ghost use Rattle.library.specs.Memory.{most_words};
 ghost use Rattle.dangling.specs.Searched.{Misses, Searched};
 
-// The place of a call that finds nothing, if there is one.
-#[derive(Clone, Copy)]
-pub enum Dangling {
-    At(usize),
-    Nowhere,
-}
-
 // Whether a number is not live.
 fn misses(rows: &[usize; library::ROW_NUMBERS], live: usize, symbol: usize) -> bool
     requires { Sorted rows.now live }
     ensures { Misses rows.now live symbol result }
 {
-    match library::find(rows, live, symbol) {
-        library::Found::Live(_) => false,
-        library::Found::Nothing => true,
-    }
+    library::find(rows, live, symbol).is_none()
 }
 
-// The search is left at the first call that finds nothing, from within both of its loops.
-pub fn first_dangling(bodies: &[i32], rows: &[usize; library::ROW_NUMBERS], live: usize) -> Dangling
+// The place of the first call that finds nothing, if there is one. The search is left at the first call that finds nothing, from within both of its loops.
+pub fn first_dangling(
+    bodies: &[i32],
+    rows: &[usize; library::ROW_NUMBERS],
+    live: usize,
+) -> Option<usize>
     requires { Sorted rows.now live × Stocked rows.now bodies.now live × (length bodies.now ≤ most_words) }
     ensures { Searched rows.now bodies.now live result }
 {
-    let mut found = Dangling::Nowhere;
+    let mut found = None;
     let mut i: usize = 0;
     'definitions: while i < live {
         let mut at = library::start_at(rows, i);
@@ -40,7 +34,7 @@ pub fn first_dangling(bodies: &[i32], rows: &[usize; library::ROW_NUMBERS], live
             let head = engine::head_at(bodies, at);
             if head.kind == b'C' {
                 if misses(rows, live, shapes::size_at(bodies, at + 2)) {
-                    found = Dangling::At(head.place);
+                    found = Some(head.place);
                     break 'definitions;
                 }
             }

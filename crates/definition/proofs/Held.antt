@@ -14,7 +14,7 @@ use Rattle.grammar.specs.Tables.{kinds, table}
 use Rattle.grammar.specs.Steps.{kind_of}
 use Rattle.definition.specs.Quick.{packed, packed_rows, marking_by, quick_letters}
 use Rattle.definition.specs.Words.{any, those, bytes_of}
-use Rattle.definition.specs.Rules.{Rule, too_many_definitions, too_few_words, number_of, refuse, order}
+use Rattle.definition.specs.Rules.{Rule, TooManyDefinitions, TooFewWords, number_of, refuse, order}
 use Rattle.definition.specs.Commands.{worth, numbers, paired, next, named, turn_at, turns, command_at, commands}
 use Rattle.definition.specs.Standing.{after, nearest, scaled, scaled_shape, scaled_turn}
 use Rattle.definition.specs.Faults.{beyond, bearings}
@@ -32,18 +32,18 @@ unfolding held_to
 words_reached words d t h = rw (le-ltb words (words_in (enter d t)) h)
 
 pub words_passed : (words : ℕ) (d : Definition) (t : Table) → words < words_in (enter d t)
-    → held_to words (entered d t) ≡ refused (refuse too_few_words d.place) []
+    → held_to words (entered d t) ≡ refused (refuse TooFewWords d.place) []
 unfolding held_to
 words_passed words d t h = rw (lt-ltb words (words_in (enter d t)) h)
 
 -- 513 definitions are refused as they were, however few words are lent
-pub definitions_first : (words p : ℕ) → held_to words (refused (refuse too_many_definitions p) []) ≡ refused (refuse too_many_definitions p) []
+pub definitions_first : (words p : ℕ) → held_to words (refused (refuse TooManyDefinitions p) []) ≡ refused (refuse TooManyDefinitions p) []
 unfolding held_to
 definitions_first words p = refl
 
 -- so where both stand, at one DS, it is 10
 pub ten_first : (words : ℕ) (t : Table) (d : Definition) → 512 < length (enter d t)
-    → map (held_to words) (happens t (define d)) ≡ refused (refuse too_many_definitions d.place) [] ∷ []
+    → map (held_to words) (happens t (define d)) ≡ refused (refuse TooManyDefinitions d.place) [] ∷ []
 unfolding happens held_to
 ten_first words t d h = rw (lt-ltb 512 (length (enter d t)) h)
 

@@ -15,7 +15,7 @@ use borrow.Author.Tests.{lt-ltb, le-ltb, le-leb, lt-leb}
 use Rattle.grammar.specs.Steps.{verdict_of}
 use Rattle.grammar.proofs.Verdicts.{Bytes}
 use Rattle.definition.specs.Words.{Placed, any, those, bytes_of}
-use Rattle.definition.specs.Rules.{text_too_long, too_many_definitions, too_many_calls, too_many_shapes, flat_file_too_long, refuse, order}
+use Rattle.definition.specs.Rules.{TextTooLong, TooManyDefinitions, TooManyCalls, TooManyShapes, FlatFileTooLong, refuse, order}
 use Rattle.definition.specs.Commands.{Number, Shape, Turn, Command, draw, call}
 use Rattle.definition.specs.Faults.{beyond, parts_of, has_too_many}
 use Rattle.definition.specs.Table.{Definition, Table, enter}
@@ -66,7 +66,7 @@ pub table-reached : (t : Table) (d : Definition) → length (enter d t) ≤ 512 
 unfolding happens
 table-reached t d h = rw (le-ltb 512 (length (enter d t)) h)
 
-pub table-passed : (t : Table) (d : Definition) → 512 < length (enter d t) → happens t (define d) ≡ refused (refuse too_many_definitions d.place) [] ∷ []
+pub table-passed : (t : Table) (d : Definition) → 512 < length (enter d t) → happens t (define d) ≡ refused (refuse TooManyDefinitions d.place) [] ∷ []
 unfolding happens
 table-passed t d h = rw (lt-ltb 512 (length (enter d t)) h)
 
@@ -77,7 +77,7 @@ module _ (c : Counts) where
   unfolding counted
   calls-reached p chain d h = rw (lt-ltb c.calls 1048576 h)
 
-  pub calls-passed : (p : ℕ) (chain : Chain) (d : Definition) → 1048576 ≤ c.calls → counted c (called p chain d) ≡ stopped (refuse too_many_calls p) chain
+  pub calls-passed : (p : ℕ) (chain : Chain) (d : Definition) → 1048576 ≤ c.calls → counted c (called p chain d) ≡ stopped (refuse TooManyCalls p) chain
   unfolding counted
   calls-passed p chain d h = rw (le-ltb c.calls 1048576 h)
 
@@ -85,7 +85,7 @@ module _ (c : Counts) where
   unfolding counted
   shapes-reached d h = rw (lt-ltb c.shapes 1048576 h)
 
-  pub shapes-passed : (d : Drawn) → 1048576 ≤ c.shapes → counted c (drew d) ≡ stopped (refuse too_many_shapes d.place) d.chain
+  pub shapes-passed : (d : Drawn) → 1048576 ≤ c.shapes → counted c (drew d) ≡ stopped (refuse TooManyShapes d.place) d.chain
   unfolding counted
   shapes-passed d h = rw (le-ltb c.shapes 1048576 h)
 
@@ -95,15 +95,15 @@ module _ (c : Counts) (cs : List (Placed Command)) (es : List Event) (room : ℕ
   unfolding fitted
   file_reached h g = rw (le-leb (length (flat (shapes_of es))) room h) (rw (le-leb (length (flat (shapes_of es))) 16777216 g))
 
-  pub room-passed : room < length (flat (shapes_of es)) → fitted (finished c) cs es room ≡ rejected (refuse flat_file_too_long 0) []
+  pub room-passed : room < length (flat (shapes_of es)) → fitted (finished c) cs es room ≡ rejected (refuse FlatFileTooLong 0) []
   unfolding fitted
   room-passed h = rw (lt-leb (length (flat (shapes_of es))) room h)
 
-  pub file_passed : 16777216 < length (flat (shapes_of es)) → fitted (finished c) cs es room ≡ rejected (refuse flat_file_too_long 0) []
+  pub file_passed : 16777216 < length (flat (shapes_of es)) → fitted (finished c) cs es room ≡ rejected (refuse FlatFileTooLong 0) []
   unfolding fitted
   file_passed h = rw (lt-leb (length (flat (shapes_of es))) 16777216 h) (neither (leb (length (flat (shapes_of es))) room))
     where
-      neither : (b : Bool) → (if b && false then accepted cs c es else rejected (refuse flat_file_too_long 0) []) ≡ rejected (refuse flat_file_too_long 0) []
+      neither : (b : Bool) → (if b && false then accepted cs c es else rejected (refuse FlatFileTooLong 0) []) ≡ rejected (refuse FlatFileTooLong 0) []
       neither true = refl
       neither false = refl
 
@@ -115,7 +115,7 @@ text-reached t words room b h = subst (Answers t words room) judged_so (right t 
     judged_so : answer_of t words room ≡ verdict (verdict_of 0 0 0 t) t words room
     judged_so = rw (le-ltb 16777216 (length t) h)
 
-pub text-passed : (t : List ℕ) (words room : ℕ) {o : Outcome} → 16777216 < length t → Answers t words room o → o ≡ rejected (refuse text_too_long 0) []
+pub text-passed : (t : List ℕ) (words room : ℕ) {o : Outcome} → 16777216 < length t → Answers t words room o → o ≡ rejected (refuse TextTooLong 0) []
 text-passed t words room h (too_long g) = refl
 text-passed t words room h (not_cif g x y) = absurd (omega (arith, h, g))
 text-passed t words room h (read g m) = absurd (omega (arith, h, g))
@@ -129,7 +129,7 @@ start_of_text t = (refl, refl)
 pub list_reached : (t : List ℕ) {o : Outcome} → length t ≤ 32768 → Answers t 32768 32768 o → Lists t (listing t o)
 list_reached t h a = within h a
 
-pub list_passed : (t : List ℕ) {p : List ℕ} → 32768 < length t → Lists t p → p ≡ listing t (rejected (refuse text_too_long 0) [])
+pub list_passed : (t : List ℕ) {p : List ℕ} → 32768 < length t → Lists t p → p ≡ listing t (rejected (refuse TextTooLong 0) [])
 list_passed t h (over g) = refl
 list_passed t h (within g a) = absurd (omega (arith, h, g))
 

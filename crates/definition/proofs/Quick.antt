@@ -15,13 +15,11 @@ use Rattle.grammar.proofs.Tests.{and_left, and_right}
 use Rattle.grammar.specs.Steps.{kind_of, entry_of, next_of, mode_after, mark_of, role_of, marked, verdict_of}
 use Rattle.grammar.specs.Viable
 use Rattle.grammar.specs.declared.Mode.{Mode}
-use Rattle.grammar.specs.declared.Verdict.{Verdict}
 use Rattle.grammar.specs.Viable.{Marked}
 use Rattle.grammar.proofs.Markings.{marking_is}
 use Rattle.grammar.proofs.Verdicts.{Bytes, judged}
-use Rattle.grammar.specs.declared.Verdict.TheVariants.{InGrammar, StuckAt}
 use Rattle.definition.specs.Limits.{most_bytes}
-use Rattle.definition.specs.Rules.{text_too_long, refuse}
+use Rattle.definition.specs.Rules.{TextTooLong, refuse}
 use Rattle.definition.specs.declared.Summary.{Summary}
 use Rattle.definition.specs.Answer.{Outcome, rejected, outcome_of, Answers}
 use Rattle.definition.specs.Summary.{empty_summary, summary_of, Summarises}
@@ -29,6 +27,7 @@ use Rattle.definition.specs.Computed.{verdict, answer_of, quick_outcome, quick_a
 use Rattle.definition.proofs.Right.{right}
 use Rattle.definition.proofs.Summed.{summary_right}
 use Rattle.definition.specs.Quick.{entry_unit, packed, packed_rows, entry_in, marking_by, verdict_by, quick_letters, quick_verdict}
+use Rattle.std.specs.Prelude.{Err, Ok, Result}
 
 -- ---- a packed entry is the table's
 
@@ -136,7 +135,7 @@ quick_letters_lem {t} g = marking_is g ∙ sym (marked_by (packed_rows state_cou
 
 pub quick_judged : (t : List ℕ) → Bytes t → Viable.Judged t (quick_verdict t)
 unfolding quick_verdict
-quick_judged t b = subst (λ (v : Verdict). Viable.Judged t v) (sym (verdict_by_lem (packed_rows state_count table) entry_at 0 0 0 t)) (judged t b)
+quick_judged t b = subst (λ (v : Result Unit ℕ). Viable.Judged t v) (sym (verdict_by_lem (packed_rows state_count table) entry_at 0 0 0 t)) (judged t b)
 
 -- so what is computed of a text is what is promised of it
 pub same_letters : (t : List ℕ) → quick_letters t ≡ marked 0 0 t
@@ -149,19 +148,19 @@ same_verdict t = verdict_by_lem (packed_rows state_count table) entry_at 0 0 0 t
 
 pub quick_is : (t : List ℕ) (words room : ℕ) → quick_answer t words room ≡ answer_of t words room
 unfolding quick_answer answer_of quick_outcome verdict
-quick_is t words room = ap (λ (o : Outcome). if ltb most_bytes (length t) then rejected (refuse text_too_long 0) [] else o) (rw (same_verdict t) (judged_so (verdict_of 0 0 0 t)))
+quick_is t words room = ap (λ (o : Outcome). if ltb most_bytes (length t) then rejected (refuse TextTooLong 0) [] else o) (rw (same_verdict t) (judged_so (verdict_of 0 0 0 t)))
   where
-    judged_so : (v : Verdict) → quick_outcome v t words room ≡ verdict v t words room
-    judged_so InGrammar = ap (λ (m : List Letter). outcome_of m words room) (same_letters t)
-    judged_so (StuckAt n) = refl
+    judged_so : (v : Result Unit ℕ) → quick_outcome v t words room ≡ verdict v t words room
+    judged_so (Ok tt) = ap (λ (m : List Letter). outcome_of m words room) (same_letters t)
+    judged_so (Err n) = refl
 
 pub quick_summary_is : (t : List ℕ) (words symbol : ℕ) → quick_summary t words symbol ≡ summary_for t words symbol
 unfolding quick_summary summary_for quick_summed summary_verdict
-quick_summary_is t words n = ap (λ (s : Summary). if ltb most_bytes (length t) then empty_summary t (refuse text_too_long 0) else s) (rw (same_verdict t) (summed_so (verdict_of 0 0 0 t)))
+quick_summary_is t words n = ap (λ (s : Summary). if ltb most_bytes (length t) then empty_summary t (refuse TextTooLong 0) else s) (rw (same_verdict t) (summed_so (verdict_of 0 0 0 t)))
   where
-    summed_so : (v : Verdict) → quick_summed v t words n ≡ summary_verdict v t words n
-    summed_so InGrammar = ap (λ (m : List Letter). summary_of t m words n) (same_letters t)
-    summed_so (StuckAt k) = refl
+    summed_so : (v : Result Unit ℕ) → quick_summed v t words n ≡ summary_verdict v t words n
+    summed_so (Ok tt) = ap (λ (m : List Letter). summary_of t m words n) (same_letters t)
+    summed_so (Err k) = refl
 
 pub quick_right : (t : List ℕ) (words room : ℕ) → Bytes t → Answers t words room (quick_answer t words room)
 quick_right t words room b = subst (Answers t words room) (sym (quick_is t words room)) (right t words room b)

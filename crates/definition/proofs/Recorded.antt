@@ -11,30 +11,29 @@ use lib.ListN.{length}
 use Rattle.grammar.specs.Notation.{Letter}
 use Rattle.definition.specs.Quick.{quick_verdict}
 use Rattle.grammar.specs.Viable
-use Rattle.grammar.specs.declared.Verdict.{Verdict}
-use Rattle.grammar.specs.declared.Verdict.TheVariants.{InGrammar, StuckAt}
 use Rattle.grammar.proofs.Tests.{and_left, and_right}
 use Rattle.grammar.proofs.Verdicts.{Bytes}
 use Rattle.definition.specs.Limits.{most_bytes}
 use Rattle.definition.specs.Words.{same}
-use Rattle.definition.specs.Rules.{text_too_long, refuse, order}
+use Rattle.definition.specs.Rules.{TextTooLong, refuse, order}
 use Rattle.definition.specs.Answer.{Outcome, rejected}
 use Rattle.definition.specs.Records.{outcome_with, AnswersWith, too_long, not_cif, read}
 use Rattle.definition.specs.Computed.{verdict_with, answer_with}
 use Rattle.definition.proofs.Quick.{quick_letters_lem, quick_judged}
 use Rattle.definition.proofs.Held.{number_after}
 use Rattle.definition.proofs.Rows.{Row, accepted, refused_at, in_calls, on_line, said_by, said_of, small, small_bytes, same-eq, every, by_test, Each, all_hold}
+use Rattle.std.specs.Prelude.{Err, Ok, Result}
 
 -- ---- what is computed is allowed
 
-by_verdict_lem : (t : List ℕ) (words records room : ℕ) → Bytes t → length t ≤ most_bytes → (v : Verdict) → Viable.Judged t v → AnswersWith t words records room (verdict_with v t words records room)
+by_verdict_lem : (t : List ℕ) (words records room : ℕ) → Bytes t → length t ≤ most_bytes → (v : Result Unit ℕ) → Viable.Judged t v → AnswersWith t words records room (verdict_with v t words records room)
 unfolding verdict_with
-by_verdict_lem t words records room b h InGrammar g =
+by_verdict_lem t words records room b h (Ok tt) g =
     subst (λ (m : List Letter). AnswersWith t words records room (outcome_with m words records room)) (quick_letters_lem g.1) (read h g.1)
-by_verdict_lem t words records room b h (StuckAt n) g = not_cif h g.0 g.1
+by_verdict_lem t words records room b h (Err n) g = not_cif h g.0 g.1
 
 by_length : (t : List ℕ) (words records room : ℕ) → Bytes t → (c : Bool) → ltb most_bytes (length t) ≡ c
-    → AnswersWith t words records room (if c then rejected (refuse text_too_long 0) [] else verdict_with (quick_verdict t) t words records room)
+    → AnswersWith t words records room (if c then rejected (refuse TextTooLong 0) [] else verdict_with (quick_verdict t) t words records room)
 by_length t words records room b true e = too_long (ltb→lt most_bytes (length t) (subst T (sym e) tt))
 by_length t words records room b false e =
     by_verdict_lem t words records room b (nltb→le most_bytes (length t) (subst (λ (c : Bool). T (not c)) (sym e) tt)) (quick_verdict t) (quick_judged t b)

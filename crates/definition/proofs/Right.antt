@@ -12,25 +12,24 @@ use lib.ListN.{length}
 use Rattle.grammar.specs.Notation.{Letter}
 use Rattle.grammar.specs.Steps.{verdict_of}
 use Rattle.grammar.specs.Viable
-use Rattle.grammar.specs.declared.Verdict.{Verdict}
-use Rattle.grammar.specs.declared.Verdict.TheVariants.{InGrammar, StuckAt}
 use Rattle.grammar.proofs.Markings.{marking_is, one_marking}
 use Rattle.grammar.proofs.Verdicts.{Bytes, judged}
 use Rattle.grammar.proofs.Unique.{one_length}
 use Rattle.definition.specs.Limits.{most_bytes}
-use Rattle.definition.specs.Rules.{text_too_long, not_in_grammar, refuse}
+use Rattle.definition.specs.Rules.{TextTooLong, NotInGrammar, refuse}
 use Rattle.definition.specs.declared.Answer.{Answer}
 use Rattle.definition.specs.Answer.{Outcome, rejected, given_back, room_after, outcome_of, Answers, too_long, not_cif, read, Promised}
 use Rattle.definition.specs.Computed.{verdict, answer_of}
+use Rattle.std.specs.Prelude.{Err, Ok, Result}
 
-by_verdict : (t : List ℕ) (words room : ℕ) → Bytes t → length t ≤ most_bytes → (v : Verdict) → Viable.Judged t v → Answers t words room (verdict v t words room)
+by_verdict : (t : List ℕ) (words room : ℕ) → Bytes t → length t ≤ most_bytes → (v : Result Unit ℕ) → Viable.Judged t v → Answers t words room (verdict v t words room)
 unfolding verdict
-by_verdict t words room b h InGrammar g =
+by_verdict t words room b h (Ok tt) g =
     subst (λ (m : List Letter). Answers t words room (outcome_of m words room)) (marking_is g.1) (read h g.1)
-by_verdict t words room b h (StuckAt n) g = not_cif h g.0 g.1
+by_verdict t words room b h (Err n) g = not_cif h g.0 g.1
 
 by_length : (t : List ℕ) (words room : ℕ) → Bytes t → (c : Bool) → ltb most_bytes (length t) ≡ c
-    → Answers t words room (if c then rejected (refuse text_too_long 0) [] else verdict (verdict_of 0 0 0 t) t words room)
+    → Answers t words room (if c then rejected (refuse TextTooLong 0) [] else verdict (verdict_of 0 0 0 t) t words room)
 by_length t words room b true e = too_long (ltb→lt most_bytes (length t) (subst T (sym e) tt))
 by_length t words room b false e =
     by_verdict t words room b (nltb→le most_bytes (length t) (subst (λ (c : Bool). T (not c)) (sym e) tt)) (verdict_of 0 0 0 t) (judged t b)
@@ -45,7 +44,7 @@ unique (too_long h) (too_long k) = refl
 unique (too_long h) (not_cif k g l) = absurd (omega arith)
 unique (too_long h) (read k m) = absurd (omega arith)
 unique (not_cif h g l) (too_long k) = absurd (omega arith)
-unique (not_cif h g l) (not_cif k e m) = ap (λ (n : ℕ). rejected (refuse not_in_grammar n) []) (one_length l m)
+unique (not_cif h g l) (not_cif k e m) = ap (λ (n : ℕ). rejected (refuse NotInGrammar n) []) (one_length l m)
 unique (not_cif h g l) (read {m} k e) = absurd (g (m, e))
 unique (read h m) (too_long k) = absurd (omega arith)
 unique (read {m} h e) (not_cif k g l) = absurd (g (m, e))

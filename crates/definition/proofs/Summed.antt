@@ -12,25 +12,24 @@ use lib.ListN.{length}
 use Rattle.grammar.specs.Notation.{Letter}
 use Rattle.grammar.specs.Steps.{verdict_of}
 use Rattle.grammar.specs.Viable
-use Rattle.grammar.specs.declared.Verdict.{Verdict}
-use Rattle.grammar.specs.declared.Verdict.TheVariants.{InGrammar, StuckAt}
 use Rattle.grammar.proofs.Markings.{marking_is, one_marking}
 use Rattle.grammar.proofs.Verdicts.{Bytes, judged}
 use Rattle.grammar.proofs.Unique.{one_length}
 use Rattle.definition.specs.Limits.{most_bytes}
-use Rattle.definition.specs.Rules.{text_too_long, not_in_grammar, refuse}
+use Rattle.definition.specs.Rules.{TextTooLong, NotInGrammar, refuse}
 use Rattle.definition.specs.declared.Summary.{Summary}
 use Rattle.definition.specs.Summary.{empty_summary, summary_of, Summarises, too_long, not_cif, read, Summarised}
 use Rattle.definition.specs.Computed.{summary_verdict, summary_for}
+use Rattle.std.specs.Prelude.{Err, Ok, Result}
 
 module _ (t : List ℕ) (words n : ℕ) (b : Bytes t) where
-  by_verdict : length t ≤ most_bytes → (v : Verdict) → Viable.Judged t v → Summarises t words n (summary_verdict v t words n)
+  by_verdict : length t ≤ most_bytes → (v : Result Unit ℕ) → Viable.Judged t v → Summarises t words n (summary_verdict v t words n)
   unfolding summary_verdict
-  by_verdict h InGrammar g = subst (λ (m : List Letter). Summarises t words n (summary_of t m words n)) (marking_is g.1) (read h g.1)
-  by_verdict h (StuckAt k) g = not_cif h g.0 g.1
+  by_verdict h (Ok tt) g = subst (λ (m : List Letter). Summarises t words n (summary_of t m words n)) (marking_is g.1) (read h g.1)
+  by_verdict h (Err k) g = not_cif h g.0 g.1
 
   by_length : (c : Bool) → ltb most_bytes (length t) ≡ c
-      → Summarises t words n (if c then empty_summary t (refuse text_too_long 0) else summary_verdict (verdict_of 0 0 0 t) t words n)
+      → Summarises t words n (if c then empty_summary t (refuse TextTooLong 0) else summary_verdict (verdict_of 0 0 0 t) t words n)
   by_length true e = too_long (ltb→lt most_bytes (length t) (subst T (sym e) tt))
   by_length false e = by_verdict (nltb→le most_bytes (length t) (subst (λ (c : Bool). T (not c)) (sym e) tt)) (verdict_of 0 0 0 t) (judged t b)
 
@@ -44,7 +43,7 @@ summary_unique (too_long h) (too_long k) = refl
 summary_unique (too_long h) (not_cif k g l) = absurd (omega arith)
 summary_unique (too_long h) (read k m) = absurd (omega arith)
 summary_unique (not_cif h g l) (too_long k) = absurd (omega arith)
-summary_unique {t = t} (not_cif h g l) (not_cif k e m) = ap (λ (n : ℕ). empty_summary t (refuse not_in_grammar n)) (one_length l m)
+summary_unique {t = t} (not_cif h g l) (not_cif k e m) = ap (λ (n : ℕ). empty_summary t (refuse NotInGrammar n)) (one_length l m)
 summary_unique (not_cif h g l) (read {m} k e) = absurd (g (m, e))
 summary_unique (read h m) (too_long k) = absurd (omega arith)
 summary_unique (read {m} h e) (not_cif k g l) = absurd (g (m, e))

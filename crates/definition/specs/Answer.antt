@@ -9,7 +9,7 @@ use Rattle.definition.specs.declared.Answer.{Answer}
 use Rattle.definition.specs.declared.Refusal.{Refusal}
 use Rattle.definition.specs.Limits.{most_bytes}
 use Rattle.definition.specs.Words.{Placed}
-use Rattle.definition.specs.Rules.{text_too_long, not_in_grammar, flat_file_too_long, refuse}
+use Rattle.definition.specs.Rules.{TextTooLong, NotInGrammar, FlatFileTooLong, refuse}
 use Rattle.definition.specs.Commands.{Command, commands}
 use Rattle.definition.specs.Standing.{outside}
 use Rattle.definition.specs.Faults.{first_fault}
@@ -76,7 +76,7 @@ held_drawing words cs = map (held_to words) (drawing_of cs)
 unfoldable pub fitted : End → List (Placed Command) → List Event → ℕ → Outcome  -- RULES 12, refusal 18: flat file longer than the room or than 16,777,216
 fitted (stopped r chain) cs es room = rejected r chain
 fitted (finished c) cs es room =
-    if leb (length (flat (shapes_of es))) room && leb (length (flat (shapes_of es))) most_bytes then accepted cs c es else rejected (refuse flat_file_too_long 0) []
+    if leb (length (flat (shapes_of es))) room && leb (length (flat (shapes_of es))) most_bytes then accepted cs c es else rejected (refuse FlatFileTooLong 0) []
 
 -- RULES 12, the order: 3 to 9 for all commands, then 10 to 17 in the order of drawing, 25 directly after 10, then 18
 unfoldable pub drawn : Option Refusal → List (Placed Command) → (words room : ℕ) → Outcome
@@ -88,8 +88,8 @@ outcome_of m words room = drawn (first_fault (commands 0 m)) (commands 0 m) word
 
 -- what may come of a text t, so many words and a room of the length said: 1; then 2, which knows grammar only; then what the text's commands say
 pub data Answers (t : List ℕ) (words room : ℕ) : Outcome → Type 0 where
-  too_long : most_bytes < length t → Answers t words room (rejected (refuse text_too_long 0) [])
-  not_cif : {n : ℕ} → length t ≤ most_bytes → (Grammatical t → ⊥) → LongestViable t n → Answers t words room (rejected (refuse not_in_grammar n) [])
+  too_long : most_bytes < length t → Answers t words room (rejected (refuse TextTooLong 0) [])
+  not_cif : {n : ℕ} → length t ≤ most_bytes → (Grammatical t → ⊥) → LongestViable t n → Answers t words room (rejected (refuse NotInGrammar n) [])
   read : {m : List Letter} → length t ≤ most_bytes → Marked t m → Answers t words room (outcome_of m words room)
 
 abbrev pub zeros : List ℤ → List ℤ  -- RULES 1, request 10: the words are all zero afterwards, refused or not

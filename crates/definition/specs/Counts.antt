@@ -3,7 +3,7 @@ use Rattle.std.specs.Prelude.{List, [], ◌∷◌, ℕ, ◌+◌, ltb, if◌then�
 use Rattle.definition.specs.declared.Refusal.{Refusal}
 use Rattle.definition.specs.Limits.{most_calls, most_shapes}
 use Rattle.definition.specs.Words.{none?}
-use Rattle.definition.specs.Rules.{too_many_calls, too_many_shapes, refuse}
+use Rattle.definition.specs.Rules.{TooManyCalls, TooManyShapes, refuse}
 use Rattle.definition.specs.Table.{find}
 use Rattle.definition.specs.Drawing.{Chain, Drawn, Event, called, drew, entered, removed, refused}
 
@@ -21,9 +21,9 @@ pub data End : Type 0 where  -- how it ends: with counts, or by a refusal and th
 
 unfoldable pub counted : Counts → Event → End  -- one event counted. RULES 12, refusals 15 and 17: call 1,048,577 and shape 1,048,577
 counted c (called p chain d) =
-    if ltb c.calls most_calls then finished (counts (c.calls + 1) c.shapes c.redefinitions) else stopped (refuse too_many_calls p) chain
+    if ltb c.calls most_calls then finished (counts (c.calls + 1) c.shapes c.redefinitions) else stopped (refuse TooManyCalls p) chain
 counted c (drew d) =
-    if ltb c.shapes most_shapes then finished (counts c.calls (c.shapes + 1) c.redefinitions) else stopped (refuse too_many_shapes d.place) d.chain
+    if ltb c.shapes most_shapes then finished (counts c.calls (c.shapes + 1) c.redefinitions) else stopped (refuse TooManyShapes d.place) d.chain
 counted c (entered d before) =
     finished (counts c.calls c.shapes (if none? (find d.symbol before) then c.redefinitions else c.redefinitions + 1))
 counted c (removed n before) = finished c

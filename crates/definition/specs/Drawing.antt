@@ -5,7 +5,7 @@ use Rattle.std.proofs.Math.Option.{Option, none, some}
 use Rattle.definition.specs.declared.Refusal.{Refusal}
 use Rattle.definition.specs.Limits.{most_definitions, deepest}
 use Rattle.definition.specs.Words.{Placed, at, any}
-use Rattle.definition.specs.Rules.{Rule, too_many_definitions, off_the_axes, undefined_symbol, being_drawn, too_deep, x_out_of_range, y_out_of_range, refuse}
+use Rattle.definition.specs.Rules.{Rule, TooManyDefinitions, OffTheAxes, UndefinedSymbol, BeingDrawn, TooDeep, XOutOfRange, YOutOfRange, refuse}
 use Rattle.definition.specs.Commands.{Shape, Turn, Command, draw, layer, call, start, finish, delete, nothing}
 use Rattle.definition.specs.Standing.{Standing, after, scaled_shape, scaled_turn}
 use Rattle.definition.specs.Faults.{beyond}
@@ -69,8 +69,8 @@ pub data Event : Type 0 where
 unfoldable pub drawn_shape : Chain → List (Turn ℤ) → ℕ → List ℕ → Shape ℤ → Event
 drawn_shape chain net p l k =
     let m = moved net k in
-    if any (λ q. beyond q.x) m.points then refused (refuse x_out_of_range p) chain
-    else if any (λ q. beyond q.y) m.points then refused (refuse y_out_of_range p) chain
+    if any (λ q. beyond q.x) m.points then refused (refuse XOutOfRange p) chain
+    else if any (λ q. beyond q.y) m.points then refused (refuse YOutOfRange p) chain
     else drew (record { place = p; chain = chain; net = net; layer_of = l; itself = m })
 
 -- RULES 8: a body draws its calls, by the function given, and its shapes, in written order
@@ -89,11 +89,11 @@ pub data Passage : Type 0 where  -- a call is barred by a rule, or it leads to a
 
 -- RULES 12, refusals 11 to 14: an R off the axes; an undefined symbol; a symbol already being drawn; depth 33, where no level is left
 unfoldable pub passage_to : Option Definition → (left : ℕ) → Chain → (symbol : ℕ) → Passage
-passage_to none left chain n = barred undefined_symbol
-passage_to (some d) left chain n = if any (λ c. eqb c.what n) chain then barred being_drawn else if eqb left 0 then barred too_deep else leads d
+passage_to none left chain n = barred UndefinedSymbol
+passage_to (some d) left chain n = if any (λ c. eqb c.what n) chain then barred BeingDrawn else if eqb left 0 then barred TooDeep else leads d
 
 unfoldable pub passage_of : (left : ℕ) → Table → Chain → (symbol : ℕ) → List (Turn ℤ) → Passage
-passage_of left t chain n ts = if off_axes ts then barred off_the_axes else passage_to (find n t) left chain n
+passage_of left t chain n ts = if off_axes ts then barred OffTheAxes else passage_to (find n t) left chain n
 
 unfoldable pub through : Passage → ℕ → Chain → (Definition → List Event) → List Event  -- the refusal, or else what the definition leads to
 through (barred r) p chain go = refused (refuse r p) chain ∷ []
@@ -109,7 +109,7 @@ drawn_call (suc left) t chain net p n ts =
 
 unfoldable pub happens : Table → Deed → List Event  -- 7.1.2.4: what happens at a deed. RULES 12, refusal 10: 513 live definitions
 happens t (output s) = drawn_step (drawn_call deepest t [] []) [] [] s.place s.what
-happens t (define d) = (if ltb most_definitions (length (enter d t)) then refused (refuse too_many_definitions d.place) [] else entered d t) ∷ []
+happens t (define d) = (if ltb most_definitions (length (enter d t)) then refused (refuse TooManyDefinitions d.place) [] else entered d t) ∷ []
 happens t (remove n) = removed n t ∷ []
 
 unfoldable pub table_after : Table → Deed → Table

@@ -2,7 +2,7 @@
 -- lent. The story stays as it is: it is held to the words lent, event by event.
 use Rattle.std.specs.Prelude.{List, [], ◌∷◌, ℕ, ◌+◌, max, ltb, ℤ, length, if◌then◌else◌}
 use Rattle.definition.specs.Words.{Placed}
-use Rattle.definition.specs.Rules.{too_few_words, refuse}
+use Rattle.definition.specs.Rules.{TooFewWords, refuse}
 use Rattle.definition.specs.Commands.{Turn, translate, mirror_x, mirror_y, rotate}
 use Rattle.definition.specs.Table.{Step, shape, instance, setting, Table, enter}
 use Rattle.definition.specs.Flat.{numbers_of_shape}
@@ -33,7 +33,7 @@ words_in t = total (λ d. words_of_body d.body) t
 
 -- refusal 25, exactly when the live bodies after some DF need more words than were lent, directly after 10, at the DS
 unfoldable pub held_to : (words : ℕ) → Event → Event
-held_to words (entered d before) = if ltb words (words_in (enter d before)) then refused (refuse too_few_words d.place) [] else entered d before
+held_to words (entered d before) = if ltb words (words_in (enter d before)) then refused (refuse TooFewWords d.place) [] else entered d before
 held_to words (called p chain d) = called p chain d
 held_to words (drew d) = drew d
 held_to words (removed n before) = removed n before

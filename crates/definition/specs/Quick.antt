@@ -6,8 +6,7 @@ use Rattle.grammar.specs.Notation.{Letter, skip}
 use Rattle.grammar.specs.Tables.{state_count, kind_count, role_unit, stuck, accepting, table, roles, letter}
 use Rattle.grammar.specs.Steps.{kind_of, choose, entered, within}
 use Rattle.grammar.specs.declared.Mode.{Mode}
-use Rattle.grammar.specs.declared.Verdict.{Verdict}
-use Rattle.grammar.specs.declared.Verdict.TheVariants.{InGrammar, StuckAt}
+use Rattle.std.specs.Prelude.{Err, Ok, Result}
 
 -- more than any entry of the table
 abbrev pub entry_unit : ℕ
@@ -38,16 +37,16 @@ marking_by rows q d (a ∷ w) =
     let p = mode_by q d k e in
     choose (eqb p.state stuck) [] (letter a (get_or roles (choose (eqb d 0) (e / role_unit) 0) skip) ∷ marking_by rows p.state p.depth w)
 
-unfoldable pub verdict_by : List ℕ → ℕ → ℕ → ℕ → List ℕ → Verdict
-verdict_by rows q d n [] = choose (eqb q accepting && eqb d 0) InGrammar (StuckAt n)
+unfoldable pub verdict_by : List ℕ → ℕ → ℕ → ℕ → List ℕ → Result Unit ℕ
+verdict_by rows q d n [] = choose (eqb q accepting && eqb d 0) (Ok tt) (Err n)
 verdict_by rows q d n (a ∷ w) =
     let k = kind_of a in
     let p = mode_by q d k (entry_in rows q k) in
-    choose (eqb p.state stuck) (StuckAt n) (verdict_by rows p.state p.depth (n + 1) w)
+    choose (eqb p.state stuck) (Err n) (verdict_by rows p.state p.depth (n + 1) w)
 
 -- the letters of a text, and the verdict on it
 unfoldable pub quick_letters : List ℕ → List Letter
 quick_letters t = marking_by (packed_rows state_count table) 0 0 t
 
-unfoldable pub quick_verdict : List ℕ → Verdict
+unfoldable pub quick_verdict : List ℕ → Result Unit ℕ
 quick_verdict t = verdict_by (packed_rows state_count table) 0 0 0 t

@@ -8,7 +8,7 @@ use Rattle.definition.specs.declared.Answer.{Answer}
 use Rattle.definition.specs.declared.Refusal.{Refusal}
 use Rattle.definition.specs.Limits.{most_bytes}
 use Rattle.definition.specs.Words.{Placed}
-use Rattle.definition.specs.Rules.{text_too_long, not_in_grammar, too_few_records, refuse}
+use Rattle.definition.specs.Rules.{TextTooLong, NotInGrammar, TooFewRecords, refuse}
 use Rattle.definition.specs.Commands.{Command, commands}
 use Rattle.definition.specs.Faults.{first_fault}
 use Rattle.definition.specs.Drawing.{Event, called, drew, entered, removed, refused}
@@ -18,7 +18,7 @@ use Rattle.definition.specs.Answer.{Outcome, rejected, given_back, room_after, d
 -- refusal 21, with its chain, at the first call that needs one record more than lent: a call where d calls are open needs d + 1. It comes directly after 14,
 -- which the story has, and before 15, which the counting finds
 unfoldable pub stacked_to : (records : ℕ) → Event → Event
-stacked_to records (called p chain d) = if leb records (length chain) then refused (refuse too_few_records p) chain else called p chain d
+stacked_to records (called p chain d) = if leb records (length chain) then refused (refuse TooFewRecords p) chain else called p chain d
 stacked_to records (drew d) = drew d
 stacked_to records (entered d before) = entered d before
 stacked_to records (removed n before) = removed n before
@@ -36,8 +36,8 @@ outcome_with m words records room = drawn_with (first_fault (commands 0 m)) (com
 
 -- what may come of a text with so many words and records and a room of the length said, as `Answers` has it without records
 pub data AnswersWith (t : List ℕ) (words records room : ℕ) : Outcome → Type 0 where
-  too_long : most_bytes < length t → AnswersWith t words records room (rejected (refuse text_too_long 0) [])
-  not_cif : {n : ℕ} → length t ≤ most_bytes → (Grammatical t → ⊥) → LongestViable t n → AnswersWith t words records room (rejected (refuse not_in_grammar n) [])
+  too_long : most_bytes < length t → AnswersWith t words records room (rejected (refuse TextTooLong 0) [])
+  not_cif : {n : ℕ} → length t ≤ most_bytes → (Grammatical t → ⊥) → LongestViable t n → AnswersWith t words records room (rejected (refuse NotInGrammar n) [])
   read : {m : List Letter} → length t ≤ most_bytes → Marked t m → AnswersWith t words records room (outcome_with m words records room)
 
 -- the contract of an engine that is lent records, of any kind with a zero, gives back r of the text t, and leaves words, room and records so: the records are

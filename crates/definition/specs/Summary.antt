@@ -9,7 +9,7 @@ use Rattle.definition.specs.declared.Refusal.{Refusal}
 use Rattle.definition.specs.declared.Summary.{Summary}
 use Rattle.definition.specs.Limits.{most_bytes, most_layers, deepest}
 use Rattle.definition.specs.Words.{Placed, at, any, those, first, same}
-use Rattle.definition.specs.Rules.{Rule, text_too_long, not_in_grammar, too_many_layers, number_of, refuse}
+use Rattle.definition.specs.Rules.{Rule, TextTooLong, NotInGrammar, TooManyLayers, number_of, refuse}
 use Rattle.definition.specs.Commands.{Command, draw, layer, call, start, finish, delete, nothing, commands}
 use Rattle.definition.specs.Standing.{outside}
 use Rattle.definition.specs.Faults.{first_fault}
@@ -48,7 +48,7 @@ too_many_from ns [] = none
 too_many_from ns (c ∷ cs) =
     let more = names_after ns c.what in
     let later = too_many_from more cs in
-    if ltb most_layers (length more) then some (refuse too_many_layers c.place) else later
+    if ltb most_layers (length more) then some (refuse TooManyLayers c.place) else later
 
 -- among 3 to 9 in text order: an L command has none of these, so of two refusals the one with the lower place comes first
 unfoldable pub sooner : Option Refusal → Option Refusal → Option Refusal
@@ -196,8 +196,8 @@ summary_of t m words n = summary_from t (first_fault_or_name (commands 0 m)) (co
 
 -- what may be told of a text t, so many words and a symbol number: 1; then 2; then what the text's commands say
 pub data Summarises (t : List ℕ) (words symbol : ℕ) : Summary → Type 0 where
-  too_long : most_bytes < length t → Summarises t words symbol (empty_summary t (refuse text_too_long 0))
-  not_cif : {n : ℕ} → length t ≤ most_bytes → (Grammatical t → ⊥) → LongestViable t n → Summarises t words symbol (empty_summary t (refuse not_in_grammar n))
+  too_long : most_bytes < length t → Summarises t words symbol (empty_summary t (refuse TextTooLong 0))
+  not_cif : {n : ℕ} → length t ≤ most_bytes → (Grammatical t → ⊥) → LongestViable t n → Summarises t words symbol (empty_summary t (refuse NotInGrammar n))
   read : {m : List Letter} → length t ≤ most_bytes → Marked t m → Summarises t words symbol (summary_of t m words symbol)
 
 -- the contract of a function that tells the summary r, and leaves the words so

@@ -8,7 +8,7 @@ use Rattle.definition.specs.declared.Refusal.{Refusal}
 use Rattle.definition.specs.declared.Why.{Why}
 use Rattle.definition.specs.Limits.{most_bytes}
 use Rattle.definition.specs.Words.{Placed, Point, point, first}
-use Rattle.definition.specs.Rules.{text_too_long, not_in_grammar, no_such_shape, refuse}
+use Rattle.definition.specs.Rules.{TextTooLong, NotInGrammar, NoSuchShape, refuse}
 use Rattle.definition.specs.Commands.{Turn, Command, commands}
 use Rattle.definition.specs.Faults.{first_fault}
 use Rattle.definition.specs.Turns.{act, aim, in_order}
@@ -26,7 +26,7 @@ pub data Reason : Type 0 where  -- why a shape is here is told of it as it is dr
   refuses : Refusal → Chain → Reason
 
 unfoldable pub reason_found : Option Drawn → Reason  -- RULES 12, refusal 26, at place 0: count 0, or a count above the shapes
-reason_found none = refuses (refuse no_such_shape 0) []
+reason_found none = refuses (refuse NoSuchShape 0) []
 reason_found (some d) = because d
 
 unfoldable pub reason_at : End → List Event → (count : ℕ) → Reason
@@ -43,8 +43,8 @@ reason_of m words n = reason_from (first_fault (commands 0 m)) (commands 0 m) wo
 
 -- what may come of a text t, so many words and a count, as `Answers` has it of a text, words and a room
 pub data WhyAnswers (t : List ℕ) (words count : ℕ) : Reason → Type 0 where
-  too_long : most_bytes < length t → WhyAnswers t words count (refuses (refuse text_too_long 0) [])
-  not_cif : {n : ℕ} → length t ≤ most_bytes → (Grammatical t → ⊥) → LongestViable t n → WhyAnswers t words count (refuses (refuse not_in_grammar n) [])
+  too_long : most_bytes < length t → WhyAnswers t words count (refuses (refuse TextTooLong 0) [])
+  not_cif : {n : ℕ} → length t ≤ most_bytes → (Grammatical t → ⊥) → LongestViable t n → WhyAnswers t words count (refuses (refuse NotInGrammar n) [])
   read : {m : List Letter} → length t ≤ most_bytes → Marked t m → WhyAnswers t words count (reason_of m words count)
 
 -- a list of transformations sends (x, y) to (a x + b y + tx, c x + d y + ty): where the directions along x and along y go, and where the origin goes

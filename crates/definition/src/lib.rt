@@ -4,6 +4,9 @@
 // The farthest from zero that a number may be (RULES 12, refusals 3, 6, 16 and 20).
 #![tactic(auto)]
 
+ghost use Rattle.std.specs.Prelude.{◌≡◌};
+ghost use Rattle.definition.specs.Rules.{number_of};
+
 pub const LARGEST: usize = 16_777_215;
 // The longest text and the longest flat file (1 and 18).
 pub const MOST_BYTES: usize = 16_777_216;
@@ -22,10 +25,44 @@ pub const MOST_SHAPES: usize = 1_048_576;
 // The most layer names of a text whose symbols are summed up (19).
 pub const MOST_LAYERS: usize = 64;
 
-// A refusal: its number in the table of RULES 12, and its place.
+// The rules that a text can break, by name (RULES 12). specs/Rules.antt has the order in which they are looked at.
+#[derive(Clone, Copy, PartialEq, Eq)]
+pub enum Rule {
+    TextTooLong = 1,
+    NotInGrammar = 2,
+    NumberTooLarge = 3,
+    ZeroFactor = 4,
+    ScaledTooLarge = 6,
+    DegenerateCommand = 7,
+    NoLayer = 8,
+    TooManyParts = 9,
+    TooManyLayers = 19,
+    TooManyDefinitions = 10,
+    TooFewWords = 25,
+    OffTheAxes = 11,
+    UndefinedSymbol = 12,
+    BeingDrawn = 13,
+    TooDeep = 14,
+    TooFewRecords = 21,
+    TooManyCalls = 15,
+    XOutOfRange = 16,
+    YOutOfRange = 20,
+    TooManyShapes = 17,
+    FlatFileTooLong = 18,
+    NoSuchShape = 26,
+}
+
+// A rule's number in the table of RULES 12, as answers tell it.
+pub fn number_of(rule: Rule) -> usize
+    ensures { result ≡ number_of rule }
+{
+    rule as usize
+}
+
+// A refusal: the rule that is broken, and its place.
 #[derive(Clone, Copy)]
 pub struct Refusal {
-    pub number: usize,
+    pub rule: Rule,
     pub place: usize,
 }
 

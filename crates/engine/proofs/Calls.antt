@@ -15,22 +15,19 @@ use Rattle.definition.specs.Counts.{shapes_of}
 use Rattle.definition.specs.declared.Refusal.{Refusal}
 use Rattle.counts.specs.declared.Counts.{Counts}
 use Rattle.shapes.specs.declared.Ink.{Ink}
-use Rattle.shapes.specs.declared.Drawn.{Drawn}
-use Rattle.shapes.specs.declared.Drawn.TheVariants.{Refused}
 use Rattle.shapes.specs.Painting.{inked, Reached, Painted}
 use Rattle.shapes.proofs.Painting.{quiet, refusal, next_drawn}
 use Rattle.library.specs.Memory.{steps_in, definition_at, table_of, start_at, length_at}
 use Rattle.library.specs.Sound.{Sound, Stocked}
-use Rattle.library.specs.declared.Found.TheVariants.{Live}
 use Rattle.library.proofs.Looking.{found}
 use Rattle.chain.specs.Chain.{open_calls, Kept, Pushed}
 use Rattle.chain.proofs.Runs.{kept-lower, kept-both}
 use Rattle.opening.specs.declared.Call.{Call}
-use Rattle.opening.specs.declared.Opened.{Opened}
-use Rattle.opening.specs.declared.Opened.TheVariants as opened
 use Rattle.opening.specs.Opening.{Descent, Opens}
 use Rattle.opening.proofs.Opening.{called-first, counted-few}
 use Rattle.engine.specs.Draws.{open_at, Ready, BodyAt, Draws, CallDraws}
+use Rattle.std.specs.Prelude.{Err, Ok, Result, Some}
+use Rattle.opening.specs.declared.Entered.{Entered}
 
 -- ---- one level down
 
@@ -75,31 +72,31 @@ module _ (t : Table) (chain : Chain) (net : List (Turn ℤ)) (call : Call) (ts :
 -- ---- what is answered
 
 module _ (rows : List ℕ) (live : ℕ) (drawing : List ℕ) (left : ℕ) (call : Call) (ink : Ink) where
-  abbrev OpensHere : Opened → Type 0
+  abbrev OpensHere : Result Entered Refusal → Type 0
   OpensHere o = Opens rows live (open_at drawing left) left call ink.counts o
 
   abbrev Led : ℕ → Counts → Type 0
   Led row more = Descent rows live (open_at drawing left) left call ink.counts row more
 
-  pub call-stopped : {o : Opened} → OpensHere o → {why : Refusal} → o ≡ opened.Refused why → {told : Chain} → told ≡ open_at drawing left
-      → (b : List ℤ) (room : List ℕ) → CallDraws rows b live drawing call left ink room told (Refused why) room
+  pub call-stopped : {o : Result Entered Refusal} → OpensHere o → {why : Refusal} → o ≡ Err why → {told : Chain} → told ≡ open_at drawing left
+      → (b : List ℤ) (room : List ℕ) → CallDraws rows b live drawing call left ink room told (Err why) room
   unfolding Opens
   call-stopped x {why} e stop b room outer ts askew carries =
       let t = table_of rows b live in
       let chain = open_at drawing left in
-      let s = subst (λ (o : Opened). OpensHere o) e x b ts askew (further t chain outer call ts left) in
-      subst (λ (o : Chain). Painted ink (drawn_call left t chain outer call.place call.symbol ts) room o (Refused why) room) (sym stop)
-      (subst (λ (es : List Event). Painted ink es room chain (Refused why) room) (sym (call_is t chain outer call ts left ∙ s.are))
+      let s = subst (λ (o : Result Entered Refusal). OpensHere o) e x b ts askew (further t chain outer call ts left) in
+      subst (λ (o : Chain). Painted ink (drawn_call left t chain outer call.place call.symbol ts) room o (Err why) room) (sym stop)
+      (subst (λ (es : List Event). Painted ink es room chain (Err why) room) (sym (call_is t chain outer call ts left ∙ s.are))
       (refusal ink s.event s.rest room why chain s.stops))
 
   -- where `open_call` lets a call through
-  pub answered_descent : {o : Opened} {row : ℕ} {more : Counts} → OpensHere o → o ≡ opened.Descends row more → Led row more
+  pub answered_descent : {o : Result Entered Refusal} {row : ℕ} {more : Counts} → OpensHere o → o ≡ Ok (record { row = row; counts = more }) → Led row more
   unfolding Opens
-  answered_descent x e = subst (λ (o : Opened). OpensHere o) e x
+  answered_descent x e = subst (λ (o : Result Entered Refusal). OpensHere o) e x
 
   module _ {row : ℕ} {more : Counts} (led : Led row more) where
     pub row_live : row < live
-    row_live = (found rows [] call.symbol live (Live row) row led.finds refl).0
+    row_live = (found rows [] call.symbol live (Some row) row led.finds refl).0
 
     -- counts that a call is one of are such as the drawing can come to
     pub descent_reached : Reached ink → Reached (inked more ink.pen)
@@ -132,7 +129,7 @@ module _ (rows : List ℕ) (live : ℕ) (drawing : List ℕ) (left : ℕ) (call 
 
     -- a call that is counted draws what its body draws
     pub body-drawn : left ≤ 32 → Reached ink → {pushed : List ℕ} → Pushed (32 - left) call.place call.symbol drawing pushed
-        → (b : List ℤ) {from size : ℕ} {room : List ℕ} {told : Chain} {r : Drawn} {room' : List ℕ} → from ≡ start_at rows row → size ≡ length_at rows row
+        → (b : List ℤ) {from size : ℕ} {room : List ℕ} {told : Chain} {r : Result Ink Refusal} {room' : List ℕ} → from ≡ start_at rows row → size ≡ length_at rows row
         → Draws rows b live pushed call.net (left - 1) from (from + size) (inked more ink.pen) room told r room'
         → CallDraws rows b live drawing call left ink room told r room'
     body-drawn h reach {pushed} push b {from} {size} {room} {told} {r} {room'} e f drawn outer ts askew carries =

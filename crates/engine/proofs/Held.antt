@@ -10,15 +10,16 @@ use Rattle.definition.specs.Drawing.{output, happens}
 use Rattle.laws.proofs.Story.Lean.{Alike, alike_output}
 use Rattle.names.specs.Names.{name_of}
 use Rattle.shapes.specs.declared.Ink.{Ink}
-use Rattle.shapes.specs.declared.Drawn.{Drawn}
 use Rattle.shapes.specs.Painting.{Painted}
 use Rattle.shapes.proofs.Alike.{alike_painted}
 use Rattle.chain.specs.Chain.{chain_in}
 use Rattle.library.specs.Holds.{Holds}
 use Rattle.library.proofs.Holding.{held-table}
 use Rattle.engine.specs.Outer.{Says, OuterDraws}
+use Rattle.std.specs.Prelude.{Result}
+use Rattle.definition.specs.declared.Refusal.{Refusal}
 
-pub outer-held : {rows : List ℕ} {b : List ℤ} {live : ℕ} {t : Table} → Holds rows b live t → {words : List ℤ} {kind end : ℕ} (place layer : ℕ) {ink : Ink} {room : List ℕ} (drawing' : List ℕ) {r : Drawn} {room' : List ℕ}
+pub outer-held : {rows : List ℕ} {b : List ℤ} {live : ℕ} {t : Table} → Holds rows b live t → {words : List ℤ} {kind end : ℕ} (place layer : ℕ) {ink : Ink} {room : List ℕ} (drawing' : List ℕ) {r : Result Ink Refusal} {room' : List ℕ}
     → OuterDraws rows b live words kind place end layer ink room drawing' r room'
     → (s : Step) → Says words kind end (name_of layer) s → Painted ink (happens t (output (at place s))) room (chain_in drawing') r room'
 outer-held {t = t} h place layer {ink} drawing' x s k =

@@ -13,7 +13,6 @@ use Rattle.turns.specs.Nets.{Carries}
 use Rattle.names.specs.Names.{name_of}
 use Rattle.moves.specs.Moves.{most_values, ShapedAt}
 use Rattle.shapes.specs.declared.Ink.{Ink}
-use Rattle.shapes.specs.declared.Drawn.{Drawn}
 use Rattle.shapes.specs.Painting.{Painted, ShapeDraws}
 use Rattle.library.specs.Memory.{call_letter, table_of}
 use Rattle.chain.specs.Chain.{open_calls, chain_in, Stopped}
@@ -23,6 +22,8 @@ use Rattle.opening.specs.Calls.{CalledAt, ReadsCall}
 use Rattle.engine.specs.Draws.{Ready, CallDraws}
 use Rattle.engine.specs.Outer.{Says, a_shape, a_call, OuterDraws}
 use Rattle.engine.proofs.Taking.{no_kind}
+use Rattle.std.specs.Prelude.{Result}
+use Rattle.definition.specs.declared.Refusal.{Refusal}
 
 -- what is ready for the outermost call is so with fewer levels left
 pub ready_at : {rows : List ℕ} {b : List ℤ} {live : ℕ} {numbers : List ℤ} {drawing : List ℕ} {outermost : ℕ} {ink : Ink} → Ready rows b live numbers drawing outermost ink
@@ -44,7 +45,7 @@ module _ {words : List ℤ} {kind end : ℕ} where
   pub shape-fits : ShapedAt words kind end → {n : ℕ} → most_values + 2 ≤ n → end ≤ n
   shape-fits h le = omega (arith, h.ends, h.few)
 
-  module _ (rows : List ℕ) (b : List ℤ) (live layer place : ℕ) {still : Net} {ink : Ink} {room room' : List ℕ} {r : Drawn} (fixed : Carries [] still) (drawing drawing' : List ℕ) where
+  module _ (rows : List ℕ) (b : List ℤ) (live layer place : ℕ) {still : Net} {ink : Ink} {room room' : List ℕ} {r : Result Ink Refusal} (fixed : Carries [] still) (drawing drawing' : List ℕ) where
     pub call-painted : kind ≡ call_letter → {call : Call} → ((h : CalledAt words end) → ReadsCall h.symbol h.turns still place call)
         → CallDraws rows b live drawing call 32 ink room (chain_in drawing') r room' → OuterDraws rows b live words kind place end layer ink room drawing' r room'
     unfolding happens drawn_step open_calls

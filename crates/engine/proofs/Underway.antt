@@ -19,8 +19,6 @@ use Rattle.names.specs.Names.{name_of, packed}
 use Rattle.pen.proofs.Names.{no_name}
 use Rattle.moves.specs.Moves.{ShapedAt}
 use Rattle.shapes.specs.declared.Ink.{Ink}
-use Rattle.shapes.specs.declared.Drawn.{Drawn}
-use Rattle.shapes.specs.declared.Drawn.TheVariants.{Done, Refused}
 use Rattle.shapes.specs.Painting.{Reached, Painted, ShapeDraws}
 use Rattle.shapes.proofs.Painting.{PaintedSoFar, begun, goes_on, skips, stops, over, so_far, room-kept}
 use Rattle.library.specs.Memory.{call_letter, layer_letter, words_at, layer_after, steps_in, table_of}
@@ -35,6 +33,7 @@ use Rattle.opening.specs.Calls.{CalledAt, ReadsCall}
 use Rattle.engine.specs.Draws.{open_at, Ready, BodyAt, Draws, CallDraws}
 use Rattle.opening.proofs.Witnesses.{some_list}
 use Rattle.engine.proofs.Taking.{Met, meets, two_words, layer_is, call_is, call_words, shape_is, shape_words}
+use Rattle.std.specs.Prelude.{Err, Ok, Result}
 
 pub record Underway (rows : List ℕ) (b : List ℤ) (live : ℕ) (net : Net) (left from end : ℕ) (ink₀ : Ink) (numbers₀ : List ℤ) (drawing₀ room₀ : List ℕ)
     (numbers : List ℤ) (drawing room : List ℕ) (here layer : ℕ) (ink : Ink) : Type 0 where
@@ -92,7 +91,7 @@ none_left (s ∷ ss) e = absurd (let z = ap length e in omega (arith, z))
 module _ {rows : List ℕ} {b : List ℤ} {live : ℕ} {net : Net} {left from end : ℕ} {ink₀ : Ink} {numbers₀ : List ℤ} {drawing₀ room₀ : List ℕ}
     {numbers : List ℤ} {drawing room : List ℕ} {here l : ℕ} {ink : Ink}
     (w : Underway rows b live net left from end ink₀ numbers₀ drawing₀ room₀ numbers drawing room here l ink) where
-  abbrev Answers : Chain → Drawn → List ℕ → Type 0
+  abbrev Answers : Chain → Result Ink Refusal → List ℕ → Type 0
   Answers told r room' = Draws rows b live drawing₀ net left from end ink₀ room₀ told r room'
 
   abbrev chain : Chain
@@ -124,7 +123,7 @@ module _ {rows : List ℕ} {b : List ℤ} {live : ℕ} {net : Net} {left from en
   }
 
   -- nothing is left
-  pub was_all : end ≤ here → {told : Chain} → Answers told (Done ink) room
+  pub was_all : end ≤ here → {told : Chain} → Answers told (Ok ink) room
   was_all z outer h =
       let f = drawn_call left table chain outer in
       let n : end - here ≡ 0 = omega arith in
@@ -183,13 +182,13 @@ module _ {rows : List ℕ} {b : List ℤ} {live : ℕ} {net : Net} {left from en
       pub shape_asked : ShapedAt (take (h.next - here) (drop here b)) h.kind (h.next - here)
       shape_asked = shape_words m fits e f
 
-      module _ {room' : List ℕ} {d : Drawn}
+      module _ {room' : List ℕ} {d : Result Ink Refusal}
           (drawn : ShapeDraws (take (h.next - here) (drop here b)) h.kind (h.next - here) net l h.place ink room d room') where
         abbrev figure : Shape ℤ
         figure = (shape_is m fits e f).0
 
-        painted : (outer : List (Turn ℤ)) → Carries outer net → {y : Drawn} → d ≡ y → Painted ink (drawn_shape chain outer h.place (name_of l) figure ∷ []) room chain y room'
-        painted outer k q = subst (λ (y : Drawn). Painted ink (drawn_shape chain outer h.place (name_of l) figure ∷ []) room chain y room') q (drawn (shape_words m fits e f) chain outer k)
+        painted : (outer : List (Turn ℤ)) → Carries outer net → {y : Result Ink Refusal} → d ≡ y → Painted ink (drawn_shape chain outer h.place (name_of l) figure ∷ []) room chain y room'
+        painted outer k q = subst (λ (y : Result Ink Refusal). Painted ink (drawn_shape chain outer h.place (name_of l) figure ∷ []) room chain y room') q (drawn (shape_words m fits e f) chain outer k)
 
         shape-next : (outer : List (Turn ℤ)) → drawn_body (drawn_call left table chain outer) chain outer w.steps
             ≡ (drawn_shape chain outer h.place (name_of l) figure ∷ []) ++ drawn_body (drawn_call left table chain outer) chain outer m.rest
@@ -197,15 +196,15 @@ module _ {rows : List ℕ} {b : List ℤ} {live : ℕ} {net : Net} {left from en
             let g = drawn_call left table chain outer in
             left_is g outer (shape_is m fits e f).1 ∙ shape-left g chain outer h.place (name_of l) figure m.rest
 
-        pub was_shape : {numbers' : List ℤ} {ink' : Ink} → d ≡ Done ink' → length numbers' ≡ length numbers → Next numbers' drawing room' l ink'
+        pub was_shape : {numbers' : List ℤ} {ink' : Ink} → d ≡ Ok ink' → length numbers' ≡ length numbers → Next numbers' drawing room' l ink'
         was_shape q n =
             onward (sym (ap (λ (x : Step). layer_after x (name_of l)) (shape_is m fits e f).1))
             (λ outer k. goes_on (w.along outer k) (drawn_shape chain outer h.place (name_of l) figure ∷ []) _ (shape-next outer) (painted outer k q))
             n refl untouched
 
-        pub shape-refused : {told : Chain} → told ≡ open_at drawing left → {why : Refusal} → d ≡ Refused why → Answers told (Refused why) room'
+        pub shape-refused : {told : Chain} → told ≡ open_at drawing left → {why : Refusal} → d ≡ Err why → Answers told (Err why) room'
         shape-refused stop {why} q outer k =
-            subst (λ (o : Chain). Painted ink₀ (drawn_body (drawn_call left table chain outer) chain outer (steps_in b from (end - from))) room₀ o (Refused why) room') (sym (stop ∙ same_open))
+            subst (λ (o : Chain). Painted ink₀ (drawn_body (drawn_call left table chain outer) chain outer (steps_in b from (end - from))) room₀ o (Err why) room') (sym (stop ∙ same_open))
             (stops (w.along outer k) (drawn_shape chain outer h.place (name_of l) figure ∷ []) _ (shape-next outer) (painted outer k q))
 
     -- a call
@@ -226,16 +225,16 @@ module _ {rows : List ℕ} {b : List ℤ} {live : ℕ} {net : Net} {left from en
         pub call-near : left ≤ 32 → Near ((32 - left) * 2 ^ 36) net → Near ((33 - left) * 2 ^ 36) read.net
         call-near le k = near-more (omega arith) (it_reads.near ((32 - left) * 2 ^ 36) k)
 
-        module _ {room' : List ℕ} {told : Chain} {d : Drawn} (drawn : CallDraws rows b live drawing read left ink room told d room') where
-          abbrev Called : Chain → (place symbol : ℕ) → List (Turn ℤ) → Drawn → Type 0
+        module _ {room' : List ℕ} {told : Chain} {d : Result Ink Refusal} (drawn : CallDraws rows b live drawing read left ink room told d room') where
+          abbrev Called : Chain → (place symbol : ℕ) → List (Turn ℤ) → Result Ink Refusal → Type 0
           Called o place symbol outer y = Painted ink (drawn_call left table o outer place symbol own) room told y room'
 
-          called : (outer : List (Turn ℤ)) → Carries outer net → {y : Drawn} → d ≡ y → Called chain h.place number outer y
+          called : (outer : List (Turn ℤ)) → Carries outer net → {y : Result Ink Refusal} → d ≡ y → Called chain h.place number outer y
           called outer k {y} q =
               subst (λ (p : ℕ). Called chain p number outer y) it_reads.at_place
               (subst (λ (i : ℕ). Called chain read.place i outer y) it_reads.symbol
               (subst (λ (o : Chain). Called o read.place read.symbol outer y) same_open
-              (subst (λ (y : Drawn). Called (open_at drawing left) read.place read.symbol outer y) q (drawn outer own it_reads.askew (it_reads.carries outer k)))))
+              (subst (λ (y : Result Ink Refusal). Called (open_at drawing left) read.place read.symbol outer y) q (drawn outer own it_reads.askew (it_reads.carries outer k)))))
 
           call_next : (outer : List (Turn ℤ)) → drawn_body (drawn_call left table chain outer) chain outer w.steps
               ≡ drawn_call left table chain outer h.place number own ++ drawn_body (drawn_call left table chain outer) chain outer m.rest
@@ -243,12 +242,12 @@ module _ {rows : List ℕ} {b : List ℤ} {live : ℕ} {net : Net} {left from en
               let g = drawn_call left table chain outer in
               left_is g outer (call_is m fits e).2 ∙ call-left g chain outer h.place number own m.rest
 
-          pub was_call : {numbers' : List ℤ} {drawing' : List ℕ} {ink' : Ink} → d ≡ Done ink' → length numbers' ≡ length numbers → length drawing' ≡ length drawing
+          pub was_call : {numbers' : List ℤ} {drawing' : List ℕ} {ink' : Ink} → d ≡ Ok ink' → length numbers' ≡ length numbers → length drawing' ≡ length drawing
               → Kept (32 - left) drawing drawing' → Next numbers' drawing' room' l ink'
           was_call q n₁ n₂ n₃ =
               onward (sym (ap (λ (x : Step). layer_after x (name_of l)) (call_is m fits e).2))
               (λ outer k. goes_on (w.along outer k) (drawn_call left table chain outer h.place number own) _ (call_next outer) (called outer k q))
               n₁ n₂ n₃
 
-          pub call-refused : {why : Refusal} → d ≡ Refused why → Answers told (Refused why) room'
+          pub call-refused : {why : Refusal} → d ≡ Err why → Answers told (Err why) room'
           call-refused q outer k = stops (w.along outer k) (drawn_call left table chain outer h.place number own) _ (call_next outer) (called outer k q)

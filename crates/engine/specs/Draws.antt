@@ -10,13 +10,14 @@ use Rattle.turns.specs.declared.Net.{Net}
 use Rattle.turns.specs.Nets.{Carries}
 use Rattle.moves.specs.Moves.{most_values}
 use Rattle.shapes.specs.declared.Ink.{Ink}
-use Rattle.shapes.specs.declared.Drawn.{Drawn}
 use Rattle.shapes.specs.Painting.{Reached, Painted}
 use Rattle.library.specs.Memory.{steps_in, table_of, most_words}
 use Rattle.library.specs.Sound.{Sound, Stocked}
 use Rattle.library.specs.Rows.{Sorted}
 use Rattle.chain.specs.Chain.{run_length, open_calls}
 use Rattle.opening.specs.declared.Call.{Call}
+use Rattle.std.specs.Prelude.{Result}
+use Rattle.definition.specs.declared.Refusal.{Refusal}
 
 -- the calls that are open where so many levels are left
 abbrev pub open_at : List ℕ → (left : ℕ) → Chain
@@ -38,13 +39,13 @@ pub record BodyAt (b : List ℤ) (from end : ℕ) : Type 0 where
   pub sound : Sound b from (end - from)
 
 -- the contract of `draw_body`
-abbrev pub Draws : (rows : List ℕ) (b : List ℤ) (live : ℕ) (drawing : List ℕ) (net : Net) (left from end : ℕ) → Ink → List ℕ → (told : Chain) → Drawn → List ℕ → Type 0
+abbrev pub Draws : (rows : List ℕ) (b : List ℤ) (live : ℕ) (drawing : List ℕ) (net : Net) (left from end : ℕ) → Ink → List ℕ → (told : Chain) → Result Ink Refusal → List ℕ → Type 0
 Draws rows b live drawing net left from end ink room told r room' =
     (outer : List (Turn ℤ)) → Carries outer net
     → Painted ink (drawn_body (drawn_call left (table_of rows b live) (open_at drawing left) outer) (open_at drawing left) outer (steps_in b from (end - from))) room told r room'
 
 -- of `draw_call`: the call's own list acts before those of the open calls
-abbrev pub CallDraws : (rows : List ℕ) (b : List ℤ) (live : ℕ) (drawing : List ℕ) (call : Call) (left : ℕ) → Ink → List ℕ → (told : Chain) → Drawn → List ℕ → Type 0
+abbrev pub CallDraws : (rows : List ℕ) (b : List ℤ) (live : ℕ) (drawing : List ℕ) (call : Call) (left : ℕ) → Ink → List ℕ → (told : Chain) → Result Ink Refusal → List ℕ → Type 0
 CallDraws rows b live drawing call left ink room told r room' =
     (outer ts : List (Turn ℤ)) → call.askew ≡ off_axes ts → Carries (ts ++ outer) call.net
     → Painted ink (drawn_call left (table_of rows b live) (open_at drawing left) outer call.place call.symbol ts) room told r room'

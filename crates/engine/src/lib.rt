@@ -14,7 +14,8 @@ ghost use Rattle.engine.specs.Heads.{head_in};
 ghost use Rattle.engine.specs.Draws.{Ready, BodyAt, Draws, CallDraws};
 ghost use Rattle.engine.specs.Outer.{Says, OuterDraws};
 
-use shapes::{Drawn, Ink};
+use definition::Refusal;
+use shapes::Ink;
 
 // A command in the run: its kind, its place, and where the next begins.
 #[derive(Clone, Copy)]
@@ -57,22 +58,24 @@ fn draw_call(
     call: opening::Call,
     left: usize,
     ink: Ink,
-) -> Drawn
+) -> Result<Ink, Refusal>
     requires { Ready rows.now bodies.now live numbers.old drawing.old left ink × Near ((33 - left) * 2 ^ 36) call.net }
     ensures call_draws { CallDraws rows.now bodies.now live drawing.old call left ink room.old (chain_in drawing.new) result room.new }
     ensures kept { Kept (deepest - left) drawing.old drawing.new }
 {
     match opening::open_call(rows, live, drawing, left, call, ink.counts) {
-        opening::Opened::Refused(refusal) => {
+        Err(refusal) => {
             chain::stop(drawing, definition::DEEPEST - left);
-            return Drawn::Refused(refusal);
+            return Err(refusal);
         }
-        opening::Opened::Descends(row, counts) => {
+        Ok(entered) => {
             chain::push(drawing, definition::DEEPEST - left, call.place, call.symbol);
-            let from = library::start_at(rows, row);
-            let end = from + library::length_at(rows, row);
-            let pen = ink.pen;
-            let more = Ink { counts, pen };
+            let from = library::start_at(rows, entered.row);
+            let end = from + library::length_at(rows, entered.row);
+            let more = Ink {
+                counts: entered.counts,
+                pen: ink.pen,
+            };
             draw_body(
                 bodies,
                 rows,
@@ -104,7 +107,7 @@ fn draw_body(
     from: usize,
     end: usize,
     before: Ink,
-) -> Drawn
+) -> Result<Ink, Refusal>
     requires { Ready rows.now bodies.now live numbers.old drawing.old left before × Near ((deepest - left) * 2 ^ 36) net × BodyAt bodies.now from end }
     ensures draws { Draws rows.now bodies.now live drawing.old net left from end before room.old (chain_in drawing.new) result room.new }
     ensures kept { Kept (deepest - left) drawing.old drawing.new }
@@ -123,14 +126,7 @@ fn draw_body(
             layer = name_at(bodies, here + 2);
         } else if kind == b'C' {
             let call = opening::read_call(&bodies[here..next], next - here, net, place);
-            match draw_call(bodies, rows, live, numbers, drawing, room, call, left, ink) {
-                Drawn::Done(called) => {
-                    ink = called;
-                }
-                Drawn::Refused(refusal) => {
-                    return Drawn::Refused(refusal);
-                }
-            }
+            ink = draw_call(bodies, rows, live, numbers, drawing, room, call, left, ink)?;
         } else {
             match shapes::draw_shape(
                 &bodies[here..next],
@@ -143,18 +139,18 @@ fn draw_body(
                 place,
                 ink,
             ) {
-                Drawn::Done(shown) => {
+                Ok(shown) => {
                     ink = shown;
                 }
-                Drawn::Refused(refusal) => {
+                Err(refusal) => {
                     let level = definition::DEEPEST - left;
                     chain::stop(drawing, level);
-                    return Drawn::Refused(refusal);
+                    return Err(refusal);
                 }
             }
         }
     }
-    Drawn::Done(ink)
+    Ok(ink)
 }
 
 // A command outside of definitions that draws: a call (RULES 8: an executable call has depth 1), and else a shape.
@@ -171,7 +167,7 @@ pub fn draw_outer(
     end: usize,
     layer: u32,
     ink: Ink,
-) -> Drawn
+) -> Result<Ink, Refusal>
     requires ready { Ready rows.now bodies.now live numbers.old drawing.old deepest ink }
     requires says { (s : Step) × Says words.now kind end (name_of layer) s }
     ensures { OuterDraws rows.now bodies.now live words.now kind place end layer ink room.old drawing.new result room.new }

@@ -10,11 +10,11 @@ use borrow.Author.Tests.{eq-eqb, ne_eqb}
 use lib.Dec.{eqb, ltb}
 use lib.ListN.{length, get_or, drop, drop_of_length-le}
 use lib.Seq.{drop-cons}
-use Rattle.grammar.specs.declared.Verdict.TheVariants.{InGrammar, StuckAt}
 use Rattle.grammar.specs.Tables.{role_unit, stuck, deep, accepting, state_count}
 use Rattle.grammar.specs.Steps.{choose, kind_of, entry_of, next_of, mark_of, mode_after, entered, within, mode, verdict_of}
 use Rattle.grammar.specs.declared.Mode.{Mode}
 use Rattle.grammar.proofs.Automaton.{step_range}
+use Rattle.std.specs.Prelude.{Err, Ok}
 
 module _ (q d b k : ℕ) (ek : k ≡ kind_of b) where
   pub outside_is : d ≡ 0 → (e : ℕ) → e ≡ entry_of q k → entered (e % role_unit) ≡ mode_after q d b
@@ -58,7 +58,7 @@ unfolding mark_of
 mark_in q d b h = sym (ap (λ (x : Bool). choose x (entry_of q (kind_of b) / role_unit) 0) (ne_eqb d 0 h))
 
 module _ (t : List ℕ) (q d i : ℕ) where
-  pub stops : i < length t → (mode_after q d (get_or t i 0)).state ≡ stuck → verdict_of q d i (drop i t) ≡ StuckAt i
+  pub stops : i < length t → (mode_after q d (get_or t i 0)).state ≡ stuck → verdict_of q d i (drop i t) ≡ Err i
   unfolding verdict_of
   stops h e = rw (drop-cons t i 0 h, eq-eqb (mode_after q d (get_or t i 0)).state stuck e)
 
@@ -67,17 +67,17 @@ module _ (t : List ℕ) (q d i : ℕ) where
   goes h p e n =
       rw (drop-cons t i 0 h, ← e, ne_eqb p.state stuck n, add-one i)
 
-  ends : length t ≤ i → (b : Bool) → (eqb q accepting && eqb d 0) ≡ b → verdict_of q d i (drop i t) ≡ choose b InGrammar (StuckAt i)
+  ends : length t ≤ i → (b : Bool) → (eqb q accepting && eqb d 0) ≡ b → verdict_of q d i (drop i t) ≡ choose b (Ok tt) (Err i)
   unfolding verdict_of
   ends h b e = rw (drop_of_length-le t h, e)
 
-  pub ends_in : length t ≤ i → q ≡ accepting → d ≡ 0 → verdict_of q d i (drop i t) ≡ InGrammar
+  pub ends_in : length t ≤ i → q ≡ accepting → d ≡ 0 → verdict_of q d i (drop i t) ≡ (Ok tt)
   ends_in h e f = ends h true (rw (eq-eqb q accepting e, eq-eqb d 0 f))
 
-  pub ends-deep : length t ≤ i → q ≡ accepting → (d ≡ 0 → ⊥) → verdict_of q d i (drop i t) ≡ StuckAt i
+  pub ends-deep : length t ≤ i → q ≡ accepting → (d ≡ 0 → ⊥) → verdict_of q d i (drop i t) ≡ Err i
   ends-deep h e f = ends h false (rw (eq-eqb q accepting e, ne_eqb d 0 f))
 
-  pub ends_out : length t ≤ i → (q ≡ accepting → ⊥) → verdict_of q d i (drop i t) ≡ StuckAt i
+  pub ends_out : length t ≤ i → (q ≡ accepting → ⊥) → verdict_of q d i (drop i t) ≡ Err i
   ends_out h e = ends h false (rw (ne_eqb q accepting e))
 
 -- on the way over the text t, at place i

@@ -5,8 +5,7 @@ use mathlib.Core.List.{List}
 use Prim.Native.Nat.{ℕ, ◌≤◌}
 use native.Mathlib.Omega.{arith}
 use Rattle.grammar.specs.Viable.{LongestViable, Judged}
-use Rattle.grammar.specs.declared.Verdict.{Verdict}
-use Rattle.grammar.specs.declared.Verdict.TheVariants.{InGrammar, StuckAt}
+use Rattle.std.specs.Prelude.{Err, Ok, Result}
 
 pub one_length : {t : List ℕ} {n m : ℕ} → LongestViable t n → LongestViable t m → n ≡ m
 one_length {t} {n} {m} a b =
@@ -14,8 +13,8 @@ one_length {t} {n} {m} a b =
     let down : m ≤ n = a.longest m b.within b.viable in
     omega arith
 
-pub one_verdict : (t : List ℕ) (v w : Verdict) → Judged t v → Judged t w → v ≡ w
-one_verdict t InGrammar InGrammar a b = refl
-one_verdict t InGrammar (StuckAt m) a b = absurd (b.0 a)
-one_verdict t (StuckAt n) InGrammar a b = absurd (a.0 b)
-one_verdict t (StuckAt n) (StuckAt m) a b = ap (λ (k : ℕ). StuckAt k) (one_length a.1 b.1)
+pub one_verdict : (t : List ℕ) (v w : Result Unit ℕ) → Judged t v → Judged t w → v ≡ w
+one_verdict t (Ok tt) (Ok tt) a b = refl
+one_verdict t (Ok tt) (Err m) a b = absurd (b.0 a)
+one_verdict t (Err n) (Ok tt) a b = absurd (a.0 b)
+one_verdict t (Err n) (Err m) a b = ap (λ (k : ℕ). Err k) (one_length a.1 b.1)

@@ -14,13 +14,12 @@ use Rattle.grammar.specs.Notation.{Letter}
 use Rattle.grammar.specs.Tables.{state_count, stuck, accepting, letter}
 use Rattle.grammar.specs.Steps.{choose, mode_after, role_of, verdict_of}
 use Rattle.grammar.specs.Viable.{bytes, Grammatical, Viable, Judged}
-use Rattle.grammar.specs.declared.Verdict.{Verdict}
-use Rattle.grammar.specs.declared.Verdict.TheVariants.{InGrammar, StuckAt}
 use Rattle.grammar.proofs.Tests.{and_left, and_right, and_both}
 use Rattle.grammar.proofs.Derivatives.{Choice, Items}
 use Rattle.grammar.proofs.Items.{final, final_sound, final_complete}
 use Rattle.grammar.proofs.Fitting.{deepen}
 use Rattle.grammar.proofs.Automaton.{label, Lang, step_to, step_back, step_range, accepts, deepen_zero, live, start_to, start_back}
+use Rattle.std.specs.Prelude.{Err, Ok, Result}
 
 byte-nil : {a : ℕ} {w : List ℕ} → ◌≡◌ {A = List ℕ} [] (a ∷ w) → ⊥
 byte-nil e = let z : ◌≡◌ {A = ℕ} 0 1 = cc in omega arith
@@ -84,16 +83,16 @@ pub record Stuck (q d : ℕ) (w : List ℕ) (n m : ℕ) : Type 0 where
   pub viable : (z : List ℕ) × Plain q d (take far w ++ z)
   pub longest : far < length w → (z : List ℕ) → Plain q d (take (suc far) w ++ z) → ⊥
 
-abbrev pub Right : ℕ → ℕ → List ℕ → ℕ → Verdict → Type 0
-Right q d w n InGrammar = Plain q d w
-Right q d w n (StuckAt m) = Stuck q d w n m
+abbrev pub Right : ℕ → ℕ → List ℕ → ℕ → Result Unit ℕ → Type 0
+Right q d w n (Ok tt) = Plain q d w
+Right q d w n (Err m) = Stuck q d w n m
 
 pub final_deep : (e : ℕ) (is : Choice) → T (final (deepen (suc e) is)) → ⊥
 final_deep e [] t = t
 final_deep e (i ∷ is) t = final_deep e is t
 
 -- at the end of the text
-ended : (q d n : ℕ) → q < state_count → (b : Bool) → (T b → Plain q d []) → (Plain q d [] → T b) → Right q d [] n (choose b InGrammar (StuckAt n))
+ended : (q d n : ℕ) → q < state_count → (b : Bool) → (T b → Plain q d []) → (Plain q d [] → T b) → Right q d [] n (choose b (Ok tt) (Err n))
 ended q d n h true f g = f tt
 ended q d n h false f g = record {
   far = 0;
@@ -111,10 +110,10 @@ stopped q d n a w hq ha e =
     record { far = 0; place = omega arith; within = zero-le; fails = dead w; viable = plain_live q d hq; longest = λ l z m. dead z m }
 
 -- at a byte that goes on
-moved : (q d n a : ℕ) (w : List ℕ) → q < state_count → a < 256 → ((mode_after q d a).state ≡ stuck → ⊥) → (v : Verdict)
+moved : (q d n a : ℕ) (w : List ℕ) → q < state_count → a < 256 → ((mode_after q d a).state ≡ stuck → ⊥) → (v : Result Unit ℕ)
     → Right (mode_after q d a).state (mode_after q d a).depth w (n + 1) v → Right q d (a ∷ w) n v
-moved q d n a w hq ha e InGrammar m = plain_back q a hq ha d _ e m
-moved q d n a w hq ha e (StuckAt m) s = record {
+moved q d n a w hq ha e (Ok tt) m = plain_back q a hq ha d _ e m
+moved q d n a w hq ha e (Err m) s = record {
   far = suc s.far;
   place = omega (arith, s.place);
   within = suc-le-suc s.within;
@@ -123,7 +122,7 @@ moved q d n a w hq ha e (StuckAt m) s = record {
   longest = λ l z k. s.longest (le_of_suc-le-suc l) z (plain_to q a hq ha d _ k).1;
 }
 
-at_end : (q d n : ℕ) → q < state_count → Right q d [] n (choose (eqb q accepting && eqb d 0) InGrammar (StuckAt n))
+at_end : (q d n : ℕ) → q < state_count → Right q d [] n (choose (eqb q accepting && eqb d 0) (Ok tt) (Err n))
 at_end q zero n h =
     ended q 0 n h (eqb q accepting && true)
     (λ t. plain-nil q 0 (subst (λ (is : Choice). Items is []) (sym (deepen_zero (label q))) (final_sound (label q) (subst T (sym (accepts q h)) (and_left (eqb q accepting) true t)))))
@@ -132,9 +131,9 @@ at_end q (suc e) n h =
     ended q (suc e) n h (eqb q accepting && eqb (suc e) 0) (λ t. absurd (subst T (eqb-suc-zero e) (and_right (eqb q accepting) (eqb (suc e) 0) t)))
     (λ m. absurd (final_deep e (label q) (final_complete (plain-nil-back q (suc e) m))))
 
-at_byte : (q d n a : ℕ) (w : List ℕ) → q < state_count → a < 256 → (v : Verdict)
+at_byte : (q d n a : ℕ) (w : List ℕ) → q < state_count → a < 256 → (v : Result Unit ℕ)
     → (((mode_after q d a).state ≡ stuck → ⊥) → Right (mode_after q d a).state (mode_after q d a).depth w (n + 1) v)
-    → (b : Bool) → eqb (mode_after q d a).state stuck ≡ b → Right q d (a ∷ w) n (choose b (StuckAt n) v)
+    → (b : Bool) → eqb (mode_after q d a).state stuck ≡ b → Right q d (a ∷ w) n (choose b (Err n) v)
 at_byte q d n a w hq ha v f true e = stopped q d n a w hq ha (eqb-true _ stuck e)
 at_byte q d n a w hq ha v f false e = moved q d n a w hq ha (eqb-false _ stuck e) v (f (eqb-false _ stuck e))
 
@@ -154,9 +153,9 @@ shorter t k m h v =
     let e : take m t ≡ take k t ++ rest = sym (take-append-drop k (take m t)) ∙ ap (λ (l : List ℕ). l ++ rest) (take-take k m t h) in
     (rest ++ v.0, subst Grammatical (ap (λ (l : List ℕ). l ++ v.0) e ∙ append_assoc (take k t) rest v.0) v.1)
 
-answer : (t : List ℕ) (v : Verdict) → Right 0 0 t 0 v → Judged t v
-answer t InGrammar m = plain_end m
-answer t (StuckAt m) s =
+answer : (t : List ℕ) (v : Result Unit ℕ) → Right 0 0 t 0 v → Judged t v
+answer t (Ok tt) m = plain_end m
+answer t (Err m) s =
     let e : s.far ≡ m = omega (arith, s.place) in
     let over : (k : ℕ) → m < k → k ≤ length t → Viable (take k t) → ⊥ = λ k l h v.
     let g = shorter t (suc s.far) k (omega arith) v in s.longest (omega arith) g.0 (plain-start g.1)
@@ -172,5 +171,5 @@ answer t (StuckAt m) s =
 pub judged : (t : List ℕ) → Bytes t → Judged t (verdict_of 0 0 0 t)
 judged t b = answer t (verdict_of 0 0 0 t) (right t 0 0 0 (omega arith) b)
 
-pub settled : (t : List ℕ) → Bytes t → (v w : Verdict) → w ≡ v → w ≡ verdict_of 0 0 0 t → Judged t v
+pub settled : (t : List ℕ) → Bytes t → (v w : Result Unit ℕ) → w ≡ v → w ≡ verdict_of 0 0 0 t → Judged t v
 settled t b v w e f = subst (Judged t) (sym f ∙ e) (judged t b)

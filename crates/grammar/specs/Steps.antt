@@ -6,8 +6,7 @@ use Rattle.grammar.specs.Notation.{Role, Letter, skip, head, second, turn, axis,
 use Rattle.grammar.specs.Tables.{kind_count, role_unit, stuck, deep, accepting, lpar_kind, rpar_kind, foreign_kind, kinds, table, roles, insides, letter}
 use Rattle.grammar.specs.declared.Mode.{Mode}
 use Rattle.grammar.specs.declared.Move.{Move}
-use Rattle.grammar.specs.declared.Verdict.{Verdict}
-use Rattle.grammar.specs.declared.Verdict.TheVariants.{InGrammar, StuckAt}
+use Rattle.std.specs.Prelude.{Err, Ok, Result}
 
 -- the kind of a byte, the table's entry at a state and a kind, and where it leads
 unfoldable pub kind_of : ℕ → ℕ
@@ -77,11 +76,11 @@ marked q d (a ∷ w) =
     choose (eqb p.state stuck) [] (letter a (role_of q d a) ∷ marked p.state p.depth w)
 
 -- the verdict on what is left of a text at place n
-unfoldable pub verdict_of : ℕ → ℕ → ℕ → List ℕ → Verdict
-verdict_of q d n [] = choose (eqb q accepting && eqb d 0) InGrammar (StuckAt n)
+unfoldable pub verdict_of : ℕ → ℕ → ℕ → List ℕ → Result Unit ℕ
+verdict_of q d n [] = choose (eqb q accepting && eqb d 0) (Ok tt) (Err n)
 verdict_of q d n (a ∷ w) =
     let p = mode_after q d a in
-    choose (eqb p.state stuck) (StuckAt n) (verdict_of p.state p.depth (n + 1) w)
+    choose (eqb p.state stuck) (Err n) (verdict_of p.state p.depth (n + 1) w)
 
 -- the lent tables are those that are tested
 pub record KindsLent (lent : List ℕ) : Type 0 where

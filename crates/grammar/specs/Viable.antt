@@ -2,8 +2,7 @@
 use Rattle.std.specs.Prelude.{◌≡◌, List, [], ◌∷◌, ◌++◌, ℕ, ◌≤◌, length, take}
 use Rattle.grammar.specs.Notation.{Letter, Match}
 use Rattle.grammar.specs.Productions.{cif_file}
-use Rattle.grammar.specs.declared.Verdict.{Verdict}
-use Rattle.grammar.specs.declared.Verdict.TheVariants.{InGrammar, StuckAt}
+use Rattle.std.specs.Prelude.{Err, Ok, Result}
 
 abbrev pub bytes : List Letter → List ℕ
 bytes [] = []
@@ -24,6 +23,6 @@ pub record LongestViable (t : List ℕ) (n : ℕ) : Type 0 where  -- "length of 
   pub viable : Viable (take n t)
   pub longest : (k : ℕ) → k ≤ length t → Viable (take k t) → k ≤ n
 
-abbrev pub Judged : List ℕ → Verdict → Type 0  -- what each verdict says of a text
-Judged t InGrammar = Grammatical t
-Judged t (StuckAt n) = (Grammatical t → ⊥) × LongestViable t n
+abbrev pub Judged : List ℕ → Result Unit ℕ → Type 0  -- what each verdict says of a text
+Judged t (Ok tt) = Grammatical t
+Judged t (Err n) = (Grammatical t → ⊥) × LongestViable t n

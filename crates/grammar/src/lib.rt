@@ -24,26 +24,36 @@ pub struct Move {
     pub mark: usize,
 }
 
-// The verdict on a text: in the grammar, or the length of the longest prefix that some continuation completes (refusal 2).
+// The kind of each byte, and the table of entries. A reader makes them once and lends them to all that goes by the byte: a const array would be built anew
+// at every use.
 #[derive(Clone, Copy)]
-pub enum Verdict {
-    InGrammar,
-    StuckAt(usize),
+pub struct Recogniser {
+    pub kinds: [u8; 256],
+    pub next: [u16; tables::ENTRY_COUNT],
+    ghost kinds_lent: { KindsLent kinds },
+    ghost next_lent: { NextLent next },
 }
 
-fn kind(kinds: &[u8; 256], b: u8) -> usize
-    requires { KindsLent kinds.now }
+impl Recogniser {
+    pub fn new() -> Self {
+        Recogniser {
+            kinds: tables::KINDS,
+            next: tables::NEXT,
+        }
+    }
+}
+
+fn kind(recogniser: &Recogniser, b: u8) -> usize
     ensures { (result ≡ kind_of b) × (result < kind_count) }
 {
-    kinds[b as usize] as usize
+    recogniser.kinds[b as usize] as usize
 }
 
-fn entry(next: &[u16; tables::ENTRY_COUNT], q: usize, k: usize) -> usize
-    requires next_lent { NextLent next.now }
-    requires q_lt_state_count { (q < state_count) × (k < kind_count) }
+fn entry(recogniser: &Recogniser, q: usize, k: usize) -> usize
+    requires { (q < state_count) × (k < kind_count) }
     ensures { result ≡ entry_of q k }
 {
-    next[q * tables::KIND_COUNT + k] as usize
+    recogniser.next[q * tables::KIND_COUNT + k] as usize
 }
 
 // Outside comments: where an entry of the table leads to.
@@ -107,14 +117,13 @@ fn nest(q: usize, d: usize, k: usize) -> Move
 }
 
 // One byte further from state q with d comments open.
-pub fn step(kinds: &[u8; 256], next: &[u16; tables::ENTRY_COUNT], q: usize, d: usize, b: u8) -> Move
-    requires kinds_lent { KindsLent kinds.now × NextLent next.now }
+pub fn step(recogniser: &Recogniser, q: usize, d: usize, b: u8) -> Move
     requires q_lt_state_count { (q < state_count) × (d < depth_limit) }
     ensures { Moved q d b result }
 {
-    let k = kind(kinds, b);
+    let k = kind(recogniser, b);
     if d == 0 {
-        let e = entry(next, q, k);
+        let e = entry(recogniser, q, k);
         return enter(e);
     }
     nest(q, d, k)
@@ -122,63 +131,54 @@ pub fn step(kinds: &[u8; 256], next: &[u16; tables::ENTRY_COUNT], q: usize, d: u
 
 // The table's entry for a byte at state q, outside comments: its role's number and where it leads. Crates above that go by the byte look here first:
 // most bytes lead to a state, and need no more than this.
-pub fn entry_at(kinds: &[u8; 256], next: &[u16; tables::ENTRY_COUNT], q: usize, b: u8) -> usize
-    requires kinds_lent { KindsLent kinds.now × NextLent next.now }
+pub fn entry_at(recogniser: &Recogniser, q: usize, b: u8) -> usize
     requires q_lt_state_count { q < state_count }
     ensures { result ≡ entry_of q (kind_of b) }
 {
-    let k = kind(kinds, b);
-    entry(next, q, k)
+    let k = kind(recogniser, b);
+    entry(recogniser, q, k)
 }
 
-fn plain_next(kinds: &[u8; 256], next: &[u16; tables::ENTRY_COUNT], q: usize, b: u8) -> usize
-    requires kinds_lent { KindsLent kinds.now × NextLent next.now }
+fn plain_next(recogniser: &Recogniser, q: usize, b: u8) -> usize
     requires q_lt_state_count { q < state_count }
     ensures { result ≡ next_of q (kind_of b) }
 {
-    entry_at(kinds, next, q, b) % tables::ROLE_UNIT
+    entry_at(recogniser, q, b) % tables::ROLE_UNIT
 }
 
-// The verdict on any bytes, in one pass, with the tables lent.
-pub fn recognised(text: &[u8], kinds: &[u8; 256], next: &[u16; tables::ENTRY_COUNT]) -> Verdict
-    requires { KindsLent kinds.now × NextLent next.now }
+// Whether any bytes are in the grammar, in one pass, with the tables lent; else the length of the longest prefix that some continuation completes (refusal 2).
+pub fn recognised(text: &[u8], recogniser: &Recogniser) -> Result<(), usize>
     ensures { Judged text.now result }
 {
     let mut q: usize = 0;
     let mut d: usize = 0;
-    let mut i: usize = 0;
-    while i < text.len() {
-        let b = text[i];
+    for (i, &b) in text.iter().enumerate() {
         if d == 0 {
-            let ahead = plain_next(kinds, next, q, b);
+            let ahead = plain_next(recogniser, q, b);
             if ahead < tables::DEEP {
                 q = ahead;
-                i += 1;
                 continue;
             }
         }
-        let to = step(kinds, next, q, d, b);
+        let to = step(recogniser, q, d, b);
         let s = to.state;
         if s == tables::STUCK {
-            return Verdict::StuckAt(i);
+            return Err(i);
         }
         q = s;
         d = to.depth;
-        i += 1;
     }
     if q == tables::ACCEPTING {
         if d == 0 {
-            return Verdict::InGrammar;
+            return Ok(());
         }
     }
-    Verdict::StuckAt(i)
+    Err(text.len())
 }
 
-// The verdict on any bytes, in no memory but the tables, which are copied to locals once: a const array would be built anew at every use.
-pub fn recognise(text: &[u8]) -> Verdict
+// The same of any bytes, in no memory but the tables.
+pub fn recognise(text: &[u8]) -> Result<(), usize>
     ensures { Judged text.now result }
 {
-    let kinds = tables::KINDS;
-    let next = tables::NEXT;
-    recognised(text, &kinds, &next)
+    recognised(text, &Recogniser::new())
 }

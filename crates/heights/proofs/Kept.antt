@@ -19,20 +19,18 @@ use Rattle.definition.specs.Table.{Definition}
 use Rattle.library.specs.Memory.{most, most_words, symbol_at, body_at, definition_at}
 use Rattle.library.specs.Sound.{Stocked}
 use Rattle.library.specs.Rows.{Sorted, Finds}
-use Rattle.library.specs.declared.Found.{Found}
-use Rattle.library.specs.declared.Found.TheVariants.{Live, Nothing}
 use Rattle.library.proofs.Cases.{by_row, side}
 use Rattle.library.proofs.Looking.{found, not_found}
-use Rattle.heights.specs.declared.Looked.{Looked}
-use Rattle.heights.specs.declared.Looked.TheVariants.{Refused, Known, Fresh}
-use Rattle.heights.specs.declared.Next.{Next}
-use Rattle.heights.specs.declared.Next.TheVariants.{Call, NoCall}
-use Rattle.heights.specs.declared.Reply.{Reply}
-use Rattle.heights.specs.declared.Reply.TheVariants.{Bars, Stands}
 use Rattle.heights.specs.Calls.{calls_of, Remains, CallNext}
 use Rattle.heights.specs.Walk.{Node, Graph, thence, through, raised, enters, among, walk, free, within, set_from, node_of, graph_in}
 use Rattle.heights.specs.Kept.{open_mark, height_at, AtRow, Looks, undefined, is_open, too_tall, known, too_deep, fresh, Stood, Leads, Each, Ready, Opened, Inside, Keeps, KeepsIf, Replies, BodyReplies}
 use Rattle.heights.proofs.Walking.{is_within, is_beyond, thence_on, thence_bar, one_more, each, enters_on, no_taller, with_more, stands-free, known-answers, leads_on, leads-calls}
+use Rattle.std.specs.Prelude.{Err, None, Ok, Option, Result, Some}
+use Rattle.heights.specs.declared.Looked.{Looked}
+use Rattle.definition.specs.declared.Rule.{Rule}
+use Rattle.heights.specs.declared.Next.{Next}
+use Rattle.heights.specs.declared.Standing.{Standing}
+use Rattle.heights.specs.declared.Looked.TheVariants.{Known, Fresh}
 
 -- no height is the mark
 unmarked : (h : ℕ) → h ≤ deepest → eqb h open_mark ≡ false
@@ -40,15 +38,15 @@ unmarked h l = ne_eqb h open_mark (λ e. omega (arith, e))
 
 -- ---- a look-up
 
-pub not_live : (rows : List ℕ) (live n : ℕ) {r : Found} → Finds rows live n r → r ≡ Nothing → Finds rows live n Nothing
+pub not_live : (rows : List ℕ) (live n : ℕ) {r : Option ℕ} → Finds rows live n r → r ≡ None → Finds rows live n None
 not_live rows live n h e = subst (Finds rows live n) e h
 
-pub at_row : (rows : List ℕ) (live n : ℕ) {r : Found} {i : ℕ} → Finds rows live n r → r ≡ Live i → AtRow rows live n i
+pub at_row : (rows : List ℕ) (live n : ℕ) {r : Option ℕ} {i : ℕ} → Finds rows live n r → r ≡ Some i → AtRow rows live n i
 at_row rows live n h e = record { finds = subst (Finds rows live n) e h }
 
 module _ {rows : List ℕ} {live n i : ℕ} (f : AtRow rows live n i) where
   pub row_live : i < live
-  row_live = (found rows [] n live (Live i) i f.finds refl).0
+  row_live = (found rows [] n live (Some i) i f.finds refl).0
 
   pub row_low : Sorted rows live → i < most
   row_low s = omega (arith, s.few, row_live)
@@ -58,7 +56,7 @@ module _ {rows : List ℕ} {live n i : ℕ} (f : AtRow rows live n i) where
   symbol_is = f.finds.1
 
 -- the call that comes next
-pub next_is : (b : List ℤ) {at end : ℕ} {cs : List ℕ} {x : Next} {n next : ℕ} → CallNext b at end cs x → x ≡ Call n next
+pub next_is : (b : List ℤ) {at end : ℕ} {cs : List ℕ} {x : Option Next} {n next : ℕ} → CallNext b at end cs x → x ≡ Some (record { symbol = n; at = next })
     → (rest : List ℕ) × (cs ≡ n ∷ rest) × Remains b next end rest × (at < next)
 unfolding CallNext
 next_is b {at} {end} {cs} h e = subst (CallNext b at end cs) e h
@@ -87,23 +85,23 @@ module _ (rows : List ℕ) (b : List ℤ) (live : ℕ) (own : List ℕ) where
   unfolding Finds
   node_at {n} {i} r =
       let f = r.finds in
-      ap (λ (x : Option Definition). node_of x (set_from rows own n 0 live)) (found rows b n live (Live i) i f refl).1
+      ap (λ (x : Option Definition). node_of x (set_from rows own n 0 live)) (found rows b n live (Some i) i f refl).1
       ∙ ap (λ (s : ℕ). node_of (some (definition_at rows b i)) s) (set_from_lem rows own n i live 0 i (omega arith) f.0 (λ k a c. f.2 k c) f.1)
 
-  no_node : (n : ℕ) → Finds rows live n Nothing → g n ≡ none
-  no_node n f = ap (λ (x : Option Definition). node_of x (set_from rows own n 0 live)) (not_found rows b n live Nothing f refl)
+  no_node : (n : ℕ) → Finds rows live n None → g n ≡ none
+  no_node n f = ap (λ (x : Option Definition). node_of x (set_from rows own n 0 live)) (not_found rows b n live None f refl)
 
-  undefined-bars : (left : ℕ) (o : List ℕ) (n : ℕ) → g n ≡ none → walk g left o n ≡ Bars 12
+  undefined-bars : (left : ℕ) (o : List ℕ) (n : ℕ) → g n ≡ none → walk g left o n ≡ Err 12
   unfolding walk enters
   undefined-bars zero o n e = rw e
   undefined-bars (suc left) o n e = rw e
 
-  open_bars : (left : ℕ) (o : List ℕ) (n : ℕ) {d : Node} → g n ≡ some d → among n o ≡ true → walk g left o n ≡ Bars 13
+  open_bars : (left : ℕ) (o : List ℕ) (n : ℕ) {d : Node} → g n ≡ some d → among n o ≡ true → walk g left o n ≡ Err 13
   unfolding walk enters
   open_bars zero o n e f = rw (e, f)
   open_bars (suc left) o n e f = rw (e, f)
 
-  none_left-bars : (left : ℕ) (o : List ℕ) (n : ℕ) {d : Node} → left ≡ 0 → g n ≡ some d → among n o ≡ false → walk g left o n ≡ Bars 14
+  none_left-bars : (left : ℕ) (o : List ℕ) (n : ℕ) {d : Node} → left ≡ 0 → g n ≡ some d → among n o ≡ false → walk g left o n ≡ Err 14
   unfolding walk
   none_left-bars left o n z e f = ap (λ (k : ℕ). walk g k o n) z ∙ enters_on _ e f
 
@@ -123,10 +121,10 @@ module _ (rows : List ℕ) (b : List ℤ) (live : ℕ) (own : List ℕ) where
     pub unknown : height_at heights i ≡ 0
     pub some_left : 0 < left
 
-  abbrev Says : (heights : List ℕ) (n left : ℕ) → Looked → Type 0
-  Says heights n left (Refused k) = (o : List ℕ) → Opened rows b live own heights n o → Bars k ≡ walk g left o n
-  Says heights n left (Known h s) = (o : List ℕ) → Opened rows b live own heights n o → Stands h s ≡ walk g left o n
-  Says heights n left (Fresh i) = Untried heights n left i
+  abbrev Says : (heights : List ℕ) (n left : ℕ) → Result Looked Rule → Type 0
+  Says heights n left (Err k) = (o : List ℕ) → Opened rows b live own heights n o → Err k ≡ walk g left o n
+  Says heights n left (Ok (Known h s)) = (o : List ℕ) → Opened rows b live own heights n o → Ok (record { height = h; layers = s }) ≡ walk g left o n
+  Says heights n left (Ok (Fresh i)) = Untried heights n left i
 
   module _ {heights layers : List ℕ} {left : ℕ} (ready : Ready rows b live own heights layers left) where
     open_at : {n i : ℕ} {o : List ℕ} → Opened rows b live own heights n o → AtRow rows live n i → among n o ≡ eqb (height_at heights i) open_mark
@@ -137,7 +135,7 @@ module _ (rows : List ℕ) (b : List ℤ) (live : ℕ) (own : List ℕ) where
     answers {n} {i} {o} op f no-open some_height =
         known-answers g o (subst (λ (k : ℕ). Stood g deepest k (height_at heights i) (get_or layers i 0)) (symbol_is f) (ready.remembered i (row_live f) some_height no-open)) op.leads left
 
-    pub says : {n : ℕ} {r : Looked} → Looks rows live heights layers n left r → Says heights n left r
+    pub says : {n : ℕ} {r : Result Looked Rule} → Looks rows live heights layers n left r → Says heights n left r
     says {n} (undefined f) = λ o op. sym (undefined-bars left o n (no_node n f))
     says {n} (is_open {i} f e) = λ o op. sym (open_bars left o n (node_at f) (open_at op f ∙ eq-eqb (height_at heights i) open_mark e))
     says (too_tall {i} f e l) = λ o op. sym (answers op f e (omega arith) ∙ is_beyond (get_or layers i 0) l)
@@ -148,17 +146,17 @@ module _ (rows : List ℕ) (b : List ℤ) (live : ℕ) (own : List ℕ) where
     pub kept_same : Keeps rows b live own heights heights layers
     kept_same = record { same_open = λ i l. refl; heights_sized = ready.heights_sized; layers_sized = ready.layers_sized; remembered = ready.remembered }
 
-    module _ {n : ℕ} {r : Looked} (looks : Looks rows live heights layers n left r) where
-      it_says : {q : Looked} → r ≡ q → Says heights n left q
+    module _ {n : ℕ} {r : Result Looked Rule} (looks : Looks rows live heights layers n left r) where
+      it_says : {q : Result Looked Rule} → r ≡ q → Says heights n left q
       it_says e = subst (Says heights n left) e (says looks)
 
-      pub refused_says : {k : ℕ} → r ≡ Refused k → Replies rows b live own heights n left (Bars k) heights layers
+      pub refused_says : {k : ℕ} → r ≡ Err k → Replies rows b live own heights n left (Err k) heights layers
       refused_says e = record { reply = it_says e; keeps = tt }
 
-      pub known-says : {h s : ℕ} → r ≡ Known h s → Replies rows b live own heights n left (Stands h s) heights layers
+      pub known-says : {h s : ℕ} → r ≡ Ok (Known h s) → Replies rows b live own heights n left (Ok (record { height = h; layers = s })) heights layers
       known-says e = record { reply = it_says e; keeps = kept_same }
 
-      pub untried : {i : ℕ} → r ≡ Fresh i → Untried heights n left i
+      pub untried : {i : ℕ} → r ≡ Ok (Fresh i) → Untried heights n left i
       untried e = it_says e
 
     -- ---- the body of row i is gone through, with its symbol open
@@ -216,24 +214,24 @@ module _ (rows : List ℕ) (b : List ℤ) (live : ℕ) (own : List ℕ) where
       }
 
       -- what the body gives the symbol gives
-      module _ {r : Reply} {heights' layers' : List ℕ} (body : BodyReplies rows b live own opened i (left - 1) r heights' layers') where
-        body-tells : {q : Reply} → r ≡ q → (o : List ℕ) → Opened rows b live own heights n o → raised q ≡ walk g left o n
+      module _ {r : Result Standing Rule} {heights' layers' : List ℕ} (body : BodyReplies rows b live own opened i (left - 1) r heights' layers') where
+        body-tells : {q : Result Standing Rule} → r ≡ q → (o : List ℕ) → Opened rows b live own heights n o → raised q ≡ walk g left o n
         body-tells e o op = ap raised (sym e ∙ body.reply (n ∷ o) (inside o op)) ∙ sym (goes_in left o n u.some_left (node_at u.row) (closed op))
 
-        pub body_refused : {k : ℕ} → r ≡ Bars k → Replies rows b live own heights n left (Bars k) heights' layers'
+        pub body_refused : {k : ℕ} → r ≡ Err k → Replies rows b live own heights n left (Err k) heights' layers'
         unfolding raised
         body_refused e = record { reply = body-tells e; keeps = tt }
 
-        module _ {k s : ℕ} (e : r ≡ Stands k s) (o : List ℕ) (op : Opened rows b live own heights n o) where
+        module _ {k s : ℕ} (e : r ≡ Ok (record { height = k; layers = s })) (o : List ℕ) (op : Opened rows b live own heights n o) where
           abbrev h : ℕ
           h = k + 1
 
-          it_stands : (o : List ℕ) → Opened rows b live own heights n o → Stands h s ≡ walk g left o n
+          it_stands : (o : List ℕ) → Opened rows b live own heights n o → Ok (record { height = h; layers = s }) ≡ walk g left o n
           unfolding raised
           it_stands = body-tells e
 
           kept : Keeps rows b live own opened heights' layers'
-          kept = subst (λ (q : Reply). KeepsIf q (Keeps rows b live own opened heights' layers')) e body.keeps
+          kept = subst (λ (q : Result Standing Rule). KeepsIf q (Keeps rows b live own opened heights' layers')) e body.keeps
 
           stood : Stood g left n h s
           stood = stands-free g left n h s o (sym (it_stands o op))
@@ -264,9 +262,9 @@ module _ (rows : List ℕ) (b : List ℤ) (live : ℕ) (own : List ℕ) where
           }
             where
               moved : {m m' a a' w w' : ℕ} → m ≡ m' → a ≡ a' → w ≡ w' → Stood g deepest m a w → Stood g deepest m' a' w'
-              moved x y v st = record { is = sym (ap (λ (k : ℕ). free g deepest k) x) ∙ (st.is ∙ ap₂ Stands y v) }
+              moved x y v st = record { is = sym (ap (λ (k : ℕ). free g deepest k) x) ∙ (st.is ∙ ap₂ Ok (record { height = y; layers = v })) }
 
-          pub finished : Replies rows b live own heights n left (Stands h s) (set heights' i h) (set layers' i s)
+          pub finished : Replies rows b live own heights n left (Ok (record { height = h; layers = s })) (set heights' i h) (set layers' i s)
           finished = record { reply = it_stands; keeps = kept-after }
 
   -- ---- the calls of a body, one after another
@@ -293,7 +291,7 @@ module _ (rows : List ℕ) (b : List ℤ) (live : ℕ) (own : List ℕ) where
 
   module _ {row left : ℕ} {heights₀ : List ℕ} {end : ℕ} {heights layers : List ℕ} {here tallest set : ℕ} (w : WalkedSoFar row left heights₀ end heights layers here tallest set) where
     -- no call is left
-    pub all_done : {x : Next} → CallNext b here end w.rest x → x ≡ NoCall → BodyReplies rows b live own heights₀ row left (Stands tallest set) heights layers
+    pub all_done : {x : Option Next} → CallNext b here end w.rest x → x ≡ None → BodyReplies rows b live own heights₀ row left (Ok (record { height = tallest; layers = set })) heights layers
     unfolding CallNext through
     all_done h e = record {
       reply = λ o ins. sym (w.along o ins ∙ ap (through (walk g left o) tallest set) (subst (CallNext b here end w.rest) e h));
@@ -319,29 +317,29 @@ module _ (rows : List ℕ) (b : List ℤ) (live : ℕ) (own : List ℕ) where
         leads = λ m p. (subst (Each (Leads g m)) are (w.leads o ins m p)).0;
       }
 
-      module _ {r : Reply} {heights' layers' : List ℕ} (told : Replies rows b live own heights n left r heights' layers') where
-        call_next : (o : List ℕ) → Inside rows b live own heights₀ row o → (q : Reply) → r ≡ q
+      module _ {r : Result Standing Rule} {heights' layers' : List ℕ} (told : Replies rows b live own heights n left r heights' layers') where
+        call_next : (o : List ℕ) → Inside rows b live own heights₀ row o → (q : Result Standing Rule) → r ≡ q
             → through (walk g left o) 0 (get_or own row 0) (calls_of (body_at rows b row)) ≡ thence q (λ k u. through (walk g left o) (max tallest k) (bit_or set u) rest')
         unfolding through
         call_next o ins q e =
             w.along o ins
             ∙ (ap (through (walk g left o) tallest set) are
-            ∙ ap (λ (x : Reply). thence x (λ k u. through (walk g left o) (max tallest k) (bit_or set u) rest')) (sym (told.reply o (opened_on o ins)) ∙ e))
+            ∙ ap (λ (x : Result Standing Rule). thence x (λ k u. through (walk g left o) (max tallest k) (bit_or set u) rest')) (sym (told.reply o (opened_on o ins)) ∙ e))
 
         -- the first bar ends it
-        pub barred : {k : ℕ} → r ≡ Bars k → BodyReplies rows b live own heights₀ row left (Bars k) heights' layers'
-        barred {k} e = record { reply = λ o ins. sym (call_next o ins (Bars k) e ∙ thence_bar _ refl); keeps = tt }
+        pub barred : {k : ℕ} → r ≡ Err k → BodyReplies rows b live own heights₀ row left (Err k) heights' layers'
+        barred {k} e = record { reply = λ o ins. sym (call_next o ins (Err k) e ∙ thence_bar _ refl); keeps = tt }
 
-        pub went_on : {h u next : ℕ} → r ≡ Stands h u → Remains b next end rest' → (o : List ℕ) → Inside rows b live own heights₀ row o → {tallest' : ℕ} → tallest' ≡ max tallest h
+        pub went_on : {h u next : ℕ} → r ≡ Ok (record { height = h; layers = u }) → Remains b next end rest' → (o : List ℕ) → Inside rows b live own heights₀ row o → {tallest' : ℕ} → tallest' ≡ max tallest h
             → WalkedSoFar row left heights₀ end heights' layers' next tallest' (bit_or set u)
         unfolding Each
         went_on {h} {u} {next} e rem o₀ ins₀ {tallest'} q =
-            let k : Keeps rows b live own heights heights' layers' = subst (λ (q : Reply). KeepsIf q (Keeps rows b live own heights heights' layers')) e told.keeps in
+            let k : Keeps rows b live own heights heights' layers' = subst (λ (q : Result Standing Rule). KeepsIf q (Keeps rows b live own heights heights' layers')) e told.keeps in
             let st : Stood g left n h u = stands-free g left n h u o₀ (sym (told.reply o₀ (opened_on o₀ ins₀)) ∙ e) in
             record {
               rest = rest';
               remains = rem;
-              along = λ o ins. call_next o ins (Stands h u) e ∙ (thence_on _ refl ∙ ap (λ (x : ℕ). through (walk g left o) x (bit_or set u) rest') (sym q));
+              along = λ o ins. call_next o ins (Ok (record { height = h; layers = u })) e ∙ (thence_on _ refl ∙ ap (λ (x : ℕ). through (walk g left o) x (bit_or set u) rest') (sym q));
               leads = λ o ins m p. (subst (Each (Leads g m)) are (w.leads o ins m p)).1;
               low = subst (λ (x : ℕ). x ≤ left) (sym q) (max-le w.low (no_taller g st));
               keeps = record {

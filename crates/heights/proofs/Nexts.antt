@@ -14,8 +14,8 @@ use Rattle.engine.specs.declared.Head.{Head}
 use Rattle.engine.specs.Heads.{head_in}
 use Rattle.engine.proofs.Taking.{Met, meets, two_words, values-call, call_is}
 use Rattle.engine.proofs.Underway.{none_left}
-use Rattle.heights.specs.declared.Next.TheVariants.{Call, NoCall}
 use Rattle.heights.specs.Calls.{call_in, calls_of, Remains, CallNext}
+use Rattle.std.specs.Prelude.{None, Some}
 
 no_call : (s : Step) (cs : List ℕ) → (letter_of_step s ≡ call_letter → ⊥) → call_in s cs ≡ cs
 unfolding call_in letter_of_step
@@ -60,7 +60,7 @@ module _ {b : List ℤ} {from end : ℕ} {cs : List ℕ} (g : Remains b from end
   pub met : {h : Head} → from < end → h ≡ head_in b from → Met b end g.steps g.layer from h
   met {h} l e = meets b from end g.layer g.steps h l g.proper g.words e
 
-  pub none_more : end ≤ from → CallNext b from end cs NoCall
+  pub none_more : end ≤ from → CallNext b from end cs None
   unfolding CallNext calls_of
   none_more h =
       let n : end - from ≡ 0 = omega arith in
@@ -98,7 +98,7 @@ module _ {b : List ℤ} {from end : ℕ} {cs : List ℕ} (g : Remains b from end
       pub symbol_there : from + 2 < length b
       symbol_there = let q = ap length values_are.1 in omega (arith, q, m.next, m.within, g.inside)
 
-      pub called : {n : ℕ} → n ≡ nat_abs (get_or b (from + 2) (pos 0)) → CallNext b from end cs (Call n h.next)
+      pub called : {n : ℕ} → n ≡ nat_abs (get_or b (from + 2) (pos 0)) → CallNext b from end cs (Some (record { symbol = n; at = h.next }))
       unfolding CallNext
       called {n} q =
           let s = call_is m g.inside e in
@@ -120,14 +120,14 @@ module _ {b : List ℤ} {from end here : ℕ} (a : Ahead b from end here) where
     left = λ cs g. passed (a.left cs g) (met (a.left cs g) l e) k;
   }
 
-  from_start : (n next : ℕ) (cs : List ℕ) → CallNext b here end cs (Call n next) → CallNext b from end cs (Call n next)
+  from_start : (n next : ℕ) (cs : List ℕ) → CallNext b here end cs (Some (record { symbol = n; at = next })) → CallNext b from end cs (Some (record { symbol = n; at = next }))
   unfolding CallNext
   from_start n next cs (rest, p, q, l) = (rest, p, q, omega (arith, a.on))
 
   pub found_call : {h : Head} {n : ℕ} → here < end → h ≡ head_in b here → h.kind ≡ call_letter → n ≡ nat_abs (get_or b (here + 2) (pos 0))
-      → (cs : List ℕ) → Remains b from end cs → CallNext b from end cs (Call n h.next)
+      → (cs : List ℕ) → Remains b from end cs → CallNext b from end cs (Some (record { symbol = n; at = h.next }))
   found_call {h} {n} l e k q cs g = from_start n h.next cs (called (a.left cs g) (met (a.left cs g) l e) k q)
 
-  pub no_more : end ≤ here → (cs : List ℕ) → Remains b from end cs → CallNext b from end cs NoCall
+  pub no_more : end ≤ here → (cs : List ℕ) → Remains b from end cs → CallNext b from end cs None
   unfolding CallNext
   no_more l cs g = none_more (a.left cs g) l

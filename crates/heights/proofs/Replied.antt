@@ -14,7 +14,7 @@ use lib.IntN.{ℤ}
 use lib.ListN.{get_or}
 use Rattle.definition.specs.Limits.{deepest}
 use Rattle.definition.specs.Words.{Placed, at, any}
-use Rattle.definition.specs.Rules.{too_deep, number_of}
+use Rattle.definition.specs.Rules.{TooDeep, number_of}
 use Rattle.definition.specs.Table.{Step, shape, instance, setting, Definition, Table, find}
 use Rattle.definition.specs.Drawing.{Chain, barred, leads, passage_to}
 use Rattle.definition.specs.Summary as summary
@@ -22,12 +22,13 @@ use Rattle.definition.specs.Summary.{Names, bars, stands, layers_of, own_layers,
 use Rattle.definition.specs.Marks.{set_of_layers}
 use Rattle.laws.proofs.Story.Marks.{any-++, set-joined}
 use Rattle.library.specs.Memory.{symbol_at, body_at, definition_at, table_from, table_of}
-use Rattle.heights.specs.declared.Reply.{Reply}
-use Rattle.heights.specs.declared.Reply.TheVariants.{Bars, Stands}
 use Rattle.heights.specs.Calls.{call_in, calls_of}
 use Rattle.heights.specs.Walk.{Node, Graph, through, raised, enters, among, walk, set_from, node_of, graph_in}
 use Rattle.heights.specs.Replies.{ReplyOf, SymbolReplies}
 use Rattle.heights.proofs.Walking.{thence_on, thence_bar}
+use Rattle.std.specs.Prelude.{Err, Ok, Result}
+use Rattle.heights.specs.declared.Standing.{Standing}
+use Rattle.definition.specs.declared.Rule.{Rule}
 
 -- ---- sets joined in any order
 
@@ -66,11 +67,11 @@ or_swap a b c = sym (or_assoc a b c) ∙ (ap (λ (x : ℕ). bit_or x c) (or_comm
 -- ---- a reply as the code has it
 
 module _ (ns : Names) where
-  abbrev pub told : summary.Reply → Reply
-  told (bars rule) = Bars (number_of rule)
-  told (stands h ls) = Stands h (set_of_layers ns ls)
+  abbrev pub told : summary.Reply → Result Standing Rule
+  told (bars rule) = Err (number_of rule)
+  told (stands h ls) = Ok (record { height = h; layers = (set_of_layers ns ls) })
 
-  pub reply_of : (x : summary.Reply) {r : Reply} → r ≡ told x → ReplyOf ns x r
+  pub reply_of : (x : summary.Reply) {r : Result Standing Rule} → r ≡ told x → ReplyOf ns x r
   unfolding ReplyOf
   reply_of (bars rule) e = e
   reply_of (stands h ls) e = e
@@ -80,15 +81,15 @@ module _ (ns : Names) where
   abbrev own_set : List (Placed Step) → ℕ
   own_set ss = set_of_layers ns (own_layers ss)
 
-  module _ (ask : ℕ → ℕ → summary.Reply) (f : ℕ → Reply) (same : (p n : ℕ) → told (ask p n) ≡ f n) where
+  module _ (ask : ℕ → ℕ → summary.Reply) (f : ℕ → Result Standing Rule) (same : (p n : ℕ) → told (ask p n) ≡ f n) where
     -- the callees' layers are this set
     record Gathered (ss : List (Placed Step)) (k : ℕ) (ls : Names) : Type 0 where
       theirs : ℕ
-      goes : (h s : ℕ) → through f h s (calls_of ss) ≡ Stands (max h k) (bit_or s theirs)
+      goes : (h s : ℕ) → through f h s (calls_of ss) ≡ Ok (record { height = (max h k); layers = (bit_or s theirs) })
       sets : set_of_layers ns ls ≡ bit_or (own_set ss) theirs
 
     abbrev Gathers : List (Placed Step) → summary.Reply → Type 0
-    Gathers ss (bars rule) = (h s : ℕ) → through f h s (calls_of ss) ≡ Bars (number_of rule)
+    Gathers ss (bars rule) = (h s : ℕ) → through f h s (calls_of ss) ≡ Err (number_of rule)
     Gathers ss (stands k ls) = Gathered ss k ls
 
     own-more : (s : Placed Step) (ss : List (Placed Step)) → own_set (s ∷ ss) ≡ bit_or (set_of_layers ns (layers_of s.what)) (own_set ss)
@@ -102,7 +103,7 @@ module _ (ns : Names) where
     idle s ss e (bars rule) g = λ h u. ap (through f h u) e ∙ g h u
     idle s ss e (stands k ls) g = record {
       theirs = g.theirs;
-      goes = λ h u. ap (through f h u) e ∙ (g.goes h u ∙ ap (λ (x : ℕ). Stands (max h x) (bit_or u g.theirs)) (omega arith));
+      goes = λ h u. ap (through f h u) e ∙ (g.goes h u ∙ ap (λ (x : ℕ). Ok (record { height = (max h x); layers = (bit_or u g.theirs) })) (omega arith));
       sets =
           set-joined ns (layers_of s.what) ls
           ∙ (ap (bit_or (set_of_layers ns (layers_of s.what))) g.sets
@@ -120,7 +121,7 @@ module _ (ns : Names) where
       goes =
           λ h u. thence_on _ (sym e)
           ∙ (g.goes (max h k) (bit_or u (set_of_layers ns ls))
-          ∙ ap₂ Stands (max_assoc h k m) (or_assoc u (set_of_layers ns ls) g.theirs));
+          ∙ ap₂ Ok (record { height = (max_assoc h k m); layers = (or_assoc u (set_of_layers ns ls) g.theirs) }));
       sets =
           set-joined ns ls ms
           ∙ (ap (bit_or (set_of_layers ns ls)) g.sets
@@ -141,7 +142,7 @@ module _ (ns : Names) where
     unfolding body_reply calls_of through own_layers flat_map
     gathers [] = record {
       theirs = 0;
-      goes = λ h u. ap₂ Stands (omega arith) (sym (or_zero_r u));
+      goes = λ h u. ap₂ Ok (record { height = (omega arith); layers = (sym (or_zero_r u)) });
       sets = sym (or_zero_r (set_of_layers ns []));
     }
     gathers (s ∷ ss) = one_step s.place s.what ss (body_reply ask ss) (gathers ss)
@@ -152,7 +153,7 @@ module _ (ns : Names) where
       where
         go : (x : summary.Reply) → Gathers ss x → told (higher x) ≡ raised (through f 0 (own_set ss) (calls_of ss))
         go (bars rule) g = sym (ap raised (g 0 (own_set ss)))
-        go (stands k ls) g = ap₂ (λ (x y : ℕ). Stands (x + 1) y) (omega arith) g.sets ∙ sym (ap raised (g.goes 0 (own_set ss)))
+        go (stands k ls) g = ap₂ (λ (x y : ℕ). Ok (record { height = (x + 1); layers = y })) (omega arith) g.sets ∙ sym (ap raised (g.goes 0 (own_set ss)))
 
   -- ---- a symbol
 
@@ -178,15 +179,15 @@ module _ (ns : Names) where
   nodes_for (some d) = some (node_for d)
 
   -- what bars a call there bars it here
-  entered : (left : ℕ) (chain : Chain) (n : ℕ) (busy : Bool) → any (λ c. eqb c.what n) chain ≡ busy → (x : Option Definition) (ask : Definition → summary.Reply) (go : Node → Reply)
-      → ((d : Definition) → told (if eqb left 0 then bars too_deep else higher (ask d)) ≡ go (node_for d))
+  entered : (left : ℕ) (chain : Chain) (n : ℕ) (busy : Bool) → any (λ c. eqb c.what n) chain ≡ busy → (x : Option Definition) (ask : Definition → summary.Reply) (go : Node → Result Standing Rule)
+      → ((d : Definition) → told (if eqb left 0 then bars TooDeep else higher (ask d)) ≡ go (node_for d))
       → told (reply_by (passage_to x left chain n) ask) ≡ enters (nodes_for x) busy go
   unfolding passage_to reply_by enters nodes_for
   entered left chain n busy e none ask go f = refl
   entered left chain n true e (some d) ask go f = rw e
   entered left chain n false e (some d) ask go f = rw e (by_test (eqb left 0) ∙ f d)
     where
-      by_test : (z : Bool) → told (reply_by (if z then barred too_deep else leads d) ask) ≡ told (if z then bars too_deep else higher (ask d))
+      by_test : (z : Bool) → told (reply_by (if z then barred TooDeep else leads d) ask) ≡ told (if z then bars TooDeep else higher (ask d))
       by_test true = refl
       by_test false = refl
 
@@ -194,14 +195,14 @@ module _ (ns : Names) where
     agrees : (left : ℕ) (chain : Chain) (o : List ℕ) (p n : ℕ) → SameOpen chain o → told (reply_to left t chain p n) ≡ walk g left o n
     unfolding reply_to walk
     agrees zero chain o p n h =
-        entered 0 chain n (among n o) (h n) (find n t) (λ d. stands 0 []) (λ d. Bars 14) (λ d. refl)
-        ∙ sym (ap (λ (y : Option Node). enters y (among n o) (λ d. Bars 14)) (nodes n))
+        entered 0 chain n (among n o) (h n) (find n t) (λ d. stands 0 []) (λ d. Err 14) (λ d. refl)
+        ∙ sym (ap (λ (y : Option Node). enters y (among n o) (λ d. Err 14)) (nodes n))
     agrees (suc left) chain o p n h =
         let deeper : Chain = chain ++ (at p n ∷ []) in
         let ask : Definition → summary.Reply = λ d. body_reply (reply_to left t deeper) d.body in
-        let go : Node → Reply = λ d. raised (through (walk g left (n ∷ o)) 0 d.own d.calls) in
+        let go : Node → (Result Standing Rule) = λ d. raised (through (walk g left (n ∷ o)) 0 d.own d.calls) in
         entered (suc left) chain n (among n o) (h n) (find n t) ask go
-        (λ d. ap (λ (z : Bool). told (if z then bars too_deep else higher (ask d))) (eqb-suc-zero left)
+        (λ d. ap (λ (z : Bool). told (if z then bars TooDeep else higher (ask d))) (eqb-suc-zero left)
         ∙ (body-told (reply_to left t deeper) (walk g left (n ∷ o)) (λ q m. agrees left deeper (n ∷ o) q m (open_more chain o p n h)) d.body ∙ node_parts left n o d))
         ∙ sym (ap (λ (y : Option Node). enters y (among n o) go) (nodes n))
       where
@@ -222,7 +223,7 @@ module _ (ns : Names) where
       go true later = ap (λ (s : ℕ). node_of (some (definition_at rows b j)) s) (h j (omega arith) (omega arith))
       go false later = later
 
-pub is_told : (rows : List ℕ) (b : List ℤ) (live : ℕ) (own : List ℕ) (n : ℕ) {r : Reply} → r ≡ walk (graph_in rows b live own) deepest [] n → SymbolReplies rows b live own n r
+pub is_told : (rows : List ℕ) (b : List ℤ) (live : ℕ) (own : List ℕ) (n : ℕ) {r : Result Standing Rule} → r ≡ walk (graph_in rows b live own) deepest [] n → SymbolReplies rows b live own n r
 unfolding any
 is_told rows b live own n e ns sets =
     reply_of ns (reply_to deepest (table_of rows b live) [] 0 n)

@@ -13,46 +13,47 @@ use lib.Dec.{eqb}
 use lib.Bits.{bit_or}
 use Rattle.definition.specs.Words.{any}
 use Rattle.library.proofs.Cases.{by_place}
-use Rattle.heights.specs.declared.Reply.{Reply}
-use Rattle.heights.specs.declared.Reply.TheVariants.{Bars, Stands}
 use Rattle.heights.specs.Walk.{Node, Graph, thence, through, raised, enters, among, walk, free, within}
 use Rattle.heights.specs.Kept.{Stood, NotAt, Leads, Each}
+use Rattle.std.specs.Prelude.{Err, Ok, Result}
+use Rattle.heights.specs.declared.Standing.{Standing}
+use Rattle.definition.specs.declared.Rule.{Rule}
 
-pub no_bar : {n h s : ℕ} → Bars n ≡ Stands h s → ⊥
+pub no_bar : {n h s : ℕ} → Err n ≡ Ok (record { height = h; layers = s }) → ⊥
 no_bar e = let z : ◌≡◌ {A = ℕ} 0 1 = cc in omega arith
 
-same_height : {h s k u : ℕ} → Stands h s ≡ Stands k u → h ≡ k
+same_height : {h s k u : ℕ} → Ok (record { height = h; layers = s }) ≡ Ok (record { height = k; layers = u }) → h ≡ k
 same_height e = cc
 
 -- ---- within an allowance
 
-pub is_within : {left h : ℕ} (s : ℕ) → h ≤ left → within left h s ≡ Stands h s
+pub is_within : {left h : ℕ} (s : ℕ) → h ≤ left → within left h s ≡ Ok (record { height = h; layers = s })
 is_within {left} {h} s l = rw (le-ltb left h l)
 
-pub is_beyond : {left h : ℕ} (s : ℕ) → left < h → within left h s ≡ Bars 14
+pub is_beyond : {left h : ℕ} (s : ℕ) → left < h → within left h s ≡ Err 14
 is_beyond {left} {h} s l = rw (lt-ltb left h l)
 
-within_low : (left h s : ℕ) {k u : ℕ} → within left h s ≡ Stands k u → h ≤ left
+within_low : (left h s : ℕ) {k u : ℕ} → within left h s ≡ Ok (record { height = k; layers = u }) → h ≤ left
 within_low left h s e = by_place (h ≤ left) left h (λ l. absurd (no_bar (sym (is_beyond s l) ∙ e))) (λ l. l)
 
 -- ---- calls one after another
 
 -- a reply that stands, and what followed
-thence-stands : (r : Reply) (go : ℕ → ℕ → Reply) {m u : ℕ} → thence r go ≡ Stands m u → (k : ℕ) × (w : ℕ) × (r ≡ Stands k w) × (go k w ≡ Stands m u)
+thence-stands : (r : Result Standing Rule) (go : ℕ → ℕ → Result Standing Rule) {m u : ℕ} → thence r go ≡ Ok (record { height = m; layers = u }) → (k : ℕ) × (w : ℕ) × (r ≡ Ok (record { height = k; layers = w })) × (go k w ≡ Ok (record { height = m; layers = u }))
 unfolding thence
-thence-stands (Bars n) go e = absurd (no_bar e)
-thence-stands (Stands k w) go e = (k, w, refl, e)
+thence-stands (Err n) go e = absurd (no_bar e)
+thence-stands (Ok (record { height = k; layers = w })) go e = (k, w, refl, e)
 
-pub thence_on : {r : Reply} {k w : ℕ} (go : ℕ → ℕ → Reply) → r ≡ Stands k w → thence r go ≡ go k w
+pub thence_on : {r : Result Standing Rule} {k w : ℕ} (go : ℕ → ℕ → Result Standing Rule) → r ≡ Ok (record { height = k; layers = w }) → thence r go ≡ go k w
 unfolding thence
-thence_on go e = ap (λ (x : Reply). thence x go) e
+thence_on go e = ap (λ (x : Result Standing Rule). thence x go) e
 
-pub thence_bar : {r : Reply} {n : ℕ} (go : ℕ → ℕ → Reply) → r ≡ Bars n → thence r go ≡ Bars n
+pub thence_bar : {r : Result Standing Rule} {n : ℕ} (go : ℕ → ℕ → Result Standing Rule) → r ≡ Err n → thence r go ≡ Err n
 unfolding thence
-thence_bar go e = ap (λ (x : Reply). thence x go) e
+thence_bar go e = ap (λ (x : Result Standing Rule). thence x go) e
 
 -- the whole is as tall as every call passed
-above : (f : ℕ → Reply) (h s : ℕ) (cs : List ℕ) {m u : ℕ} → through f h s cs ≡ Stands m u → h ≤ m
+above : (f : ℕ → Result Standing Rule) (h s : ℕ) (cs : List ℕ) {m u : ℕ} → through f h s cs ≡ Ok (record { height = m; layers = u }) → h ≤ m
 unfolding through
 above f h s [] e = omega (arith, same_height e)
 above f h s (c ∷ cs) e =
@@ -60,24 +61,24 @@ above f h s (c ∷ cs) e =
     omega (arith, above f (max h k) (bit_or s w) cs q, le-max_left h k)
 
 -- functions that agree on calls no taller than the whole give the same
-module _ (e f g : ℕ → Reply) (m u : ℕ) (same : (c k w : ℕ) → e c ≡ Stands k w → k ≤ m → f c ≡ g c) where
-  agree : (h s h' s' : ℕ) (cs : List ℕ) → through e h' s' cs ≡ Stands m u → through f h s cs ≡ through g h s cs
+module _ (e f g : ℕ → Result Standing Rule) (m u : ℕ) (same : (c k w : ℕ) → e c ≡ Ok (record { height = k; layers = w }) → k ≤ m → f c ≡ g c) where
+  agree : (h s h' s' : ℕ) (cs : List ℕ) → through e h' s' cs ≡ Ok (record { height = m; layers = u }) → through f h s cs ≡ through g h s cs
   unfolding through
   agree h s h' s' [] p = refl
   agree h s h' s' (c ∷ cs) p =
       let (k, w, q, r) = thence-stands (e c) _ p in
       let a = above e (max h' k) (bit_or s' w) cs r in
       let fg : f c ≡ g c = same c k w q (omega (arith, a, le-max_right h' k)) in
-      ap (λ (x : Reply). thence x (λ k u. through f (max h k) (bit_or s u) cs)) fg ∙ go (g c) (λ i v. agree (max h i) (bit_or s v) (max h' k) (bit_or s' w) cs r)
+      ap (λ (x : Result Standing Rule). thence x (λ k u. through f (max h k) (bit_or s u) cs)) fg ∙ go (g c) (λ i v. agree (max h i) (bit_or s v) (max h' k) (bit_or s' w) cs r)
     where
-      go : (x : Reply) → ((k u : ℕ) → through f (max h k) (bit_or s u) cs ≡ through g (max h k) (bit_or s u) cs)
+      go : (x : Result Standing Rule) → ((k u : ℕ) → through f (max h k) (bit_or s u) cs ≡ through g (max h k) (bit_or s u) cs)
           → thence x (λ k u. through f (max h k) (bit_or s u) cs) ≡ thence x (λ k u. through g (max h k) (bit_or s u) cs)
-      go (Bars n) r = unfold thence in refl
-      go (Stands k w) r = unfold thence in r k w
+      go (Err n) r = unfold thence in refl
+      go (Ok (record { height = k; layers = w })) r = unfold thence in r k w
 
 -- with an allowance instead, the first call that is too tall bars
-module _ (f g : ℕ → Reply) (left : ℕ) (cut : (c k w : ℕ) → f c ≡ Stands k w → g c ≡ within left k w) where
-  cut-through : (h s : ℕ) (cs : List ℕ) {m u : ℕ} → h ≤ left → through f h s cs ≡ Stands m u → through g h s cs ≡ within left m u
+module _ (f g : ℕ → Result Standing Rule) (left : ℕ) (cut : (c k w : ℕ) → f c ≡ Ok (record { height = k; layers = w }) → g c ≡ within left k w) where
+  cut-through : (h s : ℕ) (cs : List ℕ) {m u : ℕ} → h ≤ left → through f h s cs ≡ Ok (record { height = m; layers = u }) → through g h s cs ≡ within left m u
   unfolding through
   cut-through h s [] {m} {u} l e = sym (is_within {left = left} {h = m} u (omega (arith, same_height e)) ∙ sym e)
   cut-through h s (c ∷ cs) {m} {u} l e =
@@ -109,10 +110,10 @@ swap I P (c ∷ cs) f = (λ i. (f i).0, swap I P cs (λ i. (f i).1))
 
 -- ---- a symbol
 
-raised-stands : (x : Reply) {h s : ℕ} → raised x ≡ Stands h s → (k : ℕ) × (x ≡ Stands k s) × (h ≡ k + 1)
+raised-stands : (x : Result Standing Rule) {h s : ℕ} → raised x ≡ Ok (record { height = h; layers = s }) → (k : ℕ) × (x ≡ Ok (record { height = k; layers = s })) × (h ≡ k + 1)
 unfolding raised
-raised-stands (Bars n) e = absurd (no_bar e)
-raised-stands (Stands k u) e = (k, cc, sym (same_height e))
+raised-stands (Err n) e = absurd (no_bar e)
+raised-stands (Ok (record { height = k; layers = u })) e = (k, cc, sym (same_height e))
 
 raised-within : (left m u : ℕ) → raised (within left m u) ≡ within (suc left) (m + 1) u
 unfolding raised
@@ -121,14 +122,14 @@ raised-within left m u =
     (λ l. ap raised (is_beyond u l) ∙ sym (is_beyond {left = suc left} {h = m + 1} u (omega arith)))
     (λ l. ap raised (is_within u l) ∙ sym (is_within {left = suc left} {h = m + 1} u (omega arith)))
 
-enters-stands : (x : Option Node) (busy : Bool) (go : Node → Reply) {h s : ℕ} → enters x busy go ≡ Stands h s
-    → (d : Node) × (x ≡ some d) × (busy ≡ false) × (go d ≡ Stands h s)
+enters-stands : (x : Option Node) (busy : Bool) (go : Node → Result Standing Rule) {h s : ℕ} → enters x busy go ≡ Ok (record { height = h; layers = s })
+    → (d : Node) × (x ≡ some d) × (busy ≡ false) × (go d ≡ Ok (record { height = h; layers = s }))
 unfolding enters
 enters-stands none busy go e = absurd (no_bar e)
 enters-stands (some d) true go e = absurd (no_bar e)
 enters-stands (some d) false go e = (d, refl, refl, e)
 
-pub enters_on : {x : Option Node} {busy : Bool} {d : Node} (go : Node → Reply) → x ≡ some d → busy ≡ false → enters x busy go ≡ go d
+pub enters_on : {x : Option Node} {busy : Bool} {d : Node} (go : Node → Result Standing Rule) → x ≡ some d → busy ≡ false → enters x busy go ≡ go d
 unfolding enters
 enters_on {busy = busy} {d = d} go e f = ap (λ (y : Option Node). enters y busy go) e ∙ ap (λ (t : Bool). enters (some d) t go) f
 
@@ -139,14 +140,14 @@ module _ (g : Graph) where
     pub defined : g n ≡ some node
     pub below : ℕ
     pub tallest : ℕ
-    pub body : through (free g below) 0 node.own node.calls ≡ Stands tallest s
+    pub body : through (free g below) 0 node.own node.calls ≡ Ok (record { height = tallest; layers = s })
     pub taller : h ≡ tallest + 1
 
   standing : {a n h s : ℕ} → Stood g a n h s → Standing n h s
   unfolding free
   standing {a} {n} {h} {s} e = go a e.is
     where
-      go : (a : ℕ) → free g a n ≡ Stands h s → Standing n h s
+      go : (a : ℕ) → free g a n ≡ Ok (record { height = h; layers = s }) → Standing n h s
       go zero p = let (d, x, t, y) = enters-stands (g n) false _ p in absurd (no_bar y)
       go (suc a) p =
           let (d, x, t, y) = enters-stands (g n) false _ p in
@@ -156,7 +157,7 @@ module _ (g : Graph) where
   pub some_height : {a n h s : ℕ} → Stood g a n h s → 0 < h
   some_height e = let st = standing e in omega (arith, st.taller)
 
-  free_none_left : (n : ℕ) {d : Node} → g n ≡ some d → free g 0 n ≡ Bars 14
+  free_none_left : (n : ℕ) {d : Node} → g n ≡ some d → free g 0 n ≡ Err 14
   unfolding free
   free_none_left n x = enters_on _ x refl
 
@@ -165,7 +166,7 @@ module _ (g : Graph) where
   free-below left n x = enters_on _ x refl
 
   -- a height that is known for one allowance is known for all
-  for_all : (a n h s : ℕ) → free g a n ≡ Stands h s → (left : ℕ) → free g left n ≡ within left h s
+  for_all : (a n h s : ℕ) → free g a n ≡ Ok (record { height = h; layers = s }) → (left : ℕ) → free g left n ≡ within left h s
   unfolding free
   for_all zero n h s e left = let (d, x, t, y) = enters-stands (g n) false _ e in absurd (no_bar y)
   for_all (suc a) n h s e zero =
@@ -223,7 +224,7 @@ module _ (g : Graph) where
       ∙ sym (free-below a n st.defined))
 
   -- a symbol that stands while others are open stands without them
-  free_too : (a n h s : ℕ) (o : List ℕ) → walk g a o n ≡ Stands h s → free g a n ≡ Stands h s
+  free_too : (a n h s : ℕ) (o : List ℕ) → walk g a o n ≡ Ok (record { height = h; layers = s }) → free g a n ≡ Ok (record { height = h; layers = s })
   unfolding walk
   free_too zero n h s o e = let (d, x, f, y) = enters-stands (g n) (among n o) _ e in absurd (no_bar y)
   free_too (suc a) n h s o e =
@@ -233,7 +234,7 @@ module _ (g : Graph) where
       ∙ (ap raised (agree (walk g a (n ∷ o)) (free g a) (walk g a (n ∷ o)) k s (λ c i w p l. free_too a c i w (n ∷ o) p ∙ sym p) 0 d.own 0 d.own d.calls z)
       ∙ y)
 
-  pub stands-free : (a n h s : ℕ) (o : List ℕ) → walk g a o n ≡ Stands h s → Stood g a n h s
+  pub stands-free : (a n h s : ℕ) (o : List ℕ) → walk g a o n ≡ Ok (record { height = h; layers = s }) → Stood g a n h s
   stands-free a n h s o e = record { is = free_too a n h s o e }
 
   -- every open symbol leads to one that stands, so none stands at its height
@@ -250,7 +251,7 @@ module _ (g : Graph) where
   -- ---- a symbol leads to those that it calls, and to those that they lead to
 
   -- a call of a body that stands stands too
-  calls_stand : (left h s : ℕ) (cs : List ℕ) {m u : ℕ} → through (free g left) h s cs ≡ Stands m u → Each (λ c. NotAt g left c → ⊥) cs
+  calls_stand : (left h s : ℕ) (cs : List ℕ) {m u : ℕ} → through (free g left) h s cs ≡ Ok (record { height = m; layers = u }) → Each (λ c. NotAt g left c → ⊥) cs
   unfolding through Each
   calls_stand left h s [] e = tt
   calls_stand left h s (c ∷ cs) e =

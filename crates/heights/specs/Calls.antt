@@ -5,8 +5,8 @@ use Rattle.definition.specs.Words.{Placed}
 use Rattle.definition.specs.Table.{Step, shape, instance, setting}
 use Rattle.library.specs.Memory.{most_words, words_at}
 use Rattle.library.specs.Sound.{all_words, Proper}
+use Rattle.std.specs.Prelude.{None, Option, Some}
 use Rattle.heights.specs.declared.Next.{Next}
-use Rattle.heights.specs.declared.Next.TheVariants.{Call, NoCall}
 
 unfoldable pub call_in : Step → List ℕ → List ℕ
 call_in (shape l k) cs = cs
@@ -30,6 +30,6 @@ pub record Remains (b : List ℤ) (from end : ℕ) (cs : List ℕ) : Type 0 wher
   pub calls : calls_of steps ≡ cs
 
 -- the contract of `next_call`
-unfoldable pub CallNext : List ℤ → (from end : ℕ) → List ℕ → Next → Type 0
-CallNext b from end cs (Call n next) = (rest : List ℕ) × (cs ≡ n ∷ rest) × Remains b next end rest × (from < next)
-CallNext b from end cs NoCall = cs ≡ []
+unfoldable pub CallNext : List ℤ → (from end : ℕ) → List ℕ → Option Next → Type 0
+CallNext b from end cs (Some (record { symbol = n; at = next })) = (rest : List ℕ) × (cs ≡ n ∷ rest) × Remains b next end rest × (from < next)
+CallNext b from end cs None = cs ≡ []

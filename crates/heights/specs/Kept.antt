@@ -6,13 +6,13 @@ use Rattle.definition.specs.Limits.{deepest}
 use Rattle.library.specs.Memory.{most, most_words, symbol_at, body_at}
 use Rattle.library.specs.Sound.{Stocked}
 use Rattle.library.specs.Rows.{Sorted, Finds}
-use Rattle.library.specs.declared.Found.TheVariants.{Live, Nothing}
-use Rattle.heights.specs.declared.Looked.{Looked}
-use Rattle.heights.specs.declared.Looked.TheVariants.{Refused, Known, Fresh}
-use Rattle.heights.specs.declared.Reply.{Reply}
-use Rattle.heights.specs.declared.Reply.TheVariants.{Bars, Stands}
 use Rattle.heights.specs.Calls.{calls_of}
 use Rattle.heights.specs.Walk.{Graph, graph_in, among, walk, free, through}
+use Rattle.std.specs.Prelude.{Err, None, Ok, Result, Some}
+use Rattle.heights.specs.declared.Looked.{Looked}
+use Rattle.definition.specs.declared.Rule.{Rule}
+use Rattle.heights.specs.declared.Standing.{Standing}
+use Rattle.heights.specs.declared.Looked.TheVariants.{Known, Fresh}
 
 -- the mark of a symbol that is open
 abbrev pub open_mark : ℕ
@@ -23,21 +23,21 @@ height_at heights i = get_or heights i 0
 
 -- the row of a live symbol
 pub record AtRow (rows : List ℕ) (live n i : ℕ) : Type 0 where
-  pub finds : Finds rows live n (Live i)
+  pub finds : Finds rows live n (Some i)
 
 -- what `look_up` answers, with so many levels left
-pub data Looks (rows : List ℕ) (live : ℕ) (heights layers : List ℕ) (n left : ℕ) : Looked → Type 0 where
-  undefined : Finds rows live n Nothing → Looks rows live heights layers n left (Refused 12)
-  is_open : {i : ℕ} → AtRow rows live n i → height_at heights i ≡ open_mark → Looks rows live heights layers n left (Refused 13)
-  too_tall : {i : ℕ} → AtRow rows live n i → (height_at heights i ≡ open_mark → ⊥) → left < height_at heights i → Looks rows live heights layers n left (Refused 14)
+pub data Looks (rows : List ℕ) (live : ℕ) (heights layers : List ℕ) (n left : ℕ) : Result Looked Rule → Type 0 where
+  undefined : Finds rows live n None → Looks rows live heights layers n left (Err 12)
+  is_open : {i : ℕ} → AtRow rows live n i → height_at heights i ≡ open_mark → Looks rows live heights layers n left (Err 13)
+  too_tall : {i : ℕ} → AtRow rows live n i → (height_at heights i ≡ open_mark → ⊥) → left < height_at heights i → Looks rows live heights layers n left (Err 14)
   known : {i : ℕ} → AtRow rows live n i → (height_at heights i ≡ open_mark → ⊥) → 0 < height_at heights i → height_at heights i ≤ left
-      → Looks rows live heights layers n left (Known (height_at heights i) (get_or layers i 0))
-  too_deep : {i : ℕ} → AtRow rows live n i → height_at heights i ≡ 0 → left ≡ 0 → Looks rows live heights layers n left (Refused 14)
-  fresh : {i : ℕ} → AtRow rows live n i → height_at heights i ≡ 0 → 0 < left → Looks rows live heights layers n left (Fresh i)
+      → Looks rows live heights layers n left (Ok (Known (height_at heights i) (get_or layers i 0)))
+  too_deep : {i : ℕ} → AtRow rows live n i → height_at heights i ≡ 0 → left ≡ 0 → Looks rows live heights layers n left (Err 14)
+  fresh : {i : ℕ} → AtRow rows live n i → height_at heights i ≡ 0 → 0 < left → Looks rows live heights layers n left (Ok (Fresh i))
 
 -- a symbol stands where so many levels are left, whatever is open
 pub record Stood (g : Graph) (left n h s : ℕ) : Type 0 where
-  pub is : free g left n ≡ Stands h s
+  pub is : free g left n ≡ Ok (record { height = h; layers = s })
 
 abbrev pub NotAt : Graph → ℕ → ℕ → Type 0
 NotAt g left n = (h s : ℕ) → Stood g left n h s → ⊥
@@ -87,17 +87,17 @@ pub record Keeps (rows : List ℕ) (b : List ℤ) (live : ℕ) (own heights heig
   pub layers_sized : length layers' ≡ most
   pub remembered : Remembered rows b live own heights' layers'
 
-abbrev pub KeepsIf : Reply → Type 0 → Type 0
-KeepsIf (Bars n) K = Unit {0}
-KeepsIf (Stands h s) K = K
+abbrev pub KeepsIf : Result Standing Rule → Type 0 → Type 0
+KeepsIf (Err n) K = Unit {0}
+KeepsIf (Ok (record { height = h; layers = s })) K = K
 
 -- the contract of `reply_to`
-pub record Replies (rows : List ℕ) (b : List ℤ) (live : ℕ) (own heights : List ℕ) (n left : ℕ) (r : Reply) (heights' layers' : List ℕ) : Type 0 where
+pub record Replies (rows : List ℕ) (b : List ℤ) (live : ℕ) (own heights : List ℕ) (n left : ℕ) (r : Result Standing Rule) (heights' layers' : List ℕ) : Type 0 where
   pub reply : (o : List ℕ) → Opened rows b live own heights n o → r ≡ walk (graph_in rows b live own) left o n
   pub keeps : KeepsIf r (Keeps rows b live own heights heights' layers')
 
 -- of `reply_of_body`
-pub record BodyReplies (rows : List ℕ) (b : List ℤ) (live : ℕ) (own heights : List ℕ) (row left : ℕ) (r : Reply) (heights' layers' : List ℕ) : Type 0 where
+pub record BodyReplies (rows : List ℕ) (b : List ℤ) (live : ℕ) (own heights : List ℕ) (row left : ℕ) (r : Result Standing Rule) (heights' layers' : List ℕ) : Type 0 where
   pub reply : (o : List ℕ) → Inside rows b live own heights row o
       → r ≡ through (walk (graph_in rows b live own) left o) 0 (get_or own row 0) (calls_of (body_at rows b row))
   pub keeps : KeepsIf r (Keeps rows b live own heights heights' layers')

@@ -8,17 +8,18 @@ use Rattle.definition.specs.Summary as summary
 use Rattle.definition.specs.Summary.{Names, bars, stands, own_layers, reply_to}
 use Rattle.definition.specs.Marks.{set_of_layers}
 use Rattle.library.specs.Memory.{body_at, table_of}
-use Rattle.heights.specs.declared.Reply.{Reply}
-use Rattle.heights.specs.declared.Reply.TheVariants.{Bars, Stands}
+use Rattle.std.specs.Prelude.{Err, Ok, Result}
+use Rattle.heights.specs.declared.Standing.{Standing}
+use Rattle.definition.specs.declared.Rule.{Rule}
 
-unfoldable pub ReplyOf : Names → summary.Reply → Reply → Type 0
-ReplyOf ns (bars rule) r = r ≡ Bars (number_of rule)
-ReplyOf ns (stands h ls) r = r ≡ Stands h (set_of_layers ns ls)
+unfoldable pub ReplyOf : Names → summary.Reply → Result Standing Rule → Type 0
+ReplyOf ns (bars rule) r = r ≡ Err (number_of rule)
+ReplyOf ns (stands h ls) r = r ≡ Ok (record { height = h; layers = (set_of_layers ns ls) })
 
 -- the set beside each row is that of its body's own layers
 abbrev pub OwnSets : (rows : List ℕ) (b : List ℤ) (live : ℕ) (own : List ℕ) → Names → Type 0
 OwnSets rows b live own ns = (i : ℕ) → i < live → get_or own i 0 ≡ set_of_layers ns (own_layers (body_at rows b i))
 
 -- the contract of `ask`
-abbrev pub SymbolReplies : (rows : List ℕ) (b : List ℤ) (live : ℕ) (own : List ℕ) (n : ℕ) → Reply → Type 0
+abbrev pub SymbolReplies : (rows : List ℕ) (b : List ℤ) (live : ℕ) (own : List ℕ) (n : ℕ) → Result Standing Rule → Type 0
 SymbolReplies rows b live own n r = (ns : Names) → OwnSets rows b live own ns → ReplyOf ns (reply_to deepest (table_of rows b live) [] 0 n) r

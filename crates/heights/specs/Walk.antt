@@ -9,8 +9,9 @@ use Rattle.definition.specs.Words.{any}
 use Rattle.definition.specs.Table.{Definition, find}
 use Rattle.library.specs.Memory.{symbol_at, table_of}
 use Rattle.heights.specs.Calls.{calls_of}
-use Rattle.heights.specs.declared.Reply.{Reply}
-use Rattle.heights.specs.declared.Reply.TheVariants.{Bars, Stands}
+use Rattle.std.specs.Prelude.{Err, Ok, Result}
+use Rattle.heights.specs.declared.Standing.{Standing}
+use Rattle.definition.specs.declared.Rule.{Rule}
 
 -- a live symbol: the symbols that its body calls, in written order, and the set of its own layers
 pub record Node : Type 0 where
@@ -21,24 +22,24 @@ abbrev pub Graph : Type 0
 Graph = ℕ → Option Node
 
 -- a callee's reply, and what follows where it stands
-unfoldable pub thence : Reply → (ℕ → ℕ → Reply) → Reply
-thence (Bars n) go = Bars n
-thence (Stands k u) go = go k u
+unfoldable pub thence : Result Standing Rule → (ℕ → ℕ → Result Standing Rule) → Result Standing Rule
+thence (Err n) go = Err n
+thence (Ok (record { height = k; layers = u })) go = go k u
 
 -- calls one after another: the tallest so far, and the layers so far
-unfoldable pub through : (ℕ → Reply) → (tallest set : ℕ) → List ℕ → Reply
-through f h s [] = Stands h s
+unfoldable pub through : (ℕ → Result Standing Rule) → (tallest set : ℕ) → List ℕ → Result Standing Rule
+through f h s [] = Ok (record { height = h; layers = s })
 through f h s (c ∷ cs) = thence (f c) (λ k u. through f (max h k) (bit_or s u) cs)
 
 -- one more than the tallest callee
-unfoldable pub raised : Reply → Reply
-raised (Bars n) = Bars n
-raised (Stands h s) = Stands (h + 1) s
+unfoldable pub raised : Result Standing Rule → Result Standing Rule
+raised (Err n) = Err n
+raised (Ok (record { height = h; layers = s })) = Ok (record { height = (h + 1); layers = s })
 
 -- 12, 13, or what its node leads to
-unfoldable pub enters : Option Node → (busy : Bool) → (Node → Reply) → Reply
-enters none busy go = Bars 12
-enters (some d) true go = Bars 13
+unfoldable pub enters : Option Node → (busy : Bool) → (Node → Result Standing Rule) → Result Standing Rule
+enters none busy go = Err 12
+enters (some d) true go = Err 13
 enters (some d) false go = go d
 
 -- a symbol is one of those that are open
@@ -46,18 +47,18 @@ abbrev pub among : ℕ → List ℕ → Bool
 among n o = any (λ m. eqb m n) o
 
 -- 14 where no level is left, and else its body is gone through one level down, with the symbol open
-unfoldable pub walk : Graph → (left : ℕ) → List ℕ → ℕ → Reply
-walk g zero o n = enters (g n) (among n o) (λ d. Bars 14)
+unfoldable pub walk : Graph → (left : ℕ) → List ℕ → ℕ → Result Standing Rule
+walk g zero o n = enters (g n) (among n o) (λ d. Err 14)
 walk g (suc left) o n = enters (g n) (among n o) (λ d. raised (through (walk g left (n ∷ o)) 0 d.own d.calls))
 
 -- the same, whatever is open: a symbol that calls itself comes to 14
-unfoldable pub free : Graph → (left : ℕ) → ℕ → Reply
-free g zero n = enters (g n) false (λ d. Bars 14)
+unfoldable pub free : Graph → (left : ℕ) → ℕ → Result Standing Rule
+free g zero n = enters (g n) false (λ d. Err 14)
 free g (suc left) n = enters (g n) false (λ d. raised (through (free g left) 0 d.own d.calls))
 
 -- a known height and set, where so many levels are left: 14 where the height is larger
-abbrev pub within : (left : ℕ) → ℕ → ℕ → Reply
-within left h s = if ltb left h then Bars 14 else Stands h s
+abbrev pub within : (left : ℕ) → ℕ → ℕ → Result Standing Rule
+within left h s = if ltb left h then Err 14 else Ok (record { height = h; layers = s })
 
 -- ---- the table that memory holds, with a set beside each row
 

@@ -13,24 +13,25 @@ ghost use Rattle.heights.specs.Walk.{walk, graph_in};
 ghost use Rattle.heights.specs.Kept.{Looks, Ready, Opened, Replies, Inside, BodyReplies};
 ghost use Rattle.heights.specs.Replies.{SymbolReplies};
 
-// What a symbol gives: the number of a refusal, or its height and the set of its layers.
+use definition::Rule;
+
+// What a symbol gives, if no rule bars it: its height and the set of its layers.
 #[derive(Clone, Copy)]
-pub enum Reply {
-    Bars(usize),
-    Stands(usize, u64),
+pub struct Standing {
+    pub height: usize,
+    pub layers: u64,
 }
 
 // The next call of a body: its symbol, and where the command after it begins.
 #[derive(Clone, Copy)]
-enum Next {
-    Call(usize, usize),
-    NoCall,
+struct Next {
+    symbol: usize,
+    at: usize,
 }
 
-// What is known of a symbol before its body is gone through: the refusal that it gives, its height and its set, or its row.
+// What is known of a symbol before its body is gone through, if no rule bars it: its height and its set, or its row.
 #[derive(Clone, Copy)]
 enum Looked {
-    Refused(usize),
     Known(usize, u64),
     Fresh(usize),
 }
@@ -51,7 +52,7 @@ fn taller(one: usize, two: usize) -> usize
 }
 
 // The first call from a place of a body on: shapes and L commands are passed over.
-fn next_call(bodies: &[i32], from: usize, end: usize) -> Next
+fn next_call(bodies: &[i32], from: usize, end: usize) -> Option<Next>
     requires { (cs : List ℕ) × Remains bodies.now from end cs }
     ensures { (cs : List ℕ) → Remains bodies.now from end cs → CallNext bodies.now from end cs result }
 {
@@ -59,11 +60,14 @@ fn next_call(bodies: &[i32], from: usize, end: usize) -> Next
     while at < end {
         let head = engine::head_at(bodies, at);
         if head.kind == b'C' {
-            return Next::Call(shapes::size_at(bodies, at + 2), head.next);
+            return Some(Next {
+                symbol: shapes::size_at(bodies, at + 2),
+                at: head.next,
+            });
         }
         at = head.next;
     }
-    Next::NoCall
+    None
 }
 
 // Refusals 12, 13 and 14 of one call with so many levels left, in their order (RULES 8). A known height is too tall where fewer levels are left.
@@ -74,31 +78,25 @@ fn look_up(
     layers: &[u64; library::MOST],
     symbol: usize,
     left: usize,
-) -> Looked
+) -> Result<Looked, Rule>
     requires { Sorted rows.now live }
     ensures { Looks rows.now live heights.now layers.now symbol left result }
 {
-    match library::find(rows, live, symbol) {
-        library::Found::Nothing => {
-            return Looked::Refused(12);
-        }
-        library::Found::Live(row) => {
-            let height = heights[row];
-            if height == OPEN {
-                return Looked::Refused(13);
-            }
-            if left < height {
-                return Looked::Refused(14);
-            }
-            if height != UNKNOWN {
-                return Looked::Known(height, layers[row]);
-            }
-            if left == 0 {
-                return Looked::Refused(14);
-            }
-            return Looked::Fresh(row);
-        }
+    let row = library::find(rows, live, symbol).ok_or(Rule::UndefinedSymbol)?;
+    let height = heights[row];
+    if height == OPEN {
+        return Err(Rule::BeingDrawn);
     }
+    if left < height {
+        return Err(Rule::TooDeep);
+    }
+    if height != UNKNOWN {
+        return Ok(Looked::Known(height, layers[row]));
+    }
+    if left == 0 {
+        return Err(Rule::TooDeep);
+    }
+    Ok(Looked::Fresh(row))
 }
 
 // One call: refused, known, or its body is gone through with the symbol open, and its height is one more than its tallest callee.
@@ -112,29 +110,25 @@ fn reply_to(
     layers: &mut [u64; library::MOST],
     symbol: usize,
     left: usize,
-) -> Reply
+) -> Result<Standing, Rule>
     requires { Ready rows.now bodies.now live own.now heights.old layers.old left × ((o : List ℕ) × Opened rows.now bodies.now live own.now heights.old symbol o) }
     ensures { Replies rows.now bodies.now live own.now heights.old symbol left result heights.new layers.new }
 {
-    match look_up(rows, live, heights, layers, symbol, left) {
-        Looked::Refused(number) => {
-            return Reply::Bars(number);
-        }
-        Looked::Known(height, set) => {
-            return Reply::Stands(height, set);
-        }
+    match look_up(rows, live, heights, layers, symbol, left)? {
+        Looked::Known(height, set) => Ok(Standing {
+            height,
+            layers: set,
+        }),
         Looked::Fresh(row) => {
             heights[row] = OPEN;
-            match reply_of_body(bodies, rows, live, own, heights, layers, row, left - 1) {
-                Reply::Bars(number) => {
-                    return Reply::Bars(number);
-                }
-                Reply::Stands(tallest, set) => {
-                    heights[row] = tallest + 1;
-                    layers[row] = set;
-                    return Reply::Stands(tallest + 1, set);
-                }
-            }
+            let body = reply_of_body(bodies, rows, live, own, heights, layers, row, left - 1)?;
+            let height = body.height + 1;
+            heights[row] = height;
+            layers[row] = body.layers;
+            Ok(Standing {
+                height,
+                layers: body.layers,
+            })
         }
     }
 }
@@ -150,7 +144,7 @@ fn reply_of_body(
     layers: &mut [u64; library::MOST],
     row: usize,
     left: usize,
-) -> Reply
+) -> Result<Standing, Rule>
     requires { Ready rows.now bodies.now live own.now heights.old layers.old left × ((o : List ℕ) × Inside rows.now bodies.now live own.now heights.old row o) }
     ensures { BodyReplies rows.now bodies.now live own.now heights.old row left result heights.new layers.new }
 {
@@ -160,20 +154,17 @@ fn reply_of_body(
     let mut set = own[row];
     loop {
         match next_call(bodies, at, end) {
-            Next::NoCall => {
-                return Reply::Stands(tallest, set);
+            None => {
+                return Ok(Standing {
+                    height: tallest,
+                    layers: set,
+                });
             }
-            Next::Call(symbol, next) => {
-                at = next;
-                match reply_to(bodies, rows, live, own, heights, layers, symbol, left) {
-                    Reply::Bars(number) => {
-                        return Reply::Bars(number);
-                    }
-                    Reply::Stands(height, more) => {
-                        tallest = taller(tallest, height);
-                        set = set | more;
-                    }
-                }
+            Some(next) => {
+                at = next.at;
+                let called = reply_to(bodies, rows, live, own, heights, layers, next.symbol, left)?;
+                tallest = taller(tallest, called.height);
+                set = set | called.layers;
             }
         }
     }
@@ -186,7 +177,7 @@ pub fn ask(
     live: usize,
     own: &[u64; library::MOST],
     symbol: usize,
-) -> Reply
+) -> Result<Standing, Rule>
     requires { Sorted rows.now live × Stocked rows.now bodies.now live × (length bodies.now ≤ most_words) }
     ensures symbol_replies { SymbolReplies rows.now bodies.now live own.now symbol result }
     ensures value { result ≡ walk (graph_in rows.now bodies.now live own.now) deepest [] symbol }

@@ -6,11 +6,9 @@ ghost use Rattle.std.specs.Prelude.{◌≡◌, ◌+◌, ◌≤◌, length, take}
 ghost use Rattle.definition.specs.Limits.{most_bytes};
 ghost use Rattle.joining.specs.Joined.{joined};
 ghost use Rattle.digits.specs.Writes.{Writes};
-ghost use Rattle.join.specs.declared.JoinAnswer.TheVariants.{NotJoined};
 ghost use Rattle.join.specs.Made.{CutAt, fitted, room_after, Made};
 
-use definition::Refusal;
-use grammar::Verdict;
+use definition::{Refusal, Rule};
 
 // How many bytes `DD0;` has.
 const SEAM: usize = 4;
@@ -22,17 +20,18 @@ pub const SECOND: usize = 2;
 
 const NEITHER: usize = 0;
 
-// What comes of two texts: how long the joined text is that now stands in the room; or a refusal, and which text it is about.
+// Why two texts are not joined: a refusal, and which text it is about.
 #[derive(Clone, Copy)]
-pub enum JoinAnswer {
-    Written(usize),
-    NotJoined(Refusal, usize),
+pub struct NotJoined {
+    pub refusal: Refusal,
+    pub text: usize,
 }
 
-fn refused(text: usize, number: usize, place: usize) -> JoinAnswer
-    ensures { result ≡ NotJoined (record { number = number; place = place }) text }
+fn refused(text: usize, rule: Rule, place: usize) -> NotJoined
+    ensures { result ≡ record { refusal = record { rule = rule; place = place }; text = text } }
 {
-    JoinAnswer::NotJoined(Refusal { number, place }, text)
+    let refusal = Refusal { rule, place };
+    NotJoined { refusal, text }
 }
 
 // Where the last letter E stands, looked for from the end: in a text of the grammar only blanks follow it. 0 where there is none.
@@ -75,7 +74,7 @@ fn write(first: &[u8], end: usize, second: &[u8], room: &mut [u8]) -> usize
 }
 
 // Both texts are in the grammar: the joined one is written where it fits.
-fn join_sound(first: &[u8], second: &[u8], room: &mut [u8]) -> JoinAnswer
+fn join_sound(first: &[u8], second: &[u8], room: &mut [u8]) -> Result<usize, NotJoined>
     requires { (length first.now ≤ most_bytes) × (length second.now ≤ most_bytes) }
     ensures value { result ≡ fitted (length (joined first.now second.now)) (length room.old) }
     ensures room_after { room.new ≡ room_after result (joined first.now second.now) room.old }
@@ -83,39 +82,33 @@ fn join_sound(first: &[u8], second: &[u8], room: &mut [u8]) -> JoinAnswer
     let end = end_of(first);
     let length = end + SEAM + second.len();
     if room.len() < length {
-        return refused(NEITHER, 18, 0);
+        return Err(refused(NEITHER, Rule::FlatFileTooLong, 0));
     }
     if definition::MOST_BYTES < length {
-        return refused(NEITHER, 18, 0);
+        return Err(refused(NEITHER, Rule::FlatFileTooLong, 0));
     }
-    JoinAnswer::Written(write(first, end, second, room))
+    Ok(write(first, end, second, room))
 }
 
 // Both texts are short enough: each is judged by the grammar.
-fn join_judged(first: &[u8], second: &[u8], room: &mut [u8]) -> JoinAnswer
+fn join_judged(first: &[u8], second: &[u8], room: &mut [u8]) -> Result<usize, NotJoined>
     requires { (length first.now ≤ most_bytes) × (length second.now ≤ most_bytes) }
     ensures { Made first.now second.now room.old result room.new }
 {
-    let one = grammar::recognise(first);
-    let two = grammar::recognise(second);
-    match one {
-        Verdict::StuckAt(place) => refused(FIRST, 2, place),
-        Verdict::InGrammar => match two {
-            Verdict::StuckAt(place) => refused(SECOND, 2, place),
-            Verdict::InGrammar => join_sound(first, second, room),
-        },
-    }
+    grammar::recognise(first).map_err(|place| refused(FIRST, Rule::NotInGrammar, place))?;
+    grammar::recognise(second).map_err(|place| refused(SECOND, Rule::NotInGrammar, place))?;
+    join_sound(first, second, room)
 }
 
-// The joined text comes to stand in the room, or two texts are refused and the room is unchanged. All is settled: `made_once` of proofs/Once.antt.
-pub fn join(first: &[u8], second: &[u8], room: &mut [u8]) -> JoinAnswer
+// How long the joined text is that now stands in the room; or two texts are refused and the room is unchanged. All is settled: `made_once` of proofs/Once.antt.
+pub fn join(first: &[u8], second: &[u8], room: &mut [u8]) -> Result<usize, NotJoined>
     ensures { Made first.now second.now room.old result room.new }
 {
     if definition::MOST_BYTES < first.len() {
-        return refused(FIRST, 1, 0);
+        return Err(refused(FIRST, Rule::TextTooLong, 0));
     }
     if definition::MOST_BYTES < second.len() {
-        return refused(SECOND, 1, 0);
+        return Err(refused(SECOND, Rule::TextTooLong, 0));
     }
     join_judged(first, second, room)
 }

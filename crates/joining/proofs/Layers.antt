@@ -12,7 +12,7 @@ use lib.IntN.{ℤ, pos, negsuc, neg_ℤ, nat_abs}
 use lib.ListN.{length}
 use Rattle.definition.specs.declared.Refusal.{Refusal}
 use Rattle.definition.specs.Words.{Placed, at, point, any, those}
-use Rattle.definition.specs.Rules.{number_too_large, zero_factor, scaled_too_large, degenerate_command, no_layer, too_many_parts}
+use Rattle.definition.specs.Rules.{NumberTooLarge, ZeroFactor, ScaledTooLarge, DegenerateCommand, NoLayer, TooManyParts}
 use Rattle.definition.specs.Commands.{Number, Shape, shape_of, Turn, translate, mirror_x, mirror_y, rotate, Command, draw, layer, call, start, finish, delete, nothing}
 use Rattle.definition.specs.Standing.{Standing, outside, after, nearest, scaled, whole, given, scaled_shape, scaled_turn}
 use Rattle.definition.specs.Faults.{parts_of, bearings, distances, numbers_of, zero_scale, nowhere, empty_shape, degenerate, layerless, has_too_many, at_numbers, at_command, beyond, faults, all_faults}
@@ -118,12 +118,12 @@ module _ {s t : Standing} (h : Covers s t) where
   faults-same c e =
       let w = c.what in
       let p = c.place in
-      λ i. at_numbers number_too_large beyond (numbers_of w)
-      ++ (at_command zero_factor (zero_scale w) p
-      ++ (at_numbers scaled_too_large (λ d. beyond (sym (scaled-same d) i)) (distances w)
-      ++ (at_command degenerate_command (sym (degenerate-same w) i) p
-      ++ (at_command no_layer ((layer-same w e ∙ sym e) i) p
-      ++ at_command too_many_parts (has_too_many w) p))))
+      λ i. at_numbers NumberTooLarge beyond (numbers_of w)
+      ++ (at_command ZeroFactor (zero_scale w) p
+      ++ (at_numbers ScaledTooLarge (λ d. beyond (sym (scaled-same d) i)) (distances w)
+      ++ (at_command DegenerateCommand (sym (degenerate-same w) i) p
+      ++ (at_command NoLayer ((layer-same w e ∙ sym e) i) p
+      ++ at_command TooManyParts (has_too_many w) p))))
 
   whole_same : (z : ℤ) → whole s z ≡ whole t z
   unfolding whole
@@ -139,13 +139,13 @@ unfolding faults
 layered s c e =
     let w = c.what in
     let p = c.place in
-    let four = nil-right (at_numbers number_too_large beyond (numbers_of w)) _ e in
-    let six = nil-right (at_command zero_factor (zero_scale w) p) _ four in
-    let seven = nil-right (at_numbers scaled_too_large (λ d. beyond (scaled s d)) (distances w)) _ six in
-    let eight = nil-right (at_command degenerate_command (degenerate s w) p) _ seven in
-    go (layerless s w) (nil-left (at_command no_layer (layerless s w) p) _ eight)
+    let four = nil-right (at_numbers NumberTooLarge beyond (numbers_of w)) _ e in
+    let six = nil-right (at_command ZeroFactor (zero_scale w) p) _ four in
+    let seven = nil-right (at_numbers ScaledTooLarge (λ d. beyond (scaled s d)) (distances w)) _ six in
+    let eight = nil-right (at_command DegenerateCommand (degenerate s w) p) _ seven in
+    go (layerless s w) (nil-left (at_command NoLayer (layerless s w) p) _ eight)
   where
-    go : (b : Bool) → at_command no_layer b c.place ≡ [] → b ≡ false
+    go : (b : Bool) → at_command NoLayer b c.place ≡ [] → b ≡ false
     go true f = absurd (nil≢cons (sym f))
     go false f = refl
 

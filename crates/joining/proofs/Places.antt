@@ -14,7 +14,7 @@ use lib.ListN.{length, get_or, drop, length-map, get_or-map}
 use Rattle.grammar.specs.Notation.{Letter, head, second, turn, axis, sign, lead, stop, 'B', 'C', 'D', 'L', 'P', 'R', 'S', 'T', 'W', 'X'}
 use Rattle.definition.specs.declared.Refusal.{Refusal}
 use Rattle.definition.specs.Limits.{most_points, most_turns}
-use Rattle.definition.specs.Rules.{Rule, number_too_large, zero_factor, scaled_too_large, degenerate_command, no_layer, too_many_parts, refuse}
+use Rattle.definition.specs.Rules.{Rule, NumberTooLarge, ZeroFactor, ScaledTooLarge, DegenerateCommand, NoLayer, TooManyParts, refuse}
 use Rattle.definition.specs.Words.{Placed, at, Point, point, those, any, first}
 use Rattle.definition.specs.Commands.{Number, box, flash, wire, polygon, Shape, shape_of, Turn, translate, mirror_x, mirror_y, rotate}
 use Rattle.definition.specs.Commands.{Command, draw, layer, call, start, finish, delete, nothing, ◌plays◌, ◌is◌}
@@ -330,11 +330,11 @@ pub faults_shift : (k : ℕ) (s : Standing) (c : Placed Command) → faults s (s
 unfolding faults
 faults_shift k s c =
     let w = c.what in
-    (and_then (number number_too_large beyond (numbers_of w) _ (numbers_of_shift k w))
-    (and_then (command zero_factor (zero_scale w) _ (zero_scale_shift k s w))
-    (and_then (number scaled_too_large (λ d. beyond (scaled s d)) (distances w) _ (distances_shift k w))
-    (and_then (command degenerate_command (degenerate s w) _ (degenerate_shift k s w))
-    (and_then (command no_layer (layerless s w) _ (layerless_shift k s w)) (command too_many_parts (has_too_many w) _ (has_too_many_shift k s w))))))).maps
+    (and_then (number NumberTooLarge beyond (numbers_of w) _ (numbers_of_shift k w))
+    (and_then (command ZeroFactor (zero_scale w) _ (zero_scale_shift k s w))
+    (and_then (number ScaledTooLarge (λ d. beyond (scaled s d)) (distances w) _ (distances_shift k w))
+    (and_then (command DegenerateCommand (degenerate s w) _ (degenerate_shift k s w))
+    (and_then (command NoLayer (layerless s w) _ (layerless_shift k s w)) (command TooManyParts (has_too_many w) _ (has_too_many_shift k s w))))))).maps
   where
     number : (n : Rule) (fails : ℤ → Bool) (ds ds' : List Number) → ds' ≡ map (shift k) ds → Maps (shift_refusal k) (at_numbers n fails ds) (at_numbers n fails ds')
     number n fails ds ds' e = record { maps = ap (at_numbers n fails) e ∙ at_numbers_shift n k fails ds }

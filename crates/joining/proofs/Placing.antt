@@ -12,7 +12,7 @@ use lib.ListN.{length}
 use Rattle.definition.specs.declared.Refusal.{Refusal}
 use Rattle.definition.specs.Limits.{deepest, most_definitions}
 use Rattle.definition.specs.Words.{Placed, at, Point, any, none?}
-use Rattle.definition.specs.Rules.{off_the_axes}
+use Rattle.definition.specs.Rules.{OffTheAxes}
 use Rattle.definition.specs.Commands.{Shape, shape_of, Turn}
 use Rattle.definition.specs.Faults.{beyond, both, bearings}
 use Rattle.definition.specs.Turns.{heading, act, aim, in_order, moved, off_axes}
@@ -80,7 +80,7 @@ module _ (inner outer : List (Turn ℤ)) where
 
   same_way : RightAngled outer → (left : ℕ) (t : Table) (chain : Chain) (n : ℕ) → passage_of left t chain n inner ≡ passage_of left t chain n (composed inner outer)
   unfolding passage_of
-  same_way h left t chain n = ap (λ (b : Bool). if b then barred off_the_axes else passage_to (find n t) left chain n) (sym (same_angles h))
+  same_way h left t chain n = ap (λ (b : Bool). if b then barred OffTheAxes else passage_to (find n t) left chain n) (sym (same_angles h))
 
   -- a call with the list `inner` in a body that is drawn under `outer` draws what it draws by itself with the composed list: the same shapes at the same
   -- places in the same order, and the same refusals

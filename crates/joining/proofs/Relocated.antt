@@ -13,7 +13,7 @@ use lib.IntN.{ℤ, nat_abs}
 use lib.ListN.{length, length-map}
 use Rattle.definition.specs.declared.Refusal.{Refusal}
 use Rattle.definition.specs.Limits.{most_definitions, deepest, most_calls, most_shapes}
-use Rattle.definition.specs.Rules.{too_many_definitions, off_the_axes, being_drawn, too_deep, refuse}
+use Rattle.definition.specs.Rules.{TooManyDefinitions, OffTheAxes, BeingDrawn, TooDeep, refuse}
 use Rattle.definition.specs.Words.{Placed, at, any, none?}
 use Rattle.definition.specs.Commands.{Shape, Turn, Command, draw, layer, call, start, finish, delete, nothing}
 use Rattle.definition.specs.Standing.{Standing, after}
@@ -112,19 +112,19 @@ module _ (f : ℕ → ℕ) where
   passage_relocated left t chain n ts = rw (find_relocated n t) (go (off_axes ts) (find n t))
     where
       chosen_so : (x y : Bool) (d : Definition)
-          → (if x then barred being_drawn else if y then barred too_deep else leads (relocate_definition d))
-          ≡ relocate_passage (if x then barred being_drawn else if y then barred too_deep else leads d)
+          → (if x then barred BeingDrawn else if y then barred TooDeep else leads (relocate_definition d))
+          ≡ relocate_passage (if x then barred BeingDrawn else if y then barred TooDeep else leads d)
       chosen_so true y d = refl
       chosen_so false true d = refl
       chosen_so false false d = refl
 
       go : (a : Bool) (found : Option Definition)
-          → (if a then barred off_the_axes else passage_to (Option.map relocate_definition found) left (map relocate chain) n)
-          ≡ relocate_passage (if a then barred off_the_axes else passage_to found left chain n)
+          → (if a then barred OffTheAxes else passage_to (Option.map relocate_definition found) left (map relocate chain) n)
+          ≡ relocate_passage (if a then barred OffTheAxes else passage_to found left chain n)
       go true found = refl
       go false none = refl
       go false (some d) =
-          ap (λ (x : Bool). if x then barred being_drawn else if eqb left 0 then barred too_deep else leads (relocate_definition d))
+          ap (λ (x : Bool). if x then barred BeingDrawn else if eqb left 0 then barred TooDeep else leads (relocate_definition d))
           (any_map (λ (c : Placed ℕ). eqb c.what n) relocate (λ c. refl) chain)
           ∙ chosen_so (any (λ c. eqb c.what n) chain) (eqb left 0) d
 
@@ -161,7 +161,7 @@ module _ (f : ℕ → ℕ) where
         step_relocated (drawn_call deepest t [] []) (drawn_call deepest (map relocate_definition t) [] []) (call_relocated deepest [] []) [] [] s.place s.what
     happens_relocated (define d) =
         ap (λ (e : Event). e ∷ [])
-        (ap (λ (n : ℕ). if ltb most_definitions n then refused (refuse too_many_definitions (f d.place)) [] else entered (relocate_definition d) (map relocate_definition t))
+        (ap (λ (n : ℕ). if ltb most_definitions n then refused (refuse TooManyDefinitions (f d.place)) [] else entered (relocate_definition d) (map relocate_definition t))
         (ap length (enter_relocated d t) ∙ length-map (enter d t) relocate_definition)
         ∙ chosen relocate_event (ltb most_definitions (length (enter d t))) refl refl)
     happens_relocated (remove n) = refl

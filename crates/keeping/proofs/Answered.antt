@@ -14,12 +14,12 @@ use Rattle.pieces.specs.Pieces.{letter_f, Fit}
 use Rattle.pieces.specs.declared.Spot.{Spot}
 use Rattle.rules.specs.Letters.{letter_l}
 use Rattle.rules.specs.Written.{Written}
-use Rattle.commands.specs.declared.Read.{Read}
-use Rattle.commands.specs.declared.Read.TheVariants.{Decoded, Nothing}
 use Rattle.commands.specs.Words.{DecodedOne, ReadsCommand}
 use Rattle.keeping.specs.declared.Stored.TheVariants.{More, Last, Tight}
 use Rattle.keeping.specs.Growth.{steps, Storable, Stores, Ready, KeepsBy, KeepsCommand}
 use Rattle.keeping.proofs.Onward.{size, keeps_none, keeps-last, keeps_by, keeps-tight, storable, keeps-stored, stored-size}
+use Rattle.std.specs.Prelude.{None, Option, Some}
+use Rattle.commands.specs.declared.Decoded.{Decoded}
 
 module _ (words : List ℤ) (used : ℕ) where
   -- the part lent, and the run with it put back
@@ -38,24 +38,24 @@ module _ (words : List ℤ) (used : ℕ) where
       ap (λ (l : List ℤ). take used words ++ (part ++ l)) e ∙ ap (λ (l : List ℤ). take used words ++ l) (append-nil part)
 
 module _ {t : List ℕ} {from : Spot} {a b : ℕ} {rows : List ℕ} {words : List ℤ} {live row used : ℕ} {layered : Bool} (g : Ready t from a b rows words live row used layered) (fit : Fit t from) where
-  pub answers_none : (r : Read) (part : List ℤ) → ReadsCommand t from a b (lent words used) r part → r ≡ Nothing
+  pub answers_none : (r : Option Decoded) (part : List ℤ) → ReadsCommand t from a b (lent words used) r part → r ≡ None
       → KeepsCommand t from a b rows words live row used layered (Last from) rows (back words used part)
   unfolding KeepsBy
   answers_none r part x q =
-      let y = subst (λ (r : Read). ReadsCommand t from a b (lent words used) r part) q x in
+      let y = subst (λ (r : Option Decoded). ReadsCommand t from a b (lent words used) r part) q x in
       let z = keeps_none g fit y.0 (back words used part) (back_is words used part ∙ ap (λ (l : List ℤ). take used words ++ l) (y.1 ∙ lent_is words used)) in
       record { size = ap length (back_is words used part ∙ ap (λ (l : List ℤ). take used words ++ l) (y.1 ∙ lent_is words used)) ∙ whole; by = z }
     where
       whole : length (take used words ++ drop used words) ≡ length words
       whole = ap length (take-append-drop used words)
 
-  module _ (r : Read) (part : List ℤ) (x : ReadsCommand t from a b (lent words used) r part) {k p n : ℕ} {to : Spot} (q : r ≡ Decoded k p n to) where
+  module _ (r : Option Decoded) (part : List ℤ) (x : ReadsCommand t from a b (lent words used) r part) {k p n : ℕ} {to : Spot} (q : r ≡ Some (record { kind = k; place = p; end = n; to = to })) where
     account : Written
-    account = (subst (λ (r : Read). ReadsCommand t from a b (lent words used) r part) q x).0
+    account = (subst (λ (r : Option Decoded). ReadsCommand t from a b (lent words used) r part) q x).0
 
     one : DecodedOne t from a b account (drop used words) k p n to part
     unfolding account
-    one = subst (λ (l : List ℤ). DecodedOne t from a b account l k p n to part) (lent_is words used) (subst (λ (r : Read). ReadsCommand t from a b (lent words used) r part) q x).1
+    one = subst (λ (l : List ℤ). DecodedOne t from a b account l k p n to part) (lent_is words used) (subst (λ (r : Option Decoded). ReadsCommand t from a b (lent words used) r part) q x).1
 
     same : length (back words used part) ≡ length words
     same = size g one (back words used part) (back_is words used part)

@@ -23,8 +23,6 @@ use Rattle.laws.proofs.Story.Lean.{lean-find}
 use Rattle.pieces.specs.declared.Spot.{Spot}
 use Rattle.counts.specs.declared.Counts.{Counts}
 use Rattle.counts.specs.Counting.{tally, CountsRedefinition}
-use Rattle.library.specs.declared.Begun.{Begun}
-use Rattle.library.specs.declared.Begun.TheVariants.{Replaced, Added, Full}
 use Rattle.library.specs.Memory.{table_of, symbol_at, needed_at, needed_in, most_words}
 use Rattle.library.specs.Rows.{bare, before, Entry}
 use Rattle.library.specs.Rows.{Begins as BeginsRow}
@@ -34,13 +32,16 @@ use Rattle.library.proofs.Entering.{begun, begun-empty, needed-over, needed_in_l
 use Rattle.library.proofs.Holding.{held-table, held-needed, holds-over, holds_in}
 use Rattle.keeping.specs.declared.Start.{Start}
 use Rattle.keeping.specs.declared.Stock.{Stock}
-use Rattle.keeping.specs.declared.Body.{Body}
-use Rattle.keeping.specs.declared.Body.TheVariants.{Whole, Lacking}
-use Rattle.keeping.specs.declared.Defined.{Defined}
-use Rattle.keeping.specs.declared.Defined.TheVariants.{Taken, Overfull, Short}
 use Rattle.keeping.specs.Growth.{with_body, Adds, Within, Ready, KeepsWhole, TooFew, KeepsBodyBy, KeepsBody}
 use Rattle.keeping.specs.Keeping.{Kept, Open, definition_of, Begins, Defines, DefinesAt, Filling, FillsBy, FillsAt}
 use Rattle.keeping.proofs.Growing.{enter-more, enter_long}
+use Rattle.std.specs.Prelude.{Err, None, Ok, Option, Result, Some}
+use Rattle.library.specs.declared.Begun.{Begun}
+use Rattle.keeping.specs.declared.Whole.{Whole}
+use Rattle.keeping.specs.declared.Taken.{Taken}
+use Rattle.definition.specs.declared.Rule.{Rule}
+use Rattle.library.specs.declared.Begun.TheVariants.{Replaced, Added}
+use Rattle.definition.specs.declared.Rule.TheVariants.{TooManyDefinitions, TooFewWords}
 
 -- ---- the body of a row that was entered
 
@@ -70,16 +71,16 @@ module _ {t : List ℕ} {rows : List ℕ} {b : List ℤ} {stock : Stock} {row : 
   by_symbol : (P : ℕ → Type 0) → P start.symbol → P (symbol_at rows row)
   by_symbol P x = subst P (sym g.symbol_is) x
 
-  module _ {r : Body} {rows' : List ℕ} {b' : List ℤ} (k : KeepsBody t from start.a start.b rows b stock.live row r rows' b') where
-    pub as_whole : {used' : ℕ} {to : Spot} → r ≡ Whole used' to → KeepsWhole t from start.a start.b rows b stock.live row used' to rows' b'
+  module _ {r : Option Whole} {rows' : List ℕ} {b' : List ℤ} (k : KeepsBody t from start.a start.b rows b stock.live row r rows' b') where
+    pub as_whole : {used' : ℕ} {to : Spot} → r ≡ Some (record { used = used'; to = to }) → KeepsWhole t from start.a start.b rows b stock.live row used' to rows' b'
     unfolding KeepsBodyBy
-    as_whole e = subst (λ (x : Body). KeepsBodyBy t from start.a start.b rows b stock.live row x rows' b') e k.by
+    as_whole e = subst (λ (x : Option Whole). KeepsBodyBy t from start.a start.b rows b stock.live row x rows' b') e k.by
 
-    as_lacking : r ≡ Lacking → TooFew t from start.a start.b rows b stock.live row
+    as_lacking : r ≡ None → TooFew t from start.a start.b rows b stock.live row
     unfolding KeepsBodyBy
-    as_lacking e = subst (λ (x : Body). KeepsBodyBy t from start.a start.b rows b stock.live row x rows' b') e k.by
+    as_lacking e = subst (λ (x : Option Whole). KeepsBodyBy t from start.a start.b rows b stock.live row x rows' b') e k.by
 
-    pub fills_lacking : r ≡ Lacking → {counts : Counts} → FillsAt t rows b stock from start counts Short rows' b'
+    pub fills_lacking : r ≡ None → {counts : Counts} → FillsAt t rows b stock from start counts (Err TooFewWords) rows' b'
     unfolding FillsBy
     fills_lacking e = record {
       size = k.size;
@@ -90,7 +91,7 @@ module _ {t : List ℕ} {rows : List ℕ} {b : List ℤ} {stock : Stock} {row : 
           (by_symbol (λ n. Holds rows b stock.live (enter (bare n start.place) table)) holds)));
     }
 
-    module _ {used' : ℕ} {to : Spot} (e : r ≡ Whole used' to) (more : ℕ) (more_is : more ≡ needed_at rows' row) where
+    module _ {used' : ℕ} {to : Spot} (e : r ≡ Some (record { used = used'; to = to })) (more : ℕ) (more_is : more ≡ needed_at rows' row) where
       abbrev whole : KeepsWhole t from start.a start.b rows b stock.live row used' to rows' b'
       whole = as_whole e
 
@@ -128,12 +129,12 @@ module _ {t : List ℕ} {rows : List ℕ} {b : List ℤ} {stock : Stock} {row : 
           short = omega (arith, k.size, g.run_short);
         }
 
-      pub fills-short : length b' < stock.needed + more → {counts : Counts} → FillsAt t rows b stock from start counts Short rows' b'
+      pub fills-short : length b' < stock.needed + more → {counts : Counts} → FillsAt t rows b stock from start counts (Err TooFewWords) rows' b'
       unfolding FillsBy
       fills-short l = record { size = k.size; fills = λ h table holds needs. omega (arith, l, sum_is h table holds needs) }
 
       pub fills-taken : stock.needed + more ≤ length b' → {counts : Counts}
-          → FillsAt t rows b stock from start counts (Taken (record { live = stock.live; used = used'; needed = stock.needed + more }) counts to) rows' b'
+          → FillsAt t rows b stock from start counts (Ok (record { stock = (record { live = stock.live; used = used'; needed = stock.needed + more }); counts = counts; to = to })) rows' b'
       unfolding FillsBy
       fills-taken l = record {
         size = k.size;
@@ -204,10 +205,10 @@ one_more d (x ∷ t) e = go (eqb x.symbol d.symbol) (ltb d.symbol x.symbol) refl
 -- ---- from the row to the definition
 
 module _ {t : List ℕ} (rows : List ℕ) (b : List ℤ) {from : Spot} {start : Start} {counts after_it : Counts} (h : Open t from start.a start.b) (table : Table) where
-  by_fill : (r : Defined) → FillsBy t rows b from start after_it h table r → Recounts counts after_it (definition_of h start.symbol start.place) table
+  by_fill : (r : Result Taken Rule) → FillsBy t rows b from start after_it h table r → Recounts counts after_it (definition_of h start.symbol start.place) table
       → length (enter (bare start.symbol start.place) table) ≤ most_definitions → Defines t rows b from start counts h table r
   unfolding FillsBy Defines
-  by_fill (Taken stock c to) f n l = record {
+  by_fill (Ok (record { stock = stock; counts = c; to = to })) f n l = record {
     kept = f.kept;
     few = omega (arith, f.kept.holds.many, f.kept.sorted.few);
     counts_so = n.ends ∙ ap (λ (x : Counts). finished (tally x)) (sym f.same_counts);
@@ -218,8 +219,8 @@ module _ {t : List ℕ} (rows : List ℕ) (b : List ℤ) {from : Spot} {start : 
     fit = f.fit;
     ahead = f.ahead;
   }
-  by_fill Overfull f n l = absurd f
-  by_fill Short f n l = (let e = enter_long start.symbol start.place (retained h.standing h.commands) [] table in omega (arith, e, l), f)
+  by_fill (Err TooManyDefinitions) f n l = absurd f
+  by_fill (Err TooFewWords) f n l = (let e = enter_long start.symbol start.place (retained h.standing h.commands) [] table in omega (arith, e, l), f)
 
 -- the stock after the row was entered
 abbrev pub stock_over : Stock → ℕ → Stock
@@ -229,12 +230,12 @@ abbrev pub stock_in : Stock → Stock
 stock_in stock = record { live = stock.live + 1; used = stock.used; needed = stock.needed }
 
 module _ {t : List ℕ} {rows : List ℕ} {b : List ℤ} {stock : Stock} {from : Spot} {start : Start} (g : Begins t rows b stock from start) (text_short : length t ≤ most_bytes)
-    (r : Begun) (rows' : List ℕ) (k : BeginsRow rows stock.live start.symbol start.place r rows') where
+    (r : Option Begun) (rows' : List ℕ) (k : BeginsRow rows stock.live start.symbol start.place r rows') where
   -- instead of one of its number
-  module _ {i freed : ℕ} (e : r ≡ Replaced i freed) where
+  module _ {i freed : ℕ} (e : r ≡ Some (Replaced i freed)) where
     over : Entry rows stock.live start.symbol start.place rows' stock.live i (λ j. j) × (freed ≡ needed_at rows i) × (symbol_at rows i ≡ start.symbol) × ((b : List ℤ) → find start.symbol (table_of rows b stock.live) ≡ none → ⊥)
     unfolding BeginsRow
-    over = subst (λ (x : Begun). BeginsRow rows stock.live start.symbol start.place x rows') e k
+    over = subst (λ (x : Option Begun). BeginsRow rows stock.live start.symbol start.place x rows') e k
 
     sums : (table : Table) → Kept rows b stock table → needed_in rows' stock.live + freed ≡ stock.needed
     sums table h = omega (arith, needed-over rows stock.live start.symbol start.place rows' i over.0, over.1, held-needed h.holds, h.needs)
@@ -254,7 +255,7 @@ module _ {t : List ℕ} {rows : List ℕ} {b : List ℤ} {stock : Stock} {from :
       run_short = g.kept.short;
     }
 
-    pub defines-over : {counts more : Counts} → CountsRedefinition counts more → {d : Defined} {rows'' : List ℕ} {b'' : List ℤ} → FillsAt t rows' b (stock_over stock freed) from start more d rows'' b''
+    pub defines-over : {counts more : Counts} → CountsRedefinition counts more → {d : Result Taken Rule} {rows'' : List ℕ} {b'' : List ℤ} → FillsAt t rows' b (stock_over stock freed) from start more d rows'' b''
         → DefinesAt t rows b stock from start counts d rows'' b''
     defines-over {counts} {more} one {d} {rows''} {b''} f = record {
       size = f.size;
@@ -266,10 +267,10 @@ module _ {t : List ℕ} {rows : List ℕ} {b : List ℤ} {stock : Stock} {from :
     }
 
   -- beside the others
-  module _ {i : ℕ} (e : r ≡ Added i) where
+  module _ {i : ℕ} (e : r ≡ Some (Added i)) where
     beside : Entry rows stock.live start.symbol start.place rows' (stock.live + 1) i (before i) × ((b : List ℤ) → find start.symbol (table_of rows b stock.live) ≡ none)
     unfolding BeginsRow
-    beside = subst (λ (x : Begun). BeginsRow rows stock.live start.symbol start.place x rows') e k
+    beside = subst (λ (x : Option Begun). BeginsRow rows stock.live start.symbol start.place x rows') e k
 
     pub filling_in : Filling t rows' b (stock_in stock) i from start
     filling_in = record {
@@ -283,7 +284,7 @@ module _ {t : List ℕ} {rows : List ℕ} {b : List ℤ} {stock : Stock} {from :
       run_short = g.kept.short;
     }
 
-    pub defines_in : {counts : Counts} {d : Defined} {rows'' : List ℕ} {b'' : List ℤ} → FillsAt t rows' b (stock_in stock) from start counts d rows'' b'' → DefinesAt t rows b stock from start counts d rows'' b''
+    pub defines_in : {counts : Counts} {d : Result Taken Rule} {rows'' : List ℕ} {b'' : List ℤ} → FillsAt t rows' b (stock_in stock) from start counts d rows'' b'' → DefinesAt t rows b stock from start counts d rows'' b''
     defines_in {counts} {d} {rows''} {b''} f = record {
       size = f.size;
       defines = λ h table kept.
@@ -295,10 +296,10 @@ module _ {t : List ℕ} {rows : List ℕ} {b : List ℤ} {stock : Stock} {from :
     }
 
   -- 512 others are live
-  pub defines_full : r ≡ Full → {counts : Counts} → DefinesAt t rows b stock from start counts Overfull rows' b
+  pub defines_full : r ≡ None → {counts : Counts} → DefinesAt t rows b stock from start counts (Err TooManyDefinitions) rows' b
   unfolding BeginsRow Defines
   defines_full e =
-      let f = subst (λ (x : Begun). BeginsRow rows stock.live start.symbol start.place x rows') e k in
+      let f = subst (λ (x : Option Begun). BeginsRow rows stock.live start.symbol start.place x rows') e k in
       record {
         size = refl;
         defines = λ h table kept.

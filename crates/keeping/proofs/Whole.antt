@@ -26,11 +26,11 @@ use Rattle.library.proofs.Counted.{step_count}
 use Rattle.library.proofs.Holding.{stored-within}
 use Rattle.keeping.specs.declared.Stored.{Stored}
 use Rattle.keeping.specs.declared.Stored.TheVariants.{More, Last, Tight}
-use Rattle.keeping.specs.declared.Body.TheVariants.{Whole, Lacking}
 use Rattle.keeping.specs.Voices.{Told}
 use Rattle.keeping.specs.Growth.{with_body, Adds, Within, Ready, Keeps, KeepsMore, KeepsLast, KeepsTight, KeepsBy, KeepsCommand, KeepsBodyBy, KeepsBody}
 use Rattle.keeping.proofs.Growing.{adds_none, adds_together, adds_then, enter-more}
 use Rattle.keeping.proofs.Onward.{within_same}
+use Rattle.std.specs.Prelude.{None, Some}
 
 -- one more where the bodies have not been moved for this command
 unfoldable pub unmoved : Bool → ℕ
@@ -168,7 +168,7 @@ module _ {t : List ℕ} {from : Spot} {a b : ℕ} {rows₀ : List ℕ} {words₀
         moved_on : Adds rows' words' live row [] rows'' words'' used'' layered
         moved_on = adds_together tight.ready.growing c
 
-    pub body_lacking : moved ≡ true → KeepsBody t from a b rows₀ words₀ live row Lacking rows' words'
+    pub body_lacking : moved ≡ true → KeepsBody t from a b rows₀ words₀ live row None rows' words'
     unfolding KeepsBodyBy
     body_lacking e = record {
       size = k.size ∙ g.size;
@@ -193,7 +193,7 @@ module _ {t : List ℕ} {from : Spot} {a b : ℕ} {rows₀ : List ℕ} {words₀
 
   -- the definition ends
   pub body-whole : {r : Stored} {rows' : List ℕ} {words' : List ℤ} → KeepsCommand t spot a b rows words live row used layered r rows' words' → {to : Spot} → r ≡ Last to
-      → KeepsBody t from a b rows₀ words₀ live row (Whole used to) rows' words'
+      → KeepsBody t from a b rows₀ words₀ live row (Some (record { used = used; to = to })) rows' words'
   unfolding KeepsBodyBy
   body-whole {rows' = rows'} {words' = words'} k {to} e =
       let l = as_last k e in

@@ -22,8 +22,8 @@ use Rattle.library.specs.Holds.{Holds}
 use Rattle.keeping.specs.Voices.{Told}
 use Rattle.keeping.specs.declared.Stored.{Stored}
 use Rattle.keeping.specs.declared.Stored.TheVariants.{More, Last, Tight}
-use Rattle.keeping.specs.declared.Body.{Body}
-use Rattle.keeping.specs.declared.Body.TheVariants.{Whole, Lacking}
+use Rattle.std.specs.Prelude.{None, Option, Some}
+use Rattle.keeping.specs.declared.Whole.{Whole}
 
 -- the letters of the commands that are steps of a body: L, C, and those of the shapes
 abbrev pub steps : ℕ → Bool
@@ -149,11 +149,11 @@ pub record TooFew (t : List ℕ) (from : Spot) (a b : ℕ) (rows : List ℕ) (wo
   pub needs_more : (σ : Standing) (cs : List (Placed Command)) → Within t from a b rows words row σ cs → (place : ℕ) (table : Table)
       → Holds rows words live (enter (bare (symbol_at rows row) place) table) → length words < words_in (enter (with_body (symbol_at rows row) place (retained σ cs)) table)
 
-unfoldable pub KeepsBodyBy : (t : List ℕ) (from : Spot) (a b : ℕ) (rows : List ℕ) (words : List ℤ) (live row : ℕ) → Body → (rows' : List ℕ) (words' : List ℤ) → Type 0
-KeepsBodyBy t from a b rows words live row (Whole used' to) rows' words' = KeepsWhole t from a b rows words live row used' to rows' words'
-KeepsBodyBy t from a b rows words live row Lacking rows' words' = TooFew t from a b rows words live row
+unfoldable pub KeepsBodyBy : (t : List ℕ) (from : Spot) (a b : ℕ) (rows : List ℕ) (words : List ℤ) (live row : ℕ) → Option Whole → (rows' : List ℕ) (words' : List ℤ) → Type 0
+KeepsBodyBy t from a b rows words live row (Some (record { used = used'; to = to })) rows' words' = KeepsWhole t from a b rows words live row used' to rows' words'
+KeepsBodyBy t from a b rows words live row None rows' words' = TooFew t from a b rows words live row
 
 -- the contract of `keep_body`
-pub record KeepsBody (t : List ℕ) (from : Spot) (a b : ℕ) (rows : List ℕ) (words : List ℤ) (live row : ℕ) (r : Body) (rows' : List ℕ) (words' : List ℤ) : Type 0 where
+pub record KeepsBody (t : List ℕ) (from : Spot) (a b : ℕ) (rows : List ℕ) (words : List ℤ) (live row : ℕ) (r : Option Whole) (rows' : List ℕ) (words' : List ℤ) : Type 0 where
   pub size : length words' ≡ length words
   pub by : KeepsBodyBy t from a b rows words live row r rows' words'

@@ -26,8 +26,10 @@ use Rattle.keeping.specs.Voices.{Told}
 pub use Rattle.keeping.specs.Growth.{Passes}
 use Rattle.keeping.specs.declared.Start.{Start}
 use Rattle.keeping.specs.declared.Stock.{Stock}
-use Rattle.keeping.specs.declared.Defined.{Defined}
-use Rattle.keeping.specs.declared.Defined.TheVariants.{Taken, Overfull, Short}
+use Rattle.std.specs.Prelude.{Err, Ok, Result}
+use Rattle.keeping.specs.declared.Taken.{Taken}
+use Rattle.definition.specs.declared.Rule.{Rule}
+use Rattle.definition.specs.declared.Rule.TheVariants.{TooManyDefinitions, TooFewWords}
 
 -- the memory holds a table: how many definitions are live, how many words are used, and how many the live definitions need, which is at most those lent
 pub record Kept (rows : List ℕ) (b : List ℤ) (stock : Stock) (t : Table) : Type 0 where
@@ -75,14 +77,14 @@ pub record Takes (t : List ℕ) (rows : List ℕ) (b : List ℤ) (from : Spot) (
   pub ahead : from.at ≤ to.at
 
 -- or it is the 513th (refusal 10); or, where it is not, the live definitions need more words than are lent (refusal 25)
-unfoldable pub Defines : (t : List ℕ) (rows : List ℕ) (b : List ℤ) (from : Spot) (start : Start) (counts : Counts) → Open t from start.a start.b → Table → Defined → Type 0
-Defines t rows b from start counts h table (Taken stock after_it to) = Takes t rows b from start counts h table stock after_it to
-Defines t rows b from start counts h table Overfull = most_definitions < length (enter (definition_of h start.symbol start.place) table)
-Defines t rows b from start counts h table Short =
+unfoldable pub Defines : (t : List ℕ) (rows : List ℕ) (b : List ℤ) (from : Spot) (start : Start) (counts : Counts) → Open t from start.a start.b → Table → Result Taken Rule → Type 0
+Defines t rows b from start counts h table (Ok (record { stock = stock; counts = after_it; to = to })) = Takes t rows b from start counts h table stock after_it to
+Defines t rows b from start counts h table (Err TooManyDefinitions) = most_definitions < length (enter (definition_of h start.symbol start.place) table)
+Defines t rows b from start counts h table (Err TooFewWords) =
     (length (enter (definition_of h start.symbol start.place) table) ≤ most_definitions) × (length b < words_in (enter (definition_of h start.symbol start.place) table))
 
 -- the contract of `define`, for every table that is held and whatever is told
-pub record DefinesAt (t : List ℕ) (rows : List ℕ) (b : List ℤ) (stock : Stock) (from : Spot) (start : Start) (counts : Counts) (r : Defined) (rows' : List ℕ) (b' : List ℤ) : Type 0 where
+pub record DefinesAt (t : List ℕ) (rows : List ℕ) (b : List ℤ) (stock : Stock) (from : Spot) (start : Start) (counts : Counts) (r : Result Taken Rule) (rows' : List ℕ) (b' : List ℤ) : Type 0 where
   pub size : length b' ≡ length b
   pub defines : (h : Open t from start.a start.b) (table : Table) → Kept rows b stock table → Defines t rows' b' from start counts h table r
 
@@ -106,12 +108,12 @@ pub record Fills (t : List ℕ) (rows : List ℕ) (b : List ℤ) (from : Spot) (
   pub fit : Fit t to
   pub ahead : from.at ≤ to.at
 
-unfoldable pub FillsBy : (t : List ℕ) (rows : List ℕ) (b : List ℤ) (from : Spot) (start : Start) (counts : Counts) → Open t from start.a start.b → Table → Defined → Type 0
-FillsBy t rows b from start counts h table (Taken stock after_it to) = Fills t rows b from start counts h table stock after_it to
-FillsBy t rows b from start counts h table Overfull = ⊥
-FillsBy t rows b from start counts h table Short = length b < words_in (enter (definition_of h start.symbol start.place) table)
+unfoldable pub FillsBy : (t : List ℕ) (rows : List ℕ) (b : List ℤ) (from : Spot) (start : Start) (counts : Counts) → Open t from start.a start.b → Table → Result Taken Rule → Type 0
+FillsBy t rows b from start counts h table (Ok (record { stock = stock; counts = after_it; to = to })) = Fills t rows b from start counts h table stock after_it to
+FillsBy t rows b from start counts h table (Err TooManyDefinitions) = ⊥
+FillsBy t rows b from start counts h table (Err TooFewWords) = length b < words_in (enter (definition_of h start.symbol start.place) table)
 
-pub record FillsAt (t : List ℕ) (rows : List ℕ) (b : List ℤ) (stock : Stock) (from : Spot) (start : Start) (counts : Counts) (r : Defined) (rows' : List ℕ) (b' : List ℤ) : Type 0 where
+pub record FillsAt (t : List ℕ) (rows : List ℕ) (b : List ℤ) (stock : Stock) (from : Spot) (start : Start) (counts : Counts) (r : Result Taken Rule) (rows' : List ℕ) (b' : List ℤ) : Type 0 where
   pub size : length b' ≡ length b
   pub fills : (h : Open t from start.a start.b) (table : Table) → Holds rows b stock.live (enter (bare start.symbol start.place) table)
       → stock.needed ≡ words_in (enter (bare start.symbol start.place) table) → FillsBy t rows' b' from start counts h table r

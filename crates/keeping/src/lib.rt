@@ -4,12 +4,14 @@
 #![tactic(auto)]
 
 ghost use Rattle.std.specs.Prelude.{◌≡◌, ℕ, ◌+◌, ◌≤◌, false, ◌&&◌, eqb, length};
-ghost use Rattle.grammar.specs.Steps.{KindsLent, NextLent};
 ghost use Rattle.definition.specs.Limits.{most_bytes};
 ghost use Rattle.pieces.specs.Pieces.{too_large, Fit};
 ghost use Rattle.rules.specs.Letters.{letter_l};
 ghost use Rattle.keeping.specs.Growth.{steps, Storable, Stores, Ready, KeepsCommand, KeepsBody};
 ghost use Rattle.keeping.specs.Keeping.{Begins, DefinesAt, Filling, FillsAt};
+
+use definition::Rule;
+use library::Begun;
 
 // What a DS says: its symbol, its scale, and where it stands.
 #[derive(Clone, Copy)]
@@ -28,13 +30,12 @@ pub struct Stock {
     pub needed: usize,
 }
 
-// What came of a definition: it was taken, with the stock and the counts after it and where the next command begins; it is one too many (refusal 10);
-// or the words lent are too few (refusal 25).
+// A definition that was taken: the stock and the counts after it, and where the next command begins.
 #[derive(Clone, Copy)]
-pub enum Defined {
-    Taken(Stock, counts::Counts, pieces::Spot),
-    Overfull,
-    Short,
+pub struct Taken {
+    pub stock: Stock,
+    pub counts: counts::Counts,
+    pub to: pieces::Spot,
 }
 
 // What became of a command of a body: so many words are used now, and whether the last command kept is an L; the definition ends; or it does not fit.
@@ -45,11 +46,11 @@ enum Stored {
     Tight,
 }
 
-// What became of a body: it is whole, with so many words used; or the words lent are too few.
+// A body that is whole: so many words are used then, and where the next command begins.
 #[derive(Clone, Copy)]
-enum Body {
-    Whole(usize, pieces::Spot),
-    Lacking,
+struct Whole {
+    used: usize,
+    to: pieces::Spot,
 }
 
 // Whether a command of this kind is a step of a body.
@@ -104,8 +105,7 @@ fn store(
 // Decodes the next command of a body after the words used, and keeps it if it is a step.
 fn keep_command(
     text: &[u8],
-    kinds: &[u8; 256],
-    next: &[u16; grammar::tables::ENTRY_COUNT],
+    recogniser: &grammar::Recogniser,
     rows: &mut [usize; library::ROW_NUMBERS],
     bodies: &mut [i32],
     row: usize,
@@ -115,14 +115,16 @@ fn keep_command(
     a: usize,
     b: usize,
 ) -> Stored
-    requires kinds_lent { KindsLent kinds.now × NextLent next.now }
     requires fit { Fit text.now from × (a ≤ too_large) × (1 ≤ b) }
     requires by_index { (live : ℕ) × Ready text.now from a b rows.old bodies.old live row used layered }
     ensures { (live : ℕ) → Ready text.now from a b rows.old bodies.old live row used layered → KeepsCommand text.now from a b rows.old bodies.old live row used layered result rows.new bodies.new }
 {
-    match commands::read_command(text, kinds, next, &mut bodies[used..], from, a, b) {
-        commands::Read::Nothing => Stored::Last(from),
-        commands::Read::Decoded(kind, _, n, to) => {
+    match commands::read_command(text, recogniser, &mut bodies[used..], from, a, b) {
+        None => Stored::Last(from),
+        Some(c) => {
+            let kind = c.kind;
+            let to = c.to;
+            let n = c.end;
             if kind == b'F' {
                 return Stored::Last(to);
             }
@@ -140,11 +142,10 @@ fn keep_command(
     }
 }
 
-// The commands of a definition, up to its DF. A command that does not fit is decoded once more after the live bodies have been moved together.
+// The commands of a definition, up to its DF; none where the words lent are too few. A command that does not fit is decoded once more after the live bodies have been moved together.
 fn keep_body(
     text: &[u8],
-    kinds: &[u8; 256],
-    next: &[u16; grammar::tables::ENTRY_COUNT],
+    recogniser: &grammar::Recogniser,
     rows: &mut [usize; library::ROW_NUMBERS],
     bodies: &mut [i32],
     live: usize,
@@ -153,8 +154,7 @@ fn keep_body(
     from: pieces::Spot,
     a: usize,
     b: usize,
-) -> Body
-    requires kinds_lent { KindsLent kinds.now × NextLent next.now }
+) -> Option<Whole>
     requires fit { Fit text.now from × (a ≤ too_large) × (1 ≤ b) }
     requires ready { Ready text.now from a b rows.old bodies.old live row start false }
     ensures { KeepsBody text.now from a b rows.old bodies.old live row result rows.new bodies.new }
@@ -165,10 +165,10 @@ fn keep_body(
     let mut moved = false;
     loop {
         match keep_command(
-            text, kinds, next, rows, bodies, row, used, layered, spot, a, b,
+            text, recogniser, rows, bodies, row, used, layered, spot, a, b,
         ) {
             Stored::Last(to) => {
-                return Body::Whole(used, to);
+                return Some(Whole { used, to });
             }
             Stored::More(n, l, to) => {
                 used = n;
@@ -178,7 +178,7 @@ fn keep_body(
             }
             Stored::Tight => {
                 if moved {
-                    return Body::Lacking;
+                    return None;
                 }
                 used = library::compact(rows, bodies, live);
                 moved = true;
@@ -190,8 +190,7 @@ fn keep_body(
 // The body of a definition whose row was entered, and whether the live definitions need no more words than were lent.
 fn fill(
     text: &[u8],
-    kinds: &[u8; 256],
-    next: &[u16; grammar::tables::ENTRY_COUNT],
+    recogniser: &grammar::Recogniser,
     rows: &mut [usize; library::ROW_NUMBERS],
     bodies: &mut [i32],
     begun: Stock,
@@ -199,41 +198,43 @@ fn fill(
     start: Start,
     from: pieces::Spot,
     counts: counts::Counts,
-) -> Defined
-    requires kinds_lent { KindsLent kinds.now × NextLent next.now }
+) -> Result<Taken, Rule>
     requires fit { Fit text.now from × (start.a ≤ too_large) × (1 ≤ start.b) }
     requires filling { Filling text.now rows.old bodies.old begun row from start }
     ensures { FillsAt text.now rows.old bodies.old begun from start counts result rows.new bodies.new }
 {
     let live = begun.live;
-    match keep_body(
-        text, kinds, next, rows, bodies, live, row, begun.used, from, start.a, start.b,
-    ) {
-        Body::Lacking => Defined::Short,
-        Body::Whole(used, to) => {
-            let needed = begun.needed + library::needed_at(rows, row);
-            if bodies.len() < needed {
-                return Defined::Short;
-            }
-            let stock = Stock { live, used, needed };
-            Defined::Taken(stock, counts, to)
-        }
+    let whole = keep_body(
+        text, recogniser, rows, bodies, live, row, begun.used, from, start.a, start.b,
+    )
+    .ok_or(Rule::TooFewWords)?;
+    let needed = begun.needed + library::needed_at(rows, row);
+    if bodies.len() < needed {
+        return Err(Rule::TooFewWords);
     }
+    let stock = Stock {
+        live,
+        used: whole.used,
+        needed,
+    };
+    Ok(Taken {
+        stock,
+        counts,
+        to: whole.to,
+    })
 }
 
-// One definition, from after its DS on.
+// One definition, from after its DS on: taken, or one too many (refusal 10), or the words lent are too few (refusal 25).
 pub fn define(
     text: &[u8],
-    kinds: &[u8; 256],
-    next: &[u16; grammar::tables::ENTRY_COUNT],
+    recogniser: &grammar::Recogniser,
     rows: &mut [usize; library::ROW_NUMBERS],
     bodies: &mut [i32],
     stock: Stock,
     start: Start,
     from: pieces::Spot,
     counts: counts::Counts,
-) -> Defined
-    requires kinds_lent { KindsLent kinds.now × NextLent next.now }
+) -> Result<Taken, Rule>
     requires fit { Fit text.now from × (start.a ≤ too_large) × (1 ≤ start.b) }
     requires text_len_bound { (length text.now ≤ most_bytes) × (counts.redefinitions ≤ length text.now) }
     requires begins { Begins text.now rows.old bodies.old stock from start }
@@ -242,23 +243,23 @@ pub fn define(
     let live = stock.live;
     let used = stock.used;
     match library::begin(rows, live, start.symbol, start.place) {
-        library::Begun::Full => Defined::Overfull,
-        library::Begun::Replaced(row, freed) => {
+        None => Err(Rule::TooManyDefinitions),
+        Some(Begun::Replaced(row, freed)) => {
             let more = counts::count_redefinition(counts);
             let needed = stock.needed - freed;
             let begun = Stock { live, used, needed };
             fill(
-                text, kinds, next, rows, bodies, begun, row, start, from, more,
+                text, recogniser, rows, bodies, begun, row, start, from, more,
             )
         }
-        library::Begun::Added(row) => {
+        Some(Begun::Added(row)) => {
             let begun = Stock {
                 live: live + 1,
                 used,
                 needed: stock.needed,
             };
             fill(
-                text, kinds, next, rows, bodies, begun, row, start, from, counts,
+                text, recogniser, rows, bodies, begun, row, start, from, counts,
             )
         }
     }

@@ -19,13 +19,15 @@ use Rattle.chain.specs.Chain.{run_length, open_calls}
 use Rattle.passing.specs.Passed.{lent_of}
 use Rattle.shapes.specs.declared.Ink.{Ink}
 use Rattle.stretch.specs.declared.Here.{Here}
-use Rattle.stretch.specs.declared.Body.{Body}
 use Rattle.stretch.specs.Bodies.{Rests, Poised, BodyComes, Grows}
 use Rattle.between.specs.declared.Stand.{Stand}
-use Rattle.between.specs.declared.Text.{Text}
 use Rattle.between.specs.Texts.{Paused, Pausing, TextBy, TextComes, TextGrows}
 use Rattle.machine.specs.declared.Course.{Course}
 use Rattle.machine.specs.States.{cut, seen_of, onto, Spares, open_in, StandsIn, Stretches, Passes}
+use Rattle.std.specs.Prelude.{Result}
+use Rattle.stretch.specs.declared.Body.{Body}
+use Rattle.definition.specs.declared.Refusal.{Refusal}
+use Rattle.between.specs.declared.Text.{Text}
 
 -- ---- the room
 
@@ -93,7 +95,7 @@ module _ (rows : List ℕ) (b : List ℤ) (c : Course) (here : Here) {l : ℕ} (
     subst (λ (x : List ℤ). Rests x here) (sym (part_cut b e)) s.rests,
   )
 
-  pub stretched : (room : List ℕ) {n : ℕ} → n ≡ seen_of c.writing (length room) → (r : Body) (p : List ℕ) → length p ≡ length (take (n - 0) room)
+  pub stretched : (room : List ℕ) {n : ℕ} → n ≡ seen_of c.writing (length room) → (r : Result Body Refusal) (p : List ℕ) → length p ≡ length (take (n - 0) room)
       → BodyComes c.records rows (take (l - 0) b) c.stand.stock.live (open_calls c.run (deepest - (32 - c.level))) (32 - c.level) here c.ink (take (n - 0) room) r p
       → Grows c.ink r → Stretches rows (cut b) c here room r (p ++ drop (n - 0) room)
   stretched room {n} q r p k x g =
@@ -115,7 +117,7 @@ module _ (t rows : List ℕ) (b : List ℤ) (c : Course) (room : List ℕ) {l n 
       subst (λ (z : List ℤ). Pausing t c.records rows z c.stand c.ink (take (n - 0) room)) (sym (part_cut b e))
       (subst (λ (z : List ℕ). Pausing t c.records rows (cut b) c.stand c.ink z) (sym (part-onto c.writing room q)) x)
 
-  pub text-passed : (r : Text) (rows' : List ℕ) (p : List ℤ) (o : List ℕ) → length p ≡ length (take (l - 0) b) → length o ≡ length (take (n - 0) room)
+  pub text-passed : (r : Result Text Refusal) (rows' : List ℕ) (p : List ℤ) (o : List ℕ) → length p ≡ length (take (l - 0) b) → length o ≡ length (take (n - 0) room)
       → TextComes t c.records rows (take (l - 0) b) c.stand c.ink (take (n - 0) room) r rows' p o → TextGrows c.ink r
       → Passes t rows b c room r rows' (p ++ drop (l - 0) b) (o ++ drop (n - 0) room)
   text-passed r rows' p o j k x g =

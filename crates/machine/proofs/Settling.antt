@@ -14,13 +14,11 @@ use lib.IntN.{ℤ}
 use lib.ListN.{length}
 use lib.Seq.{sets}
 use Rattle.grammar.specs.Viable.{Judged}
-use Rattle.grammar.specs.declared.Verdict.{Verdict}
-use Rattle.grammar.specs.declared.Verdict.TheVariants.{InGrammar, StuckAt}
 use Rattle.definition.specs.declared.Answer.{Answer}
 use Rattle.definition.specs.declared.Refusal.{Refusal}
 use Rattle.definition.specs.Limits.{most_bytes}
 use Rattle.definition.specs.Words.{Placed}
-use Rattle.definition.specs.Rules.{too_few_records, flat_file_too_long, refuse}
+use Rattle.definition.specs.Rules.{TooFewRecords, FlatFileTooLong, refuse}
 use Rattle.definition.specs.Commands.{Command, commands}
 use Rattle.definition.specs.Faults.{first_fault}
 use Rattle.definition.specs.Rounded.{rounded}
@@ -39,10 +37,7 @@ use Rattle.laws.proofs.Rules.Outcomes.{TooLong}
 use Rattle.stacking.proofs.Stacked.{Fits, stacked_all}
 use Rattle.counts.specs.Counting.{tally}
 use Rattle.reading.specs.Refusal.{fault_said, by_verdict}
-use Rattle.checking.specs.declared.Fault.{Fault}
-use Rattle.checking.specs.declared.Fault.TheVariants.{Clear, Refused}
 use Rattle.shapes.specs.declared.Ink.{Ink}
-use Rattle.shapes.specs.declared.Drawn.TheVariants as drawing
 use Rattle.shapes.specs.Painting.{Goes, Answered, Painted}
 use Rattle.passing.specs.Passed.{Passed, to_draw, dry, lent_of}
 use Rattle.library.specs.Memory.{most_words}
@@ -50,6 +45,7 @@ use Rattle.reader.specs.Screened.{Screened, over, within, Comes}
 use Rattle.reader.proofs.Promises.{over-told, written-told}
 use Rattle.turns.specs.declared.Net.{Net}
 use Rattle.machine.specs.Underway.{Host, lends, Settled, all_of, CameOut, refused_early, stopped_there, too_long_for, written_out}
+use Rattle.std.specs.Prelude.{Err, Ok, Result}
 
 -- ---- a finished drawing was refused nothing
 
@@ -60,7 +56,7 @@ module _ (n : ℕ) (es : List Event) (last : Counts) where
   counted_on further (stopped r l) k = absurd (not_finished k)
 
   called_on : ((next : Counts) → ending next (map (stacked_to n) es) ≡ finished last → All (Fits n) es) → (c : Counts) (p : ℕ) (chain : Chain) (d : Definition) (b : Bool) → leb n (length chain) ≡ b
-      → ending c ((if b then refused (refuse too_few_records p) chain else called p chain d) ∷ map (stacked_to n) es) ≡ finished last → (length chain < n) × All (Fits n) es
+      → ending c ((if b then refused (refuse TooFewRecords p) chain else called p chain d) ∷ map (stacked_to n) es) ≡ finished last → (length chain < n) × All (Fits n) es
   unfolding ending go_on counted
   called_on further c p chain d true q k = absurd (not_finished k)
   called_on further c p chain d false q k = (leb-false n (length chain) q, counted_on further (counted c (called p chain d)) k)
@@ -85,23 +81,23 @@ held-lent p w = go (ltb w most_words) refl
 
 -- ---- refused before it is drawn
 
-never_clear : {k : ℕ} {why : Refusal} → Clear k ≡ Refused why → ⊥
+never_clear : {k : ℕ} {why : Refusal} → Ok k ≡ Err why → ⊥
 never_clear e = let z : ◌≡◌ {A = ℕ} 0 1 = cc in omega arith
 
-abbrev outcome_by : Fault → Outcome
-outcome_by (Clear k) = rejected (record { number = 0; place = 0 }) []
-outcome_by (Refused why) = rejected why []
+abbrev outcome_by : Result ℕ Refusal → Outcome
+outcome_by (Ok k) = rejected (record { number = 0; place = 0 }) []
+outcome_by (Err why) = rejected why []
 
-judged-answers : {t : List ℕ} {w n room : ℕ} {why : Refusal} → length t ≤ most_bytes → (v : Verdict) → Judged t v → by_verdict t v (Refused why) → AnswersWith t w n room (rejected why [])
-judged-answers {t} {w} {n} {room} {why} h InGrammar g e = go (first_fault (commands 0 g.0)) refl (e g.0 g.1)
+judged-answers : {t : List ℕ} {w n room : ℕ} {why : Refusal} → length t ≤ most_bytes → (v : Result Unit ℕ) → Judged t v → by_verdict t v (Err why) → AnswersWith t w n room (rejected why [])
+judged-answers {t} {w} {n} {room} {why} h (Ok tt) g e = go (first_fault (commands 0 g.0)) refl (e g.0 g.1)
   where
-    go : (f : Option Refusal) → first_fault (commands 0 g.0) ≡ f → Refused why ≡ fault_said f (rounded (commands 0 g.0)) → AnswersWith t w n room (rejected why [])
+    go : (f : Option Refusal) → first_fault (commands 0 g.0) ≡ f → Err why ≡ fault_said f (rounded (commands 0 g.0)) → AnswersWith t w n room (rejected why [])
     go none q x = absurd (never_clear (sym x))
     go (some r) q x = unfold outcome_with drawn_with in
         subst (AnswersWith t w n room) (ap (λ (f : Option Refusal). drawn_with f (commands 0 g.0) w n room) q ∙ ap outcome_by (sym x)) (read {m = g.0} h g.1)
-judged-answers {t} {w} {n} {room} h (StuckAt i) g e = subst (AnswersWith t w n room) (ap outcome_by (sym e)) (not_cif h g.0 g.1)
+judged-answers {t} {w} {n} {room} h (Err i) g e = subst (AnswersWith t w n room) (ap outcome_by (sym e)) (not_cif h g.0 g.1)
 
-fault-answers : {t : List ℕ} {w n room : ℕ} {d : Fault} {why : Refusal} → Screened t d → d ≡ Refused why → AnswersWith t w n room (rejected why [])
+fault-answers : {t : List ℕ} {w n room : ℕ} {d : Result ℕ Refusal} {why : Refusal} → Screened t d → d ≡ Err why → AnswersWith t w n room (rejected why [])
 fault-answers {t} {w} {n} {room} (over h) is = subst (AnswersWith t w n room) (ap outcome_by is) (too_long h)
 fault-answers {t} (within h f) is = judged-answers h f.verdict f.judged (subst (by_verdict t f.verdict) is f.is)
 
@@ -111,7 +107,7 @@ refusing : {t : List ℕ} {h : Host} {a : Answer} {why : Refusal} {room : List �
 unfolding given_back flat_file
 refusing {why = why} chain x e k = record { outcome = rejected why chain; answers = x; given = e; kept = k }
 
-fault_settled : {t : List ℕ} {h : Host} {a : Answer} {d : Fault} {why : Refusal} {room : List ℕ} → Screened t d → d ≡ Refused why → a ≡ failure t why [] → room ≡ h.room → Settled t h a room
+fault_settled : {t : List ℕ} {h : Host} {a : Answer} {d : Result ℕ Refusal} {why : Refusal} {room : List ℕ} → Screened t d → d ≡ Err why → a ≡ failure t why [] → room ≡ h.room → Settled t h a room
 fault_settled s is e k = refusing [] (fault-answers s is) e k
 
 -- ---- a text that is drawn
@@ -158,22 +154,22 @@ module _ {t : List ℕ} (p : Passed t) (h : Host) where
     all_held : all_of p h ≡ map (held_to h.lent) (to_draw p)
     all_held = all_is ∙ as_held
 
-  goes_of : {from : Ink} {room₀ room' : List ℕ} {chain : Chain} {ink : Ink} → Painted from (all_of p h) room₀ chain (drawing.Done ink) room' → Goes from (all_of p h) ink
+  goes_of : {from : Ink} {room₀ room' : List ℕ} {chain : Chain} {ink : Ink} → Painted from (all_of p h) room₀ chain (Ok ink) room' → Goes from (all_of p h) ink
   unfolding Answered
   goes_of x = x.answer
 
-  pub finished-goes : {from : Ink} {room₀ room' : List ℕ} {chain : Chain} {ink : Ink} → Painted from (all_of p h) room₀ chain (drawing.Done ink) room' → Goes from (all_of p h) ink
+  pub finished-goes : {from : Ink} {room₀ room' : List ℕ} {chain : Chain} {ink : Ink} → Painted from (all_of p h) room₀ chain (Ok ink) room' → Goes from (all_of p h) ink
   finished-goes x = goes_of x
 
-  module _ {room₀ room' : List ℕ} {chain : Chain} {ink : Ink} (x : Painted dry (all_of p h) room₀ chain (drawing.Done ink) room') where
-    held-painted : Painted dry (map (held_to h.lent) (to_draw p)) room₀ chain (drawing.Done ink) room'
-    held-painted = subst (λ (es : List Event). Painted dry es room₀ chain (drawing.Done ink) room') (all_held (goes_of x)) x
+  module _ {room₀ room' : List ℕ} {chain : Chain} {ink : Ink} (x : Painted dry (all_of p h) room₀ chain (Ok ink) room') where
+    held-painted : Painted dry (map (held_to h.lent) (to_draw p)) room₀ chain (Ok ink) room'
+    held-painted = subst (λ (es : List Event). Painted dry es room₀ chain (Ok ink) room') (all_held (goes_of x)) x
 
-    too_long_settled : {a : Answer} → TooLong (ink.pen.at + 2) (length h.room) → a ≡ failure t (refuse flat_file_too_long 0) [] → {room : List ℕ} → room ≡ h.room → Settled t h a room
+    too_long_settled : {a : Answer} → TooLong (ink.pen.at + 2) (length h.room) → a ≡ failure t (refuse FlatFileTooLong 0) [] → {room : List ℕ} → room ≡ h.room → Settled t h a room
     too_long_settled {a} l e {room} k = subst (Settled t h a) (sym k) (comes_settled (goes_of x) (over-told h.lent p held-painted refl l e))
 
   -- the lines stand in the room, and at their end the last one
-  written_settled : {chain : Chain} {ink : Ink} {room room' : List ℕ} → Painted dry (all_of p h) h.room chain (drawing.Done ink) room → ink.pen.at + 2 ≤ length h.room → ink.pen.at + 2 ≤ most_bytes
+  written_settled : {chain : Chain} {ink : Ink} {room room' : List ℕ} → Painted dry (all_of p h) h.room chain (Ok ink) room → ink.pen.at + 2 ≤ length h.room → ink.pen.at + 2 ≤ most_bytes
       → room' ≡ sets room ink.pen.at (69 ∷ 10 ∷ []) → {a : Answer} {k : ℕ} → k ≡ rounded cs → a ≡ success (ink.pen.at + 2) (tally ink.counts) k → Settled t h a room'
   written_settled {ink = ink} {room} {room'} x i l e {a} {k} q g =
       let y = held-painted x in

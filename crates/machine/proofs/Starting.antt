@@ -15,18 +15,15 @@ use Rattle.definition.specs.declared.Answer.{Answer}
 use Rattle.definition.specs.declared.Refusal.{Refusal}
 use Rattle.definition.specs.Commands.{commands}
 use Rattle.definition.specs.Rounded.{rounded}
-use Rattle.checking.specs.declared.Fault.{Fault}
-use Rattle.checking.specs.declared.Fault.TheVariants.{Clear, Refused}
 use Rattle.reader.specs.Screened.{Screened}
 use Rattle.reader.proofs.Promises.{passes}
 use Rattle.definition.specs.Limits.{most_bytes, most_calls, most_shapes}
-use Rattle.definition.specs.Rules.{flat_file_too_long, refuse}
+use Rattle.definition.specs.Rules.{FlatFileTooLong, refuse}
 use Rattle.definition.specs.Answer.{failure}
 use Rattle.definition.specs.Drawing.{Event}
 use Rattle.laws.proofs.Rules.Outcomes.{TooLong}
 use Rattle.pen.proofs.Names.{no_name}
 use Rattle.shapes.specs.declared.Ink.{Ink}
-use Rattle.shapes.specs.declared.Drawn.TheVariants as drawn
 use Rattle.shapes.specs.Painting.{Reached, Painted}
 use Rattle.shapes.proofs.Painting.{PaintedSoFar, begun}
 use Rattle.library.specs.Memory.{row_numbers, most_words}
@@ -34,8 +31,6 @@ use Rattle.passing.specs.Passed.{Passed, lent_of}
 use Rattle.passing.proofs.Stands.{at_start}
 use Rattle.passing.proofs.Cut.{lent-short}
 use Rattle.stretch.specs.declared.Here.{Here}
-use Rattle.between.specs.declared.Text.{Text}
-use Rattle.between.specs.declared.Text.TheVariants.{Over}
 use Rattle.machine.specs.declared.Frame.{Frame}
 use Rattle.machine.specs.declared.Course.{Course}
 use Rattle.machine.specs.declared.State.{State}
@@ -45,6 +40,9 @@ use Rattle.machine.proofs.Settling.{finished-goes}
 use Rattle.machine.proofs.Stepping.{over_arrives}
 use Rattle.machine.proofs.Cutting.{lent-within}
 use Rattle.machine.proofs.Texting.{text-drawn}
+use Rattle.std.specs.Prelude.{Err, Ok, Result}
+use Rattle.between.specs.declared.Text.{Text}
+use Rattle.between.specs.declared.Text.TheVariants.{Over}
 
 pub sooner : {t : List ℕ} {h : Host} {fs : List Frame} {turns later : ℕ} {r : State} {rows : List ℕ} {b : List ℤ} {room : List ℕ} → Arrives t h fs turns r rows b room → turns ≤ later → Arrives t h fs later r rows b room
 sooner a l = record { underway = a.underway; less = omega (arith, a.less, l) }
@@ -82,7 +80,7 @@ module _ {t : List ℕ} {h : Host} {fs : List Frame} {m : ℕ} {writing : Bool} 
 -- ---- all is measured
 
 pub text_measured : {t : List ℕ} {h : Host} {fs : List Frame} {c : Course} {rows : List ℕ} {b : List ℤ} {room : List ℕ} (x : AtText t h fs c rows b room) → c.writing ≡ false
-    → {came : Text} {rows' : List ℕ} (b' : List ℤ) (room' : List ℕ) (s : Passes t rows b c room came rows' b' room') {ink : Ink} → came ≡ Over ink → Measured t h fs c ink rows' b' room'
+    → {came : Result Text Refusal} {rows' : List ℕ} (b' : List ℤ) (room' : List ℕ) (s : Passes t rows b c room came rows' b' room') {ink : Ink} → came ≡ Ok (Over ink) → Measured t h fs c ink rows' b' room'
 text_measured {t} {h} {fs} {c} {rows} {b} {room} x off b' room' s {ink} q =
     record {
       passed = x.base.passed;
@@ -93,7 +91,7 @@ text_measured {t} {h} {fs} {c} {rows} {b} {room} x off b' room' s {ink} q =
       lent_is = s.same_words ∙ x.base.lent_is;
       same_room = spared c.writing off s.spares ∙ kept c.writing off x.base.phase;
       blank = x.blank;
-      painted = subst (λ (o : Bool). Painted (started h.earlier) (all_of x.base.passed h) (onto o h.room) [] (drawn.Done ink) (onto o room')) off (text-drawn x b' room' s q);
+      painted = subst (λ (o : Bool). Painted (started h.earlier) (all_of x.base.passed h) (onto o h.room) [] (Ok ink) (onto o room')) off (text-drawn x b' room' s q);
     }
   where
     spared : (o : Bool) → o ≡ false → Spares o room room' → room' ≡ room
@@ -108,7 +106,7 @@ module _ {t : List ℕ} {h : Host} {fs : List Frame} {c : Course} {ink : Ink} {r
   pub measured_end : ink.pen.at ≤ 2 ^ 60
   measured_end = let g = finished-goes m.passed h m.painted in omega (arith, g.reached.place_most, g.reached.shapes_most)
 
-  pub measured_long : {a : Answer} {k : ℕ} {r : State} {b' : List ℤ} {rows' : List ℕ} → TooLong (ink.pen.at + 2) (length room) → a ≡ failure t (refuse flat_file_too_long 0) [] → r ≡ over_state a k
+  pub measured_long : {a : Answer} {k : ℕ} {r : State} {b' : List ℤ} {rows' : List ℕ} → TooLong (ink.pen.at + 2) (length room) → a ≡ failure t (refuse FlatFileTooLong 0) [] → r ≡ over_state a k
       → b' ≡ replicate (length b) (pos 0) → Arrives t h fs (2 * most_calls + 2) r rows' b' room
   measured_long l e q w =
       over_arrives b m.size (too_long_for m.passed m.painted (subst (λ (x : List ℕ). TooLong (ink.pen.at + 2) (length x)) m.same_room l) e m.same_room) m.blank m.lent_is q w (omega arith)
@@ -193,11 +191,11 @@ starts-base p q x = record {
 }
 
 module _ {t : List ℕ} {h : Host} {fs : List Frame} {m f : ℕ} {rows : List ℕ} {b : List ℤ} {room : List ℕ} (x : Beginning h fs m f rows b room) (blank : Blank 0 fs) where
-  pub start-refused : {d : Fault} {why : Refusal} {a : Answer} {k : ℕ} {r : State} {b' : List ℤ} → Screened t d → d ≡ Refused why → a ≡ failure t why [] → r ≡ over_state a k → b' ≡ replicate (length b) (pos 0)
+  pub start-refused : {d : Result ℕ Refusal} {why : Refusal} {a : Answer} {k : ℕ} {r : State} {b' : List ℤ} → Screened t d → d ≡ Err why → a ≡ failure t why [] → r ≡ over_state a k → b' ≡ replicate (length b) (pos 0)
       → Arrives t h fs start_turns r rows b' room
   start-refused s is e q w = over_arrives b x.size (refused_early s is e x.same_room) blank x.lent_is q w (omega arith)
 
-  pub start_at : {d : Fault} {k : ℕ} → Screened t d → d ≡ Clear k → {c : Course} → c ≡ fresh_course m false k f → AtText t h fs c rows b room
+  pub start_at : {d : Result ℕ Refusal} {k : ℕ} → Screened t d → d ≡ Ok k → {c : Course} → c ≡ fresh_course m false k f → AtText t h fs c rows b room
   start_at s is e =
       let r = passes s is in
       subst (λ (y : Course). AtText t h fs y rows b room) (sym e) (begins_at_text (starts-base r.passed r.is x) blank x.same_room)

@@ -18,7 +18,6 @@ use Rattle.definition.specs.Table.{Table}
 use Rattle.definition.specs.Drawing.{Chain, Event}
 use Rattle.turns.specs.Nets.{Carries, Near}
 use Rattle.shapes.specs.declared.Ink.{Ink}
-use Rattle.shapes.specs.declared.Drawn.TheVariants as drawn
 use Rattle.shapes.specs.Painting.{Reached, Painted}
 use Rattle.shapes.proofs.Painting.{PaintedSoFar, goes_on, skips, stops, over, so_far}
 use Rattle.library.specs.Memory.{table_of, start_at, length_at, body_at}

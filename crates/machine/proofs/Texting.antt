@@ -19,7 +19,6 @@ use Rattle.reasons.proofs.Owned.{held-own, net_there}
 use Rattle.turns.specs.Nets.{Carries}
 use Rattle.turns.proofs.Nets.{nothing_carried}
 use Rattle.shapes.specs.declared.Ink.{Ink}
-use Rattle.shapes.specs.declared.Drawn.TheVariants as drawn
 use Rattle.shapes.specs.Painting.{Goes, Answered, Painted}
 use Rattle.shapes.proofs.Painting.{so_far}
 use Rattle.library.specs.Memory.{start_at, length_at, most, row_numbers}
@@ -29,8 +28,6 @@ use Rattle.passing.specs.Passed.{Passed, lent_of}
 use Rattle.opening.specs.declared.Call.{Call}
 use Rattle.stretch.specs.declared.Here.{Here}
 use Rattle.between.specs.declared.Stand.{Stand}
-use Rattle.between.specs.declared.Text.{Text}
-use Rattle.between.specs.declared.Text.TheVariants.{Over, Calls, Stops}
 use Rattle.between.specs.Texts.{Origin, Paused, Pausing, CallsOut, TextCase, TextBy, TextGrows}
 use Rattle.machine.specs.declared.Frame.{Frame}
 use Rattle.machine.specs.declared.Course.{Course}
@@ -41,6 +38,9 @@ use Rattle.machine.proofs.Settling.{finished-goes}
 use Rattle.machine.proofs.Stepping.{over_arrives, unwinds_arrive}
 use Rattle.machine.proofs.Pushing.{text-pushed}
 use Rattle.machine.proofs.Bodying.{halted}
+use Rattle.std.specs.Prelude.{Err, Ok, Result}
+use Rattle.between.specs.declared.Text.{Text}
+use Rattle.between.specs.declared.Text.TheVariants.{Over, Calls}
 
 module _ {t : List ℕ} {h : Host} {fs : List Frame} {c : Course} {rows : List ℕ} {b : List ℤ} {room : List ℕ} (x : AtText t h fs c rows b room) where
   pub text-stands : (length c.run ≡ run_length) × Pausing t c.records rows (cut b) c.stand c.ink (onto c.writing room)
@@ -56,31 +56,31 @@ module _ {t : List ℕ} {h : Host} {fs : List Frame} {c : Course} {rows : List �
   abbrev all : List Event
   all = all_of x.base.passed h
 
-  module _ {came : Text} {rows' : List ℕ} (b' : List ℤ) (room' : List ℕ) (s : Passes t rows b c room came rows' b' room') where
+  module _ {came : Result Text Refusal} {rows' : List ℕ} (b' : List ℤ) (room' : List ℕ) (s : Passes t rows b c room came rows' b' room') where
     comes_so : TextBy t (lent_of h.lent) h.records all (origin_of c.writing h) came rows' (cut b') (onto c.writing room')
     comes_so =
         subst (λ (n : ℕ). (w : ℕ) (es : List Event) (r₀ : Origin) → Paused t w n es r₀ rows (cut b) c.stand c.ink (onto c.writing room) → TextBy t w n es r₀ came rows' (cut b') (onto c.writing room'))
         x.base.records_is s.comes (lent_of h.lent) all (origin_of c.writing h) x.paused
 
-    by_case : {y : Text} → came ≡ y → TextCase t (lent_of h.lent) h.records all (origin_of c.writing h) y rows' (cut b') (onto c.writing room')
-    by_case {y} q = (subst (λ (z : Text). TextBy t (lent_of h.lent) h.records all (origin_of c.writing h) z rows' (cut b') (onto c.writing room')) q comes_so).comes
+    by_case : {y : Result Text Refusal} → came ≡ y → TextCase t (lent_of h.lent) h.records all (origin_of c.writing h) y rows' (cut b') (onto c.writing room')
+    by_case {y} q = (subst (λ (z : Result Text Refusal). TextBy t (lent_of h.lent) h.records all (origin_of c.writing h) z rows' (cut b') (onto c.writing room')) q comes_so).comes
 
     -- a shape at which it stops outside of every call is moved by nothing
-    outside-net : {why : Refusal} {from to : List ℕ} → Painted (started h.earlier) all from [] (drawn.Refused why) to → NetThere x.base.passed h no_here.net
+    outside-net : {why : Refusal} {from to : List ℕ} → Painted (started h.earlier) all from [] (Err why) to → NetThere x.base.passed h no_here.net
     unfolding Answered
     outside-net {why} y d stop =
         let e : ending (counts 0 h.earlier 0) all ≡ stopped why [] = y.answer in
         let own = held-own h.records (lent_of h.lent) [] (deeds (outside []) (commands 0 x.base.passed.letters)) in
         subst (λ (ts : List (Turn ℤ)). Carries ts no_here.net) (sym (net_there (counts 0 h.earlier 0) all {net = []} own e d stop)) nothing_carried
 
-    pub text-stopped : {why : Refusal} → came ≡ Stops why → {r : State} {b'' : List ℤ} → Unwinds (failure t why (open_in c)) c no_here b' r b'' → Arrives t h fs (course_turns c) r rows' b'' room'
+    pub text-stopped : {why : Refusal} → came ≡ Err why → {r : State} {b'' : List ℤ} → Unwinds (failure t why (open_in c)) c no_here b' r b'' → Arrives t h fs (course_turns c) r rows' b'' room'
     unfolding TextCase
     text-stopped {why} q u =
         let none : open_in c ≡ [] = ap (open_calls c.run) x.outside ∙ none_open c.run in
         unwinds_arrive b' x.base.size {here = no_here} (halted c.writing x.base.passed h room room' x.base.phase s.spares (by_case q) (outside-net (by_case q)) (ap (failure t why) none))
         (omega (arith, x.outside)) (λ i l. x.blank i (omega arith)) (s.same_words ∙ x.base.lent_is) u (omega arith)
 
-    module _ {stand : Stand} {call : Call} {row : ℕ} {ink : Ink} (q : came ≡ Calls stand call row ink) where
+    module _ {stand : Stand} {call : Call} {row : ℕ} {ink : Ink} (q : came ≡ Ok (Calls stand call row ink)) where
       calls_out : CallsOut t (lent_of h.lent) h.records all (origin_of c.writing h) rows' (cut b') stand call row ink (onto c.writing room')
       unfolding TextCase
       calls_out = by_case q
@@ -97,16 +97,16 @@ module _ {t : List ℕ} {h : Host} {fs : List Frame} {c : Course} {rows : List �
           text-pushed b' room' x pu calls_out (calls_out.sized ∙ sym x.base.rows_size) s.same_words s.spares size more
 
     -- all is drawn
-    pub text-drawn : {ink : Ink} → came ≡ Over ink → Painted (started h.earlier) all (onto c.writing h.room) [] (drawn.Done ink) (onto c.writing room')
+    pub text-drawn : {ink : Ink} → came ≡ Ok (Over ink) → Painted (started h.earlier) all (onto c.writing h.room) [] (Ok ink) (onto c.writing room')
     unfolding TextCase
     text-drawn q = by_case q
 
   -- while writing, the flat file stands in the room
-  pub text-written : (c.writing ≡ true) → {came : Text} {rows' : List ℕ} (b' : List ℤ) (room' : List ℕ) (s : Passes t rows b c room came rows' b' room') {ink : Ink} → came ≡ Over ink
+  pub text-written : (c.writing ≡ true) → {came : Result Text Refusal} {rows' : List ℕ} (b' : List ℤ) (room' : List ℕ) (s : Passes t rows b c room came rows' b' room') {ink : Ink} → came ≡ Ok (Over ink)
       → {r : State} {b'' : List ℤ} {room'' : List ℕ} → Writes c ink b' room' r b'' room'' → Arrives t h fs (course_turns c) r rows' b'' room''
   text-written on {came} {rows'} b' room' s {ink} q {r} {b''} {room''} w =
       let p = x.base.passed in
-      let y = subst (λ (o : Bool). Painted (started h.earlier) all (onto o h.room) [] (drawn.Done ink) (onto o room')) on (text-drawn b' room' s q) in
+      let y = subst (λ (o : Bool). Painted (started h.earlier) all (onto o h.room) [] (Ok ink) (onto o room')) on (text-drawn b' room' s q) in
       let f = subst (λ (o : Bool). Phase o all h room) on x.base.phase in
       let at_same = same_end f (finished-goes p h y) in
       over_arrives b' x.base.size
@@ -123,7 +123,7 @@ module _ {t : List ℕ} {h : Host} {fs : List Frame} {c : Course} {rows : List �
       same_end f g = g.next ∙ sym (fits_of f).goes.next
 
   -- what the last line asks
-  pub text_end : {came : Text} {rows' : List ℕ} (b' : List ℤ) (room' : List ℕ) (s : Passes t rows b c room came rows' b' room') {ink : Ink} → came ≡ Over ink → ink.pen.at ≤ 2 ^ 60
+  pub text_end : {came : Result Text Refusal} {rows' : List ℕ} (b' : List ℤ) (room' : List ℕ) (s : Passes t rows b c room came rows' b' room') {ink : Ink} → came ≡ Ok (Over ink) → ink.pen.at ≤ 2 ^ 60
   text_end b' room' s q =
       let g = finished-goes x.base.passed h (text-drawn b' room' s q) in
       omega (arith, g.reached.place_most, g.reached.shapes_most)

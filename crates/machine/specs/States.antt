@@ -17,9 +17,7 @@ use Rattle.opening.specs.declared.Call.{Call}
 use Rattle.library.specs.Memory.{start_at, length_at}
 use Rattle.turns.specs.Nets.{Near}
 use Rattle.stretch.specs.declared.Here.{Here}
-use Rattle.stretch.specs.declared.Body.{Body}
 use Rattle.stretch.specs.Bodies.{Rests, Poised, BodyComes, Grows}
-use Rattle.between.specs.declared.Text.{Text}
 use Rattle.between.specs.Texts.{TextComes, TextGrows}
 use Rattle.between.specs.declared.Stand.{Stand}
 use Rattle.machine.specs.declared.Frame.{Frame}
@@ -27,6 +25,9 @@ use Rattle.machine.specs.declared.Course.{Course}
 use Rattle.machine.specs.declared.Kind.{Kind}
 use Rattle.machine.specs.declared.Kind.TheVariants.{Clear, Push, Pop, Unwind}
 use Rattle.machine.specs.declared.State.{State}
+use Rattle.std.specs.Prelude.{Result}
+use Rattle.stretch.specs.declared.Body.{Body}
+use Rattle.between.specs.declared.Text.{Text}
 
 -- ---- records
 
@@ -155,12 +156,12 @@ pub record StandsIn (rows : List ℕ) (b : List ℤ) (c : Course) (here : Here) 
   pub near : Near (c.level * 2 ^ 36) here.net
   pub rests : Rests b here
 
-pub record Stretches (rows : List ℕ) (b : List ℤ) (c : Course) (here : Here) (room : List ℕ) (r : Body) (room' : List ℕ) : Type 0 where
+pub record Stretches (rows : List ℕ) (b : List ℤ) (c : Course) (here : Here) (room : List ℕ) (r : Result Body Refusal) (room' : List ℕ) : Type 0 where
   pub comes : BodyComes c.records rows b c.stand.stock.live (open_in c) (32 - c.level) here c.ink (onto c.writing room) r (onto c.writing room')
   pub grows : Grows c.ink r
   pub spares : Spares c.writing room room'
 
-pub record Passes (t : List ℕ) (rows : List ℕ) (b : List ℤ) (c : Course) (room : List ℕ) (r : Text) (rows' : List ℕ) (b' : List ℤ) (room' : List ℕ) : Type 0 where
+pub record Passes (t : List ℕ) (rows : List ℕ) (b : List ℤ) (c : Course) (room : List ℕ) (r : Result Text Refusal) (rows' : List ℕ) (b' : List ℤ) (room' : List ℕ) : Type 0 where
   pub comes : TextComes t c.records rows (cut b) c.stand c.ink (onto c.writing room) r rows' (cut b') (onto c.writing room')
   pub grows : TextGrows c.ink r
   pub spares : Spares c.writing room room'

@@ -11,7 +11,7 @@ use Rattle.definition.specs.Limits.{most_calls, most_shapes, most_bytes}
 use Rattle.definition.specs.Commands.{Turn, commands}
 use Rattle.definition.specs.Rounded.{rounded}
 use Rattle.definition.specs.Table.{Table}
-use Rattle.definition.specs.Rules.{flat_file_too_long, refuse}
+use Rattle.definition.specs.Rules.{FlatFileTooLong, refuse}
 use Rattle.definition.specs.Drawing.{Chain, Drawn, Event, drew}
 use Rattle.definition.specs.Counts.{counts, stopped, ending}
 use Rattle.definition.specs.Held.{held_to}
@@ -23,10 +23,7 @@ use Rattle.reasons.specs.Parts.{StopsIn}
 use Rattle.turns.specs.declared.Net.{Net}
 use Rattle.turns.specs.Nets.{Carries, Near}
 use Rattle.counts.specs.Counting.{tally}
-use Rattle.checking.specs.declared.Fault.{Fault}
-use Rattle.checking.specs.declared.Fault.TheVariants as fault
 use Rattle.shapes.specs.declared.Ink.{Ink}
-use Rattle.shapes.specs.declared.Drawn.TheVariants as drawn
 use Rattle.shapes.specs.Painting.{Goes, Painted}
 use Rattle.shapes.proofs.Painting.{PaintedSoFar}
 use Rattle.library.specs.Memory.{table_of, row_numbers, most_words}
@@ -45,6 +42,7 @@ use Rattle.machine.specs.declared.Kind.{Kind}
 use Rattle.machine.specs.declared.Kind.TheVariants.{Clear, Push, Pop, Unwind}
 use Rattle.machine.specs.declared.State.{State}
 use Rattle.machine.specs.States.{no_frame, here_of, started, open_in, cut, onto}
+use Rattle.std.specs.Prelude.{Err, Ok, Result}
 
 -- what a host lends: so many words, a room, and so many records; and how many shapes count as drawn before its text
 pub record Host : Type 0 where
@@ -120,12 +118,12 @@ NetThere p h net = (d : Drawn) → stop_of (counts 0 h.earlier 0) (all_of p h) �
 
 -- how it came out, whatever counts as drawn before: refused before it is drawn, refused in its drawing, too long for the room, or written
 pub data CameOut (t : List ℕ) (h : Host) (a : Answer) (net : Net) (room : List ℕ) : Type 0 where
-  refused_early : {d : Fault} {why : Refusal} → Screened t d → d ≡ fault.Refused why → a ≡ failure t why [] → room ≡ h.room → CameOut t h a net room
+  refused_early : {d : Result ℕ Refusal} {why : Refusal} → Screened t d → d ≡ Err why → a ≡ failure t why [] → room ≡ h.room → CameOut t h a net room
   stopped_there : (p : Passed t) {why : Refusal} {chain : Chain} → ending (counts 0 h.earlier 0) (all_of p h) ≡ stopped why chain → NetThere p h net → a ≡ failure t why chain → room ≡ h.room
       → CameOut t h a net room
-  too_long_for : (p : Passed t) {ink : Ink} → Painted (started h.earlier) (all_of p h) [] [] (drawn.Done ink) [] → TooLong (ink.pen.at + 2) (length h.room)
-      → a ≡ failure t (refuse flat_file_too_long 0) [] → room ≡ h.room → CameOut t h a net room
-  written_out : (p : Passed t) {ink : Ink} {before_last : List ℕ} → Painted (started h.earlier) (all_of p h) h.room [] (drawn.Done ink) before_last → ink.pen.at + 2 ≤ length h.room
+  too_long_for : (p : Passed t) {ink : Ink} → Painted (started h.earlier) (all_of p h) [] [] (Ok ink) [] → TooLong (ink.pen.at + 2) (length h.room)
+      → a ≡ failure t (refuse FlatFileTooLong 0) [] → room ≡ h.room → CameOut t h a net room
+  written_out : (p : Passed t) {ink : Ink} {before_last : List ℕ} → Painted (started h.earlier) (all_of p h) h.room [] (Ok ink) before_last → ink.pen.at + 2 ≤ length h.room
       → ink.pen.at + 2 ≤ most_bytes → room ≡ sets before_last ink.pen.at (69 ∷ 10 ∷ []) → {k : ℕ} → k ≡ rounded (commands 0 p.letters)
       → a ≡ success (ink.pen.at + 2) (tally ink.counts) k → CameOut t h a net room
 
@@ -169,8 +167,8 @@ pub record Calling (t : List ℕ) (w n : ℕ) (all : List Event) (from : Origin)
   pub sorted : Sorted rows stand.stock.live
   pub stocked : Stocked rows b stand.stock.live
   pub short : length b ≤ most_words
-  pub resumes : {ink' : Ink} {room' : List ℕ} → Painted ink_there events room_there [] (drawn.Done ink') room' → Paused t w n all from rows b stand ink' room'
-  pub halts : {why : Refusal} {chain : Chain} {room' : List ℕ} → Painted ink_there events room_there chain (drawn.Refused why) room' → Painted from.ink all from.room chain (drawn.Refused why) room'
+  pub resumes : {ink' : Ink} {room' : List ℕ} → Painted ink_there events room_there [] (Ok ink') room' → Paused t w n all from rows b stand ink' room'
+  pub halts : {why : Refusal} {chain : Chain} {room' : List ℕ} → Painted ink_there events room_there chain (Err why) room' → Painted from.ink all from.room chain (Err why) room'
   pub stops_in : StopsIn (tally from.ink.counts) all (tally ink_there.counts) events
   pub going : PaintedSoFar events ink_there room_there left ink room
 
@@ -305,7 +303,7 @@ pub record Measured (t : List ℕ) (h : Host) (fs : List Frame) (c : Course) (in
   pub lent_is : length b ≡ h.lent
   pub same_room : room ≡ h.room
   pub blank : Blank 0 fs
-  pub painted : Painted (started h.earlier) (all_of passed h) [] [] (drawn.Done ink) []
+  pub painted : Painted (started h.earlier) (all_of passed h) [] [] (Ok ink) []
 
 abbrev pub MeasuredOn : (t : List ℕ) (c : Course) (ink : Ink) (rows : List ℕ) (b : List ℤ) (room : List ℕ) → State → (rows' : List ℕ) (b' : List ℤ) (room' : List ℕ) → Type 0
 MeasuredOn t c ink rows b room r rows' b' room' = (h : Host) (fs : List Frame) → Measured t h fs c ink rows b room → Arrives t h fs (2 * most_calls + 2) r rows' b' room'

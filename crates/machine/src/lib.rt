@@ -5,7 +5,7 @@
 ghost use Rattle.std.specs.Prelude.{◌≡◌, List, [], ◌∷◌, true, false, ℕ, ◌+◌, ◌-◌, ◌*◌, ◌%◌, ◌^◌, ◌<◌, ◌≤◌, eqb, pos, length, replicate};
 ghost use Rattle.std.proofs.lemmas.List.Edits.{sets};
 ghost use Rattle.definition.specs.Limits.{deepest, most_shapes};
-ghost use Rattle.definition.specs.Rules.{flat_file_too_long, refuse};
+ghost use Rattle.definition.specs.Rules.{FlatFileTooLong, refuse};
 ghost use Rattle.definition.specs.Answer.{failure, success};
 ghost use Rattle.turns.specs.Nets.{Near};
 ghost use Rattle.counts.specs.Counting.{tally};
@@ -18,7 +18,7 @@ ghost use Rattle.machine.specs.Underway.{Host, InBody, BodyOn, AtText, TextOn, M
 ghost use Rattle.machine.specs.declared.Frame.{Frame};
 
 use between::{Stand, Text};
-use definition::{Answer, Refusal};
+use definition::{Answer, Refusal, Rule};
 use opening::Call;
 use shapes::Ink;
 use stretch::{Body, Here};
@@ -387,7 +387,7 @@ fn body_stretch(
     room: &mut [u8],
     c: Course,
     here: Here,
-) -> Body
+) -> Result<Body, Refusal>
     requires { StandsIn rows.now (cut bodies.now) c here }
     ensures { Stretches rows.now (cut bodies.now) c here room.old result room.new }
 {
@@ -417,7 +417,7 @@ fn text_stretch(
     bodies: &mut [i32],
     room: &mut [u8],
     c: Course,
-) -> Text
+) -> Result<Text, Refusal>
     requires { (length c.run ≡ run_length) × Pausing text.now c.records rows.old (cut bodies.old) c.stand c.ink (onto c.writing room.old) }
     ensures { Passes text.now rows.old bodies.old c room.old result rows.new bodies.new room.new }
 {
@@ -453,9 +453,9 @@ fn body_on(
     ensures { BodyOn text.now c here rows.now bodies.old room.old result bodies.new room.new }
 {
     match body_stretch(rows, bodies, room, c, here) {
-        Body::Stops(refusal) => stopped(text, bodies, c, refusal, here),
-        Body::Ends(ink) => popped(c, ink),
-        Body::Calls(on, call, row, ink) => {
+        Err(refusal) => stopped(text, bodies, c, refusal, here),
+        Ok(Body::Ends(ink)) => popped(c, ink),
+        Ok(Body::Calls(on, call, row, ink)) => {
             let stand = c.stand;
             pushed(rows, c, stand, on, call, row, ink)
         }
@@ -485,9 +485,9 @@ fn write(
     ensures { TextOn text.now c rows.old bodies.old room.old result rows.new bodies.new room.new }
 {
     match text_stretch(text, rows, bodies, room, c) {
-        Text::Stops(refusal) => stopped_outside(text, bodies, c, refusal),
-        Text::Over(ink) => written(bodies, room, c, ink),
-        Text::Calls(stand, call, row, ink) => pushed(rows, c, stand, nowhere(), call, row, ink),
+        Err(refusal) => stopped_outside(text, bodies, c, refusal),
+        Ok(Text::Over(ink)) => written(bodies, room, c, ink),
+        Ok(Text::Calls(stand, call, row, ink)) => pushed(rows, c, stand, nowhere(), call, row, ink),
     }
 }
 
@@ -505,7 +505,7 @@ fn measured(
 {
     let length = ink.pen.at + LAST_LINE;
     let over_long = Refusal {
-        number: 18,
+        rule: Rule::FlatFileTooLong,
         place: 0,
     };
     if room.len() < length {
@@ -533,9 +533,9 @@ fn measure(
     ensures { TextOn text.now c rows.old bodies.old room.old result rows.new bodies.new room.new }
 {
     match text_stretch(text, rows, bodies, room, c) {
-        Text::Stops(refusal) => stopped_outside(text, bodies, c, refusal),
-        Text::Over(ink) => measured(text, rows, bodies, room, c, ink),
-        Text::Calls(stand, call, row, ink) => pushed(rows, c, stand, nowhere(), call, row, ink),
+        Err(refusal) => stopped_outside(text, bodies, c, refusal),
+        Ok(Text::Over(ink)) => measured(text, rows, bodies, room, c, ink),
+        Ok(Text::Calls(stand, call, row, ink)) => pushed(rows, c, stand, nowhere(), call, row, ink),
     }
 }
 
@@ -586,11 +586,11 @@ fn start(
     ensures { StartOn text.now records earlier rows.old bodies.old room.old result rows.new bodies.new room.new }
 {
     match reader::first_fault(text) {
-        checking::Fault::Refused(refusal) => {
+        Err(refusal) => {
             let answer = answer::refused_outside(text, refusal, counts::no_counts());
             over(bodies, answer, records)
         }
-        checking::Fault::Clear(rounded) => {
+        Ok(rounded) => {
             let c = fresh(records, false, rounded, earlier);
             measure(text, rows, bodies, room, c)
         }

@@ -18,7 +18,7 @@ use Rattle.grammar.proofs.Markings.{one_marking}
 use Rattle.definition.specs.declared.Refusal.{Refusal}
 use Rattle.definition.specs.Limits.{most_layers}
 use Rattle.definition.specs.Words.{Placed, at}
-use Rattle.definition.specs.Rules.{too_many_layers, refuse}
+use Rattle.definition.specs.Rules.{TooManyLayers, refuse}
 use Rattle.definition.specs.Commands.{Command, layer, commands}
 use Rattle.definition.specs.Summary.{Names, names_after, names_from, layer_names, too_many_from}
 use Rattle.names.specs.Names.{packed}
@@ -31,16 +31,14 @@ use Rattle.pieces.specs.declared.Piece.TheVariants.{Word}
 use Rattle.pieces.proofs.Spots.{start-pieces}
 use Rattle.rules.specs.Letters.{letter_d, letter_l, first_unit}
 use Rattle.rules.specs.Written.{Written, written, letters, last_of, last_letter, packed_by}
-use Rattle.commands.specs.declared.Read.{Read}
-use Rattle.commands.specs.declared.Read.TheVariants.{Decoded, Nothing}
 use Rattle.commands.specs.Words.{widest, held, word, letter_words, body_of, closing, words_of, kind_by, DecodedOne, ReadsCommand}
 use Rattle.reading.proofs.Says.{tells, Says, a_polygon, a_box, a_turned_box, a_flash, a_wire, a_layer, a_call, a_start, a_scaled-start, a_finish, a_deletion, a_nothing, AllSay, none_said, one_said}
 use Rattle.reading.proofs.AllSay.{all_say}
 use Rattle.reading.proofs.Packed.{packed-most}
 use Rattle.marks.specs.Noted.{Known, Noted, Notes, Gathers}
-use Rattle.marks.specs.declared.Gathered.{Gathered}
-use Rattle.marks.specs.declared.Gathered.TheVariants.{Named, Over}
 use Rattle.marks.proofs.Marking.{noted-after, names_many}
+use Rattle.std.specs.Prelude.{Err, None, Ok, Option, Result, Some}
+use Rattle.commands.specs.declared.Decoded.{Decoded}
 
 -- ---- one command
 
@@ -117,9 +115,9 @@ not_named (a_deletion x) e ns = refl
 not_named (a_nothing i) e ns = refl
 
 -- what `read_command` answers
-pub read_as : {t : List ℕ} {spot : Spot} {a b : ℕ} {ws ws' : List ℤ} {r : Read} → ReadsCommand t spot a b ws r ws' → {k p n : ℕ} {to : Spot} → r ≡ Decoded k p n to
+pub read_as : {t : List ℕ} {spot : Spot} {a b : ℕ} {ws ws' : List ℤ} {r : Option Decoded} → ReadsCommand t spot a b ws r ws' → {k p n : ℕ} {to : Spot} → r ≡ Some (record { kind = k; place = p; end = n; to = to })
     → (c : Written) × DecodedOne t spot a b c ws k p n to ws'
-read_as {t} {spot} {a} {b} {ws} {ws'} x e = subst (λ (r : Read). ReadsCommand t spot a b ws r ws') e x
+read_as {t} {spot} {a} {b} {ws} {ws'} x e = subst (λ (r : Option Decoded). ReadsCommand t spot a b ws r ws') e x
 
 -- ---- between two commands
 
@@ -189,16 +187,16 @@ stop-next : (ns : Names) (d : Placed Command) (ds : List (Placed Command)) → l
 unfolding too_many_from
 stop-next ns d ds h = rw (le-ltb most_layers (length (names_after ns d.what)) h) refl
 
-stop-here : (ns : Names) (d : Placed Command) (ds : List (Placed Command)) → most_layers < length (names_after ns d.what) → too_many_from ns (d ∷ ds) ≡ some (refuse too_many_layers d.place)
+stop-here : (ns : Names) (d : Placed Command) (ds : List (Placed Command)) → most_layers < length (names_after ns d.what) → too_many_from ns (d ∷ ds) ≡ some (refuse TooManyLayers d.place)
 unfolding too_many_from
 stop-here ns d ds h = rw (lt-ltb most_layers (length (names_after ns d.what)) h) refl
 
 module _ {t : List ℕ} {run : List ℕ} {words : List ℤ} {spot : Spot} {count : ℕ} (u : Gathering t run words spot count) where
   -- no command is left
-  pub gather_out : (r : Read) (words' : List ℤ) → ReadsCommand t spot 1 1 words r words' → r ≡ Nothing → Gathers (commands 0 u.letters) (Named count) run
+  pub gather_out : (r : Option Decoded) (words' : List ℤ) → ReadsCommand t spot 1 1 words r words' → r ≡ None → Gathers (commands 0 u.letters) (Ok count) run
   unfolding Gathers
   gather_out r words' x e =
-      let none_written : written (stream t spot) ≡ [] = (subst (λ (r : Read). ReadsCommand t spot 1 1 words r words') e x).0 in
+      let none_written : written (stream t spot) ≡ [] = (subst (λ (r : Option Decoded). ReadsCommand t spot 1 1 words r words') e x).0 in
       let over : u.rest ≡ [] = none_left (subst (λ (cs : List Written). AllSay cs u.rest) none_written u.say) in (
         subst (Noted run count) (sym (ap (names_from u.names) over ∙ from_end u.names) ∙ u.names_left) u.noted,
         sym u.stop-left ∙ (ap (too_many_from u.names) over ∙ stop_end u.names),
@@ -246,15 +244,15 @@ module _ {t : List ℕ} {run : List ℕ} {words : List ℤ} {spot : Spot} {count
         gather_layer h =
             goes_on (subst (λ (d : Command). Noted run' more (names_after u.names d)) (sym is_layer) (noted-after u.noted layered.known.back (q ∙ third_is) layered.known.some_letter x h))
 
-        pub gather_over : most_layers < more → Gathers (commands 0 u.letters) (Over place) run'
+        pub gather_over : most_layers < more → Gathers (commands 0 u.letters) (Err place) run'
         unfolding Gathers
         gather_over h =
             sym u.stop-left
             ∙ (ap (too_many_from u.names) first.are
             ∙ (stop-here u.names first.command first.rest
             (let z = ap (λ (d : Command). length (names_after u.names d)) is_layer ∙ names_many u.noted layered.known.back (q ∙ third_is) x in omega (arith, z, h))
-            ∙ ap (λ (p : ℕ). some (refuse too_many_layers p)) (ap (λ (d : Placed Command). d.place) layered.is ∙ sym r.tells.place)))
+            ∙ ap (λ (p : ℕ). some (refuse TooManyLayers p)) (ap (λ (d : Placed Command). d.place) layered.is ∙ sym r.tells.place)))
 
 -- whatever letters the text is read as, they are these
-pub any_marking : {t : List ℕ} {m : List Letter} (g : Gathered) (run : List ℕ) → Marked t m → Gathers (commands 0 m) g run → (n : List Letter) → Marked t n → Gathers (commands 0 n) g run
+pub any_marking : {t : List ℕ} {m : List Letter} (g : Result ℕ ℕ) (run : List ℕ) → Marked t m → Gathers (commands 0 m) g run → (n : List Letter) → Marked t n → Gathers (commands 0 n) g run
 any_marking g run k h n j = subst (λ (x : List Letter). Gathers (commands 0 x) g run) (one_marking k j) h

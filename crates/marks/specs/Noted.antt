@@ -5,12 +5,11 @@ use Rattle.std.specs.Prelude.{◌≡◌, List, [], ℕ, ◌+◌, ◌^◌, ◌≤
 use Rattle.std.proofs.Math.Option.{none, some}
 use Rattle.definition.specs.Limits.{most_layers}
 use Rattle.definition.specs.Words.{Placed}
-use Rattle.definition.specs.Rules.{too_many_layers, refuse}
+use Rattle.definition.specs.Rules.{TooManyLayers, refuse}
 use Rattle.definition.specs.Commands.{Command}
 use Rattle.definition.specs.Summary.{Names, layer_names, too_many_from}
 use Rattle.names.specs.Names.{name_of, packed}
-use Rattle.marks.specs.declared.Gathered.{Gathered}
-use Rattle.marks.specs.declared.Gathered.TheVariants.{Named, Over}
+use Rattle.std.specs.Prelude.{Err, Ok, Result}
 
 pub record Known (l : List ℕ) : Type 0 where  -- a name that comes back from its number
   pub some_letter : 0 < length l
@@ -47,6 +46,6 @@ pub data Notes (run : List ℕ) (count : ℕ) (v : ℕ) : ℕ → List ℕ → T
   too_many : New run count v → count ≡ most_layers → Notes run count v (count + 1) run
 
 -- the contract of `gather`, of the commands of a text
-unfoldable pub Gathers : List (Placed Command) → Gathered → List ℕ → Type 0
-Gathers cs (Named n) run = Noted run n (layer_names cs) × (too_many_from [] cs ≡ none)
-Gathers cs (Over p) run = too_many_from [] cs ≡ some (refuse too_many_layers p)
+unfoldable pub Gathers : List (Placed Command) → Result ℕ ℕ → List ℕ → Type 0
+Gathers cs (Ok n) run = Noted run n (layer_names cs) × (too_many_from [] cs ≡ none)
+Gathers cs (Err p) run = too_many_from [] cs ≡ some (refuse TooManyLayers p)

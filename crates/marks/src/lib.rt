@@ -5,20 +5,12 @@
 ghost use Rattle.std.specs.Prelude.{◌≡◌, List, ◌≤◌, length};
 ghost use Rattle.grammar.specs.Notation.{Letter};
 ghost use Rattle.grammar.specs.Viable.{Marked};
-ghost use Rattle.grammar.specs.Steps.{KindsLent, NextLent};
 ghost use Rattle.definition.specs.Limits.{most_layers};
 ghost use Rattle.definition.specs.Commands.{commands};
 ghost use Rattle.marks.specs.Noted.{MarkOf, BitOf, Notes, Gathers};
 
 // The words of an L command: two in front, and its name.
 const LAYER_WORDS: usize = 3;
-
-// How many names a text has; or the place of the L command that brings one more than there are marks (refusal 19).
-#[derive(Clone, Copy)]
-pub enum Gathered {
-    Named(usize),
-    Over(usize),
-}
 
 // The mark of a name, its place among the first `count`; `count` if it is none of them.
 pub fn mark_of(names: &[usize; definition::MOST_LAYERS], count: usize, name: usize) -> usize
@@ -63,14 +55,13 @@ fn note(names: &mut [usize; definition::MOST_LAYERS], count: usize, name: usize)
     more
 }
 
-// The names of a text's L commands, from its start on, with the tables lent.
+// The names of a text's L commands, from its start on, with the tables lent: how many they are; or the place of the L command that brings one more than
+// there are marks (refusal 19).
 fn gather_by(
     text: &[u8],
-    kinds: &[u8; 256],
-    next: &[u16; grammar::tables::ENTRY_COUNT],
+    recogniser: &grammar::Recogniser,
     names: &mut [usize; definition::MOST_LAYERS],
-) -> Gathered
-    requires kinds_lent { KindsLent kinds.now × NextLent next.now }
+) -> Result<usize, usize>
     requires names_len { ((m : List Letter) × Marked text.now m) × (length names.old ≡ most_layers) }
     ensures { (m : List Letter) → Marked text.now m → Gathers (commands 0 m) result names.new }
 {
@@ -78,17 +69,17 @@ fn gather_by(
     let mut spot = pieces::Spot { at: 0, state: 0 };
     let mut count: usize = 0;
     loop {
-        match commands::read_command(text, kinds, next, &mut words, spot, 1, 1) {
-            commands::Read::Nothing => {
-                return Gathered::Named(count);
+        match commands::read_command(text, recogniser, &mut words, spot, 1, 1) {
+            None => {
+                return Ok(count);
             }
-            commands::Read::Decoded(kind, place, _, to) => {
-                spot = to;
-                if kind == b'L' {
+            Some(c) => {
+                spot = c.to;
+                if c.kind == b'L' {
                     let name = shapes::size_at(&words, 2);
                     count = note(names, count, name);
                     if definition::MOST_LAYERS < count {
-                        return Gathered::Over(place);
+                        return Err(c.place);
                     }
                 }
             }
@@ -97,11 +88,10 @@ fn gather_by(
 }
 
 // The names of a text's L commands come to stand in the run, by first appearance.
-pub fn gather(text: &[u8], names: &mut [usize; definition::MOST_LAYERS]) -> Gathered
+pub fn gather(text: &[u8], names: &mut [usize; definition::MOST_LAYERS]) -> Result<usize, usize>
     requires { ((m : List Letter) × Marked text.now m) × (length names.old ≡ most_layers) }
     ensures { (m : List Letter) → Marked text.now m → Gathers (commands 0 m) result names.new }
 {
-    let kinds = grammar::tables::KINDS;
-    let next = grammar::tables::NEXT;
-    gather_by(text, &kinds, &next, names)
+    let recogniser = grammar::Recogniser::new();
+    gather_by(text, &recogniser, names)
 }

@@ -19,20 +19,17 @@ use Rattle.definition.specs.Drawing.{Chain, Event, called, refused, Passage, bar
 use Rattle.definition.specs.Counts.{finished, stopped, counted}
 use Rattle.definition.specs.Counts.{counts as tallied, Counts as Tally}
 use Rattle.definition.specs.Limits.{most_calls}
-use Rattle.definition.specs.Rules.{Rule, off_the_axes, undefined_symbol, being_drawn, too_deep, too_many_calls, refuse}
+use Rattle.definition.specs.Rules.{Rule, OffTheAxes, UndefinedSymbol, BeingDrawn, TooDeep, TooManyCalls, refuse}
 use Rattle.counts.specs.declared.Counts.{Counts}
-use Rattle.counts.specs.declared.Counted.{Counted}
-use Rattle.counts.specs.declared.Counted.TheVariants.{More, Full}
 use Rattle.counts.specs.Counting.{tally, CountsCall}
 use Rattle.counts.proofs.ByValue.{call-goes, call-stops}
 use Rattle.library.specs.Memory.{definition_at, table_of}
 use Rattle.library.specs.Rows.{Finds}
-use Rattle.library.specs.declared.Found.{Found}
-use Rattle.library.specs.declared.Found.TheVariants.{Live, Nothing}
 use Rattle.library.proofs.Looking.{not_found, found}
 use Rattle.opening.specs.declared.Call.{Call}
-use Rattle.opening.specs.declared.Opened.TheVariants.{Refused, Descends}
 use Rattle.opening.specs.Opening.{Stops, Opens}
+use Rattle.std.specs.Prelude.{Err, None, Ok, Option, Result, Some}
+use Rattle.definition.specs.declared.Rule.{Rule}
 
 -- ---- the definition's events of a call
 
@@ -50,37 +47,37 @@ module _ (p : ℕ) (chain : Chain) where
 module _ (rows : List ℕ) (live : ℕ) (chain : Chain) (call : Call) (left : ℕ) where
   faulty : (c : Counts) (r : Rule)
       → ((b : List ℤ) (ts : List (Turn ℤ)) → call.askew ≡ off_axes ts → passage_of left (table_of rows b live) chain call.symbol ts ≡ barred r)
-      → Opens rows live chain left call c (Refused (refuse r call.place))
+      → Opens rows live chain left call c (Err (refuse r call.place))
   unfolding Opens
   faulty c r f b ts h go = refused-first call.place chain c r (passage_of left (table_of rows b live) chain call.symbol ts) go (f b ts h)
 
-  pub askew-call : (c : Counts) → call.askew ≡ true → Opens rows live chain left call c (Refused (refuse off_the_axes call.place))
-  askew-call c e = faulty c off_the_axes (λ b ts h. unfold passage_of in rw (sym h ∙ e))
+  pub askew-call : (c : Counts) → call.askew ≡ true → Opens rows live chain left call c (Err (refuse OffTheAxes call.place))
+  askew-call c e = faulty c OffTheAxes (λ b ts h. unfold passage_of in rw (sym h ∙ e))
 
-  module _ (straight : call.askew ≡ false) {r : Found} (finds : Finds rows live call.symbol r) where
-    pub unknown_call : (c : Counts) → r ≡ Nothing → Opens rows live chain left call c (Refused (refuse undefined_symbol call.place))
+  module _ (straight : call.askew ≡ false) {r : Option ℕ} (finds : Finds rows live call.symbol r) where
+    pub unknown_call : (c : Counts) → r ≡ None → Opens rows live chain left call c (Err (refuse UndefinedSymbol call.place))
     unknown_call c q =
-        faulty c undefined_symbol
+        faulty c UndefinedSymbol
         (λ b ts h. unfold passage_of passage_to in rw (sym h ∙ straight, not_found rows b call.symbol live r finds q))
 
-    module _ {row : ℕ} (q : r ≡ Live row) {o : Bool} (is_open : o ≡ any (λ c. eqb c.what call.symbol) chain) where
+    module _ {row : ℕ} (q : r ≡ Some row) {o : Bool} (is_open : o ≡ any (λ c. eqb c.what call.symbol) chain) where
       is_known : (b : List ℤ) → find call.symbol (table_of rows b live) ≡ some (definition_at rows b row)
       is_known b = (found rows b call.symbol live r row finds q).1
 
-      pub open_call_lem : (c : Counts) → o ≡ true → Opens rows live chain left call c (Refused (refuse being_drawn call.place))
-      open_call_lem c e = faulty c being_drawn (λ b ts h. unfold passage_of passage_to in rw (sym h ∙ straight, is_known b, sym is_open ∙ e))
+      pub open_call_lem : (c : Counts) → o ≡ true → Opens rows live chain left call c (Err (refuse BeingDrawn call.place))
+      open_call_lem c e = faulty c BeingDrawn (λ b ts h. unfold passage_of passage_to in rw (sym h ∙ straight, is_known b, sym is_open ∙ e))
 
       module _ (idle : o ≡ false) where
-        pub deep-call : (c : Counts) → left ≡ 0 → Opens rows live chain left call c (Refused (refuse too_deep call.place))
-        deep-call c e = faulty c too_deep (λ b ts h. unfold passage_of passage_to in rw (sym h ∙ straight, is_known b, sym is_open ∙ idle, eq-eqb left 0 e))
+        pub deep-call : (c : Counts) → left ≡ 0 → Opens rows live chain left call c (Err (refuse TooDeep call.place))
+        deep-call c e = faulty c TooDeep (λ b ts h. unfold passage_of passage_to in rw (sym h ∙ straight, is_known b, sym is_open ∙ idle, eq-eqb left 0 e))
 
         module _ (some_left : left ≡ 0 → ⊥) where
           faultless : (b : List ℤ) (ts : List (Turn ℤ)) → call.askew ≡ off_axes ts
               → passage_of left (table_of rows b live) chain call.symbol ts ≡ leads (definition_at rows b row)
           faultless b ts h = unfold passage_of passage_to in rw (sym h ∙ straight, is_known b, sym is_open ∙ idle, ne_eqb left 0 some_left)
 
-          module _ {c : Counts} {a : Counted} (count : CountsCall c a) where
-            pub many-calls : {number : ℕ} → a ≡ Full number → Opens rows live chain left call c (Refused (record { number = number; place = call.place }))
+          module _ {c : Counts} {a : Result Counts Rule} (count : CountsCall c a) where
+            pub many-calls : {number : ℕ} → a ≡ Err number → Opens rows live chain left call c (Err (record { number = number; place = call.place }))
             unfolding Opens
             many-calls {number} full b ts h go =
                 let d = definition_at rows b row in
@@ -91,7 +88,7 @@ module _ (rows : List ℕ) (live : ℕ) (chain : Chain) (call : Call) (left : �
                   stops = call-stops c count number full call.place chain d;
                 }
 
-            pub goes_down : {more : Counts} → a ≡ More more → Opens rows live chain left call c (Descends row more)
+            pub goes_down : {more : Counts} → a ≡ Ok more → Opens rows live chain left call c (Ok (record { row = row; counts = more }))
             unfolding Opens
             goes_down {more} e = record {
               finds = subst (Finds rows live call.symbol) q finds;
@@ -106,7 +103,7 @@ pub counted-few : (c more : Counts) (p : ℕ) (chain : Chain) → ((d : Definiti
 unfolding counted
 counted-few c more p chain e = go (ltb c.calls most_calls) refl (e (record { symbol = 0; place = 0; body = [] }))
   where
-    go : (b : Bool) → ltb c.calls most_calls ≡ b → (if b then finished (tallied (c.calls + 1) c.shapes c.redefinitions) else stopped (refuse too_many_calls p) chain) ≡ finished (tally more)
+    go : (b : Bool) → ltb c.calls most_calls ≡ b → (if b then finished (tallied (c.calls + 1) c.shapes c.redefinitions) else stopped (refuse TooManyCalls p) chain) ≡ finished (tally more)
         → (more.calls ≤ most_calls) × (more.shapes ≡ c.shapes)
     go true f q =
         let same : tallied (c.calls + 1) c.shapes c.redefinitions ≡ tally more = cc in

@@ -17,18 +17,17 @@ use Rattle.shapes.proofs.Painting.{never}
 use Rattle.shapes.proofs.Sole.{counts-told}
 use Rattle.library.specs.Memory.{definition_at, table_of}
 use Rattle.library.specs.Rows.{Finds}
-use Rattle.library.specs.declared.Found.TheVariants.{Live}
 use Rattle.opening.specs.declared.Call.{Call}
-use Rattle.opening.specs.declared.Opened.{Opened}
-use Rattle.opening.specs.declared.Opened.TheVariants.{Refused, Descends}
 use Rattle.opening.specs.Calls.{ReadsCall}
 use Rattle.opening.specs.Opening.{Stops, Descent, Opens}
 use Rattle.opening.proofs.Opening.{called-first}
 use Rattle.opening.proofs.Witnesses.{some_list, turned_by, turned_so}
+use Rattle.std.specs.Prelude.{Err, Ok, Result, Some}
+use Rattle.opening.specs.declared.Entered.{Entered}
 
 -- ---- the first row of a number is one
 
-first-row : (rows : List ℕ) (live n i j : ℕ) → Finds rows live n (Live i) → Finds rows live n (Live j) → i ≡ j
+first-row : (rows : List ℕ) (live n i j : ℕ) → Finds rows live n (Some i) → Finds rows live n (Some j) → i ≡ j
 unfolding Finds
 first-row rows live n i j x y =
     let a : ¬ (i < j) = λ l. y.2 i l x.1 in
@@ -47,7 +46,7 @@ module _ (rows : List ℕ) (live : ℕ) (chain : Chain) (left : ℕ) (call : Cal
   fitting = turned_by call.askew
 
   -- what is refused leads nowhere
-  refused_or_led : (why : Refusal) (row : ℕ) (more : Counts) → Opens rows live chain left call c (Refused why) → Descent rows live chain left call c row more → ⊥
+  refused_or_led : (why : Refusal) (row : ℕ) (more : Counts) → Opens rows live chain left call c (Err why) → Descent rows live chain left call c row more → ⊥
   unfolding Opens
   refused_or_led why row more x y =
       let fits = turned_so call.askew in
@@ -57,14 +56,14 @@ module _ (rows : List ℕ) (live : ℕ) (chain : Chain) (left : ℕ) (call : Cal
       head-eq_of_cons-eq (sym s.are ∙ called-first call.place chain (passage_of left (table_of rows [] live) chain call.symbol fitting) (λ e. []) d (y.no_fault [] fitting fits)) in
       never why chain (tally more) (sym s.stops ∙ (ap (counted (tally c)) e ∙ y.counts_it d))
 
-  pub opens_sole : (r s : Opened) → Opens rows live chain left call c r → Opens rows live chain left call c s → r ≡ s
+  pub opens_sole : (r s : Result Entered Refusal) → Opens rows live chain left call c r → Opens rows live chain left call c s → r ≡ s
   unfolding Opens
-  opens_sole (Refused why) (Refused other) x y =
+  opens_sole (Err why) (Err other) x y =
       let fits = turned_so call.askew in
-      ap Refused (stops_once (x [] fitting fits (λ e. [])) (y [] fitting fits (λ e. [])))
-  opens_sole (Refused why) (Descends row more) x y = absurd (refused_or_led why row more x y)
-  opens_sole (Descends row more) (Refused why) x y = absurd (refused_or_led why row more y x)
-  opens_sole (Descends row more) (Descends other less) x y =
+      ap Err (stops_once (x [] fitting fits (λ e. [])) (y [] fitting fits (λ e. [])))
+  opens_sole (Err why) (Ok (record { row = row; counts = more })) x y = absurd (refused_or_led why row more x y)
+  opens_sole (Ok (record { row = row; counts = more })) (Err why) x y = absurd (refused_or_led why row more y x)
+  opens_sole (Ok (record { row = row; counts = more })) (Ok (record { row = other; counts = less })) x y =
       let e : row ≡ other = first-row rows live call.symbol row other x.finds y.finds in
       let d = definition_at rows [] row in
       let q : more ≡ less = counts-told more less (sym (x.counts_it d) ∙ y.counts_it d) in

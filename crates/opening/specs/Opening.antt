@@ -13,10 +13,9 @@ use Rattle.counts.specs.declared.Counts.{Counts}
 use Rattle.counts.specs.Counting.{tally}
 use Rattle.library.specs.Memory.{definition_at, table_of}
 use Rattle.library.specs.Rows.{Finds}
-use Rattle.library.specs.declared.Found.TheVariants.{Live}
 use Rattle.opening.specs.declared.Call.{Call}
-use Rattle.opening.specs.declared.Opened.{Opened}
-use Rattle.opening.specs.declared.Opened.TheVariants.{Refused, Descends}
+use Rattle.std.specs.Prelude.{Err, Ok, Result, Some}
+use Rattle.opening.specs.declared.Entered.{Entered}
 
 -- the first of these events is refused
 pub record Stops (c : Counts) (es : List Event) (why : Refusal) (chain : Chain) : Type 0 where
@@ -27,14 +26,14 @@ pub record Stops (c : Counts) (es : List Event) (why : Refusal) (chain : Chain) 
 
 -- the call has no fault: its symbol's row, and the counts with it
 pub record Descent (rows : List ℕ) (live : ℕ) (chain : Chain) (left : ℕ) (call : Call) (c : Counts) (row : ℕ) (more : Counts) : Type 0 where
-  pub finds : Finds rows live call.symbol (Live row)
+  pub finds : Finds rows live call.symbol (Some row)
   pub some_left : left ≡ 0 → ⊥
   pub no_fault : (b : List ℤ) (ts : List (Turn ℤ)) → call.askew ≡ off_axes ts
       → passage_of left (table_of rows b live) chain call.symbol ts ≡ leads (definition_at rows b row)
   pub counts_it : (d : Definition) → counted (tally c) (called call.place chain d) ≡ finished (tally more)
 
-unfoldable pub Opens : (rows : List ℕ) (live : ℕ) (chain : Chain) (left : ℕ) (call : Call) (c : Counts) → Opened → Type 0
-Opens rows live chain left call c (Refused why) =
+unfoldable pub Opens : (rows : List ℕ) (live : ℕ) (chain : Chain) (left : ℕ) (call : Call) (c : Counts) → Result Entered Refusal → Type 0
+Opens rows live chain left call c (Err why) =
     (b : List ℤ) (ts : List (Turn ℤ)) → call.askew ≡ off_axes ts → (go : Definition → List Event)
     → Stops c (through (passage_of left (table_of rows b live) chain call.symbol ts) call.place chain go) why chain
-Opens rows live chain left call c (Descends row more) = Descent rows live chain left call c row more
+Opens rows live chain left call c (Ok (record { row = row; counts = more })) = Descent rows live chain left call c row more

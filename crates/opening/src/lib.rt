@@ -10,6 +10,8 @@ ghost use Rattle.library.specs.Rows.{Sorted};
 ghost use Rattle.opening.specs.Calls.{CalledAt, ReadsCall};
 ghost use Rattle.opening.specs.Opening.{Opens};
 
+use definition::{Refusal, Rule};
+
 // What a call's words say where a net transformation is in force: its symbol, whether an R of its list is off the axes, what its list and those of the
 // open calls do together, and its place.
 #[derive(Clone, Copy)]
@@ -20,11 +22,11 @@ pub struct Call {
     pub place: usize,
 }
 
-// What comes of a call: it is refused, or the drawing goes down into the row of its symbol, with the counts after this call.
+// A call that is opened: the drawing goes down into the row of its symbol, with the counts after this call.
 #[derive(Clone, Copy)]
-pub enum Opened {
-    Refused(definition::Refusal),
-    Descends(usize, counts::Counts),
+pub struct Entered {
+    pub row: usize,
+    pub counts: counts::Counts,
 }
 
 pub fn read_call(words: &[i32], end: usize, outer: turns::Net, place: usize) -> Call
@@ -50,35 +52,35 @@ pub fn open_call(
     left: usize,
     call: Call,
     counts: counts::Counts,
-) -> Opened
+) -> Result<Entered, Refusal>
     requires { Sorted rows.now live × (left ≤ deepest) × (length drawing.now ≡ run_length) }
     ensures { Opens rows.now live (open_calls drawing.now (deepest - left)) left call counts result }
 {
     let place = call.place;
     let symbol = call.symbol;
     if call.askew {
-        return Opened::Refused(definition::Refusal { number: 11, place });
+        return Err(Refusal {
+            rule: Rule::OffTheAxes,
+            place,
+        });
     }
-    match library::find(rows, live, symbol) {
-        library::Found::Nothing => {
-            return Opened::Refused(definition::Refusal { number: 12, place });
-        }
-        library::Found::Live(row) => {
-            let level = definition::DEEPEST - left;
-            if chain::is_open(drawing, level, symbol) {
-                return Opened::Refused(definition::Refusal { number: 13, place });
-            }
-            if left == 0 {
-                return Opened::Refused(definition::Refusal { number: 14, place });
-            }
-            match counts::count_call(counts) {
-                counts::Counted::Full(number) => {
-                    return Opened::Refused(definition::Refusal { number, place });
-                }
-                counts::Counted::More(more) => {
-                    return Opened::Descends(row, more);
-                }
-            }
-        }
+    let row = library::find(rows, live, symbol).ok_or(Refusal {
+        rule: Rule::UndefinedSymbol,
+        place,
+    })?;
+    let level = definition::DEEPEST - left;
+    if chain::is_open(drawing, level, symbol) {
+        return Err(Refusal {
+            rule: Rule::BeingDrawn,
+            place,
+        });
     }
+    if left == 0 {
+        return Err(Refusal {
+            rule: Rule::TooDeep,
+            place,
+        });
+    }
+    let counts = counts::count_call(counts).map_err(|rule| Refusal { rule, place })?;
+    Ok(Entered { row, counts })
 }

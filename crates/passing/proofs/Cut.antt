@@ -13,9 +13,11 @@ use Rattle.definition.specs.Held.{held_to}
 use Rattle.laws.proofs.Commands.WordsWithin.{held-within}
 use Rattle.keeping.specs.Keeping.{most_words}
 use Rattle.chain.specs.Chain.{chain_in}
-use Rattle.shapes.specs.declared.Drawn.{Drawn}
 use Rattle.shapes.specs.Painting.{Painted}
 use Rattle.passing.specs.Passed.{Passed, to_draw, dry, TextDraws, lent_of}
+use Rattle.std.specs.Prelude.{Result}
+use Rattle.definition.specs.declared.Refusal.{Refusal}
+use Rattle.shapes.specs.declared.Ink.{Ink}
 
 held_cut : {t : List ℕ} (p : Passed t) (words : ℕ) → most_words ≤ words → map (held_to most_words) (to_draw p) ≡ map (held_to words) (to_draw p)
 held_cut p words h = held-within p.marked most_words p.short ∙ sym (held-within p.marked words (let s = p.short in omega (arith, s, h)))
@@ -44,7 +46,7 @@ module _ (n : ℕ) {r : ℕ} (e : r ≡ lent_of n) where
     pub lent-short : k ≤ most_words
     lent-short = omega (arith, e, q, (lent-within n).1)
 
-    pub draws-lent : {t room : List ℕ} (drawing' : List ℕ) {d : Drawn} {room' : List ℕ} → TextDraws t k room drawing' d room' → TextDraws t n room drawing' d room'
+    pub draws-lent : {t room : List ℕ} (drawing' : List ℕ) {d : Result Ink Refusal} {room' : List ℕ} → TextDraws t k room drawing' d room' → TextDraws t n room drawing' d room'
     draws-lent {t} {room} drawing' {d} {room'} x p =
         let same : k ≡ lent_of n = omega (arith, e, q) in
         subst (λ (es : List Event). Painted dry es room (chain_in drawing') d room') (ap (λ (w : ℕ). map (held_to w) (to_draw p)) same ∙ lent-held p n) (x p)

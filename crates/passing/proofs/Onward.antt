@@ -10,7 +10,7 @@ use lib.IntN.{ℤ, nat_abs}
 use lib.ListN.{length}
 use Rattle.definition.specs.Limits.{most_definitions}
 use Rattle.definition.specs.Words.{Placed, at}
-use Rattle.definition.specs.Rules.{too_many_definitions, too_few_words, refuse}
+use Rattle.definition.specs.Rules.{TooManyDefinitions, TooFewWords, refuse}
 use Rattle.definition.specs.Commands.{Number, Command, layer, delete}
 use Rattle.definition.specs.Standing.{Standing, after}
 use Rattle.definition.specs.Table.{Step, Definition, Table, enter}
@@ -31,8 +31,6 @@ use Rattle.counts.specs.declared.Counts.{Counts}
 use Rattle.moves.specs.Moves.{most_values}
 use Rattle.chain.specs.Chain.{chain_in}
 use Rattle.shapes.specs.declared.Ink.{Ink}
-use Rattle.shapes.specs.declared.Drawn.{Drawn}
-use Rattle.shapes.specs.declared.Drawn.TheVariants.{Done, Refused}
 use Rattle.shapes.specs.Painting.{inked, Painted}
 use Rattle.shapes.proofs.Painting.{PaintedSoFar, begun, so_far, goes_on, skips, stops, over, quiet, refusal}
 use Rattle.shapes.proofs.Alike.{alike_painted}
@@ -46,6 +44,7 @@ use Rattle.passing.proofs.Reading.{Met, none_met}
 use Rattle.passing.proofs.Stands.{Stands, nothing_kept, to_do, at_start, deeds_are, past_layer, layer-left, past_delete, delete-left, past_other, begins, open_there, text-opens, made, define-left, past_define}
 use Rattle.passing.proofs.Outer.{is_output, is_idle}
 use Rattle.passing.proofs.Redefinitions.{painted_same}
+use Rattle.std.specs.Prelude.{Err, Ok, Result}
 
 -- ---- between two commands: where the pass stands, the packed layer, the ink and the room as they are
 
@@ -71,10 +70,10 @@ module _ (w : ℕ) (t : Table) (d : Definition) where
   defined_is : length (enter d t) ≤ most_definitions → words_in (enter d t) ≤ w → held ≡ entered d t ∷ []
   defined_is h g = held-define w t d ∙ rw (le-ltb most_definitions (length (enter d t)) h, le-ltb w (words_in (enter d t)) g)
 
-  overfull_is : most_definitions < length (enter d t) → held ≡ refused (refuse too_many_definitions d.place) [] ∷ []
+  overfull_is : most_definitions < length (enter d t) → held ≡ refused (refuse TooManyDefinitions d.place) [] ∷ []
   overfull_is h = held-define w t d ∙ rw (lt-ltb most_definitions (length (enter d t)) h)
 
-  short_is : length (enter d t) ≤ most_definitions → w < words_in (enter d t) → held ≡ refused (refuse too_few_words d.place) [] ∷ []
+  short_is : length (enter d t) ≤ most_definitions → w < words_in (enter d t) → held ≡ refused (refuse TooFewWords d.place) [] ∷ []
   short_is h g = held-define w t d ∙ rw (le-ltb most_definitions (length (enter d t)) h, lt-ltb w (words_in (enter d t)) g)
 
 module _ {t : List ℕ} {w : ℕ} {all : List Event} {room₀ rows : List ℕ} {b : List ℤ} {stock : Stock} {spot : Spot} {l : ℕ} {ink : Ink} {room : List ℕ}
@@ -89,7 +88,7 @@ module _ {t : List ℕ} {w : ℕ} {all : List Event} {room₀ rows : List ℕ} {
   After table ds ink' room' = PaintedSoFar (map (held_to w) all) dry room₀ (map (held_to w) (story table ds)) ink' room'
 
   -- no command is left
-  pub text_out : written (stream t spot) ≡ [] → {chain : Chain} → Painted dry (map (held_to w) all) room₀ chain (Done ink) room
+  pub text_out : written (stream t spot) ≡ [] → {chain : Chain} → Painted dry (map (held_to w) all) room₀ chain (Ok ink) room
   unfolding deeds story
   text_out e = over g.going (ap (λ (ds : List (Placed Command)). map (held_to w) (story g.stands.table (deeds σ ds))) (none_met t spot g.stands.told e))
 
@@ -102,12 +101,12 @@ module _ {t : List ℕ} {w : ℕ} {all : List Event} {room₀ rows : List ℕ} {
     left_is = ap (λ (x : List Deed). map (held_to w) (story g.stands.table x)) e ∙ held-story w g.stands.table d ds
 
     -- it does a deed, which happens
-    does : {chain : Chain} {ink' : Ink} {room' : List ℕ} → Painted ink (map (held_to w) (happens g.stands.table d)) room chain (Done ink') room' → After (table_after g.stands.table d) ds ink' room'
+    does : {chain : Chain} {ink' : Ink} {room' : List ℕ} → Painted ink (map (held_to w) (happens g.stands.table d)) room chain (Ok ink') room' → After (table_after g.stands.table d) ds ink' room'
     does x = goes_on g.going _ _ left_is x
 
     -- or is refused
-    ends : {chain : Chain} {why : Refusal} {room' : List ℕ} → Painted ink (map (held_to w) (happens g.stands.table d)) room chain (Refused why) room'
-        → Painted dry (map (held_to w) all) room₀ chain (Refused why) room'
+    ends : {chain : Chain} {why : Refusal} {room' : List ℕ} → Painted ink (map (held_to w) (happens g.stands.table d)) room chain (Err why) room'
+        → Painted dry (map (held_to w) all) room₀ chain (Err why) room'
     ends x = stops g.going _ _ left_is x
 
   module _ {k p n : ℕ} {to : Spot} {words : List ℤ} (m : Met t σ g.stands.commands k p n to words) where
@@ -131,7 +130,7 @@ module _ {t : List ℕ} {w : ℕ} {all : List Event} {room₀ rows : List ℕ} {
       going =
           let x = at p (nat_abs i.what) in
           does (remove x) (deeds σ m.rest) (delete-left g.stands m i e)
-          (subst (λ (es : List Event). Painted ink es room [] (Done ink) room) (sym (held-remove w g.stands.table x))
+          (subst (λ (es : List Event). Painted ink es room [] (Ok ink) room) (sym (held-remove w g.stands.table x))
           (quiet ink ink.counts (removed x g.stands.table) room refl refl (so_far g.going)));
     }
 
@@ -155,24 +154,24 @@ module _ {t : List ℕ} {w : ℕ} {all : List Event} {room₀ rows : List ℕ} {
             going =
                 subst (λ (ds : List Deed). After (enter new g.stands.table) ds (inked c' ink.pen) room) x.passes.left
                 (does (define new) (deeds (open_there g.stands m e) m.rest) (define-left g.stands m e)
-                (subst (λ (es : List Event). Painted ink es room [] (Done (inked c' ink.pen)) room)
+                (subst (λ (es : List Event). Painted ink es room [] (Ok (inked c' ink.pen)) room)
                 (sym (defined_is w g.stands.table new x.few (let h = x.kept.enough in omega (arith, size, h))))
                 (quiet ink c' (entered new g.stands.table) room x.counts_so refl
                 (record { calls_most = omega (arith, r.calls_most, x.same_calls); shapes_most = omega (arith, r.shapes_most, x.same_shapes); place_most = omega (arith, r.place_most, x.same_shapes) }))));
           }
 
       -- refused outside of every call
-      text-refused : (why : Refusal) → map (held_to w) (happens g.stands.table (define new)) ≡ refused why [] ∷ [] → Painted dry (map (held_to w) all) room₀ [] (Refused why) room
+      text-refused : (why : Refusal) → map (held_to w) (happens g.stands.table (define new)) ≡ refused why [] ∷ [] → Painted dry (map (held_to w) all) room₀ [] (Err why) room
       unfolding counted
       text-refused why is =
           ends (define new) (deeds (open_there g.stands m e) m.rest) (define-left g.stands m e)
-          (subst (λ (es : List Event). Painted ink es room [] (Refused why) room) (sym is) (refusal ink _ [] room _ [] refl))
+          (subst (λ (es : List Event). Painted ink es room [] (Err why) room) (sym is) (refusal ink _ [] room _ [] refl))
 
-      pub text_overfull : most_definitions < length (enter new g.stands.table) → Painted dry (map (held_to w) all) room₀ [] (Refused (record { number = 10; place = p })) room
+      pub text_overfull : most_definitions < length (enter new g.stands.table) → Painted dry (map (held_to w) all) room₀ [] (Err (record { number = 10; place = p })) room
       text_overfull h = text-refused _ (overfull_is w g.stands.table new h)
 
       pub text_short : length (enter new g.stands.table) ≤ most_definitions → w < words_in (enter new g.stands.table)
-          → Painted dry (map (held_to w) all) room₀ [] (Refused (record { number = 25; place = p })) room
+          → Painted dry (map (held_to w) all) room₀ [] (Err (record { number = 25; place = p })) room
       text_short h j = text-refused _ (short_is w g.stands.table new h j)
 
     -- ---- any other command
@@ -196,7 +195,7 @@ module _ {t : List ℕ} {w : ℕ} {all : List Event} {room₀ rows : List ℕ} {
             subst (λ (x : List ℕ). Says words k n x shown) (sym g.layer_is)
             ((is_output g.stands.closed p m.rest m.voice e no_l no_d no_s).said words m.behind_it n m.laid m.ends m.few long)
 
-        module _ (drawing' : List ℕ) {r : Drawn} {room' : List ℕ} (x : OuterDraws rows b stock.live words k p n l ink room drawing' r room') where
+        module _ (drawing' : List ℕ) {r : Result Ink Refusal} {room' : List ℕ} (x : OuterDraws rows b stock.live words k p n l ink room drawing' r room') where
           -- drawn from the lean table, it is drawn as from the whole
           text_painted : Painted ink (happens g.stands.table (output (at p shown))) room (chain_in drawing') r room'
           text_painted =
@@ -209,20 +208,20 @@ module _ {t : List ℕ} {w : ℕ} {all : List Event} {room₀ rows : List ℕ} {
           deed_shown : to_do g.stands ≡ output (at p shown) ∷ deeds σ m.rest
           deed_shown = deeds_are g.stands m refl ∙ (is_output g.stands.closed p m.rest m.voice e no_l no_d no_s).deed
 
-          pub text_same : {ink' : Ink} → r ≡ Done ink' → ink'.counts.redefinitions ≡ ink.counts.redefinitions
+          pub text_same : {ink' : Ink} → r ≡ Ok ink' → ink'.counts.redefinitions ≡ ink.counts.redefinitions
           text_same q = painted_same g.stands.table (at p shown) text_painted q
 
-          pub text-drawn : {ink' : Ink} → r ≡ Done ink' → Next rows b stock to l ink' room'
+          pub text-drawn : {ink' : Ink} → r ≡ Ok ink' → Next rows b stock to l ink' room'
           unfolding table_after
           text-drawn {ink'} q = record {
             stands = past_other g.stands m (is_output g.stands.closed p m.rest m.voice e no_l no_d no_s).stays;
             layer_is = g.layer_is;
             going =
                 does (output (at p shown)) (deeds σ m.rest) deed_shown
-                (subst (λ (y : Drawn). Painted ink (map (held_to w) (happens g.stands.table (output (at p shown)))) room (chain_in drawing') y room') q held_painted);
+                (subst (λ (y : Result Ink Refusal). Painted ink (map (held_to w) (happens g.stands.table (output (at p shown)))) room (chain_in drawing') y room') q held_painted);
           }
 
-          pub text-stopped : {why : Refusal} → r ≡ Refused why → Painted dry (map (held_to w) all) room₀ (chain_in drawing') (Refused why) room'
+          pub text-stopped : {why : Refusal} → r ≡ Err why → Painted dry (map (held_to w) all) room₀ (chain_in drawing') (Err why) room'
           text-stopped {why} q =
               ends (output (at p shown)) (deeds σ m.rest) deed_shown
-              (subst (λ (y : Drawn). Painted ink (map (held_to w) (happens g.stands.table (output (at p shown)))) room (chain_in drawing') y room') q held_painted)
+              (subst (λ (y : Result Ink Refusal). Painted ink (map (held_to w) (happens g.stands.table (output (at p shown)))) room (chain_in drawing') y room') q held_painted)

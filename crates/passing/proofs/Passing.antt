@@ -25,15 +25,11 @@ use Rattle.pieces.specs.Pieces.{start as text_start}
 use Rattle.pieces.specs.declared.Spot.{Spot}
 use Rattle.rules.specs.Letters.{letter_d, letter_l}
 use Rattle.rules.specs.Written.{Written}
-use Rattle.commands.specs.declared.Read.{Read}
-use Rattle.commands.specs.declared.Read.TheVariants.{Nothing}
 use Rattle.commands.specs.Words.{DecodedOne, ReadsCommand}
 use Rattle.counts.specs.declared.Counts.{Counts}
 use Rattle.moves.specs.Moves.{most_values}
 use Rattle.chain.specs.Chain.{run_length, chain_in}
 use Rattle.shapes.specs.declared.Ink.{Ink}
-use Rattle.shapes.specs.declared.Drawn.{Drawn}
-use Rattle.shapes.specs.declared.Drawn.TheVariants.{Done, Refused}
 use Rattle.shapes.specs.Painting.{inked, Painted}
 use Rattle.shapes.proofs.Painting.{so_far, room-kept}
 use Rattle.library.specs.Memory.{row_numbers, needed_in}
@@ -41,8 +37,6 @@ use Rattle.library.specs.Rows.{Sorted}
 use Rattle.keeping.specs.Keeping.{most_words, Begins, Takes, Defines, DefinesAt}
 use Rattle.keeping.specs.declared.Start.{Start}
 use Rattle.keeping.specs.declared.Stock.{Stock}
-use Rattle.keeping.specs.declared.Defined.{Defined}
-use Rattle.keeping.specs.declared.Defined.TheVariants.{Taken, Overfull, Short}
 use Rattle.engine.specs.Draws.{Ready}
 use Rattle.engine.specs.Outer.{Says, OuterDraws}
 use Rattle.passing.specs.Passed.{Passed, to_draw, dry, outputs, start_in, Deletes, TextDraws, RefusedOutside}
@@ -50,6 +44,11 @@ use Rattle.passing.proofs.Letters.{is_delete}
 use Rattle.passing.proofs.Reading.{Met, run_kept, read_none, third_word, met_layer}
 use Rattle.passing.proofs.Stands.{nothing_kept, deletable, met, text-opens, start-within, may_define, comes, takes}
 use Rattle.passing.proofs.Onward.{Onward, start-text, text_out, text-layer, text-delete, text_defined, text_overfull, text_short, text-idle, text_says, text_same, text-drawn, text-stopped}
+use Rattle.std.specs.Prelude.{Err, None, Ok, Option, Result}
+use Rattle.commands.specs.declared.Decoded.{Decoded}
+use Rattle.keeping.specs.declared.Taken.{Taken}
+use Rattle.definition.specs.declared.Rule.{Rule}
+use Rattle.definition.specs.declared.Rule.TheVariants.{TooManyDefinitions, TooFewWords}
 
 pub record Passing (t : List ℕ) (w : ℕ) (words₀ numbers₀ : List ℤ) (drawing₀ room₀ rows : List ℕ) (b words numbers : List ℤ) (drawing room : List ℕ) (spot : Spot) (layer : ℕ) (stock : Stock)
     (ink : Ink) : Type 0 where
@@ -116,7 +115,7 @@ module _ {t : List ℕ} {w : ℕ} {words₀ numbers₀ : List ℤ} {drawing₀ r
       }
 
   -- nothing is left
-  pub passing_out : (r : Read) (words' : List ℤ) → ReadsCommand t spot 1 1 words r words' → r ≡ Nothing → TextDraws t w room₀ drawing (Done ink) room
+  pub passing_out : (r : Option Decoded) (words' : List ℤ) → ReadsCommand t spot 1 1 words r words' → r ≡ None → TextDraws t w room₀ drawing (Ok ink) room
   passing_out r words' x e p = text_out (u.onward p) (read_none t spot 1 1 words r words' x e)
 
   module _ {account : Written} {kind place n : ℕ} {to : Spot} {words' : List ℤ} (big : most_values + 2 ≤ length words₀) (r : DecodedOne t spot 1 1 account words kind place n to words') where
@@ -172,18 +171,18 @@ module _ {t : List ℕ} {w : ℕ} {words₀ numbers₀ : List ℤ} {drawing₀ r
       pub passing_begins : Begins t rows b stock to start
       passing_begins = may_define here.stands (met_by here) e start q
 
-      module _ {rows' : List ℕ} {b' : List ℤ} {d : Defined} (defines : DefinesAt t rows b stock to start ink.counts d rows' b') where
+      module _ {rows' : List ℕ} {b' : List ℤ} {d : Result Taken Rule} (defines : DefinesAt t rows b stock to start ink.counts d rows' b') where
         pub size_then : length b' ≡ w
         size_then = defines.size ∙ u.bodies_kept
 
-        taken : (p : Passed t) {stock' : Stock} {c' : Counts} {to' : Spot} → d ≡ Taken stock' c' to' → let g = u.onward p in
+        taken : (p : Passed t) {stock' : Stock} {c' : Counts} {to' : Spot} → d ≡ Ok (record { stock = stock'; counts = c'; to = to' }) → let g = u.onward p in
             Takes t rows' b' to (start_in words' place) ink.counts (text-opens g.stands (met_by g) e) g.stands.table stock' c' to'
         taken p f = let g = u.onward p in takes g.stands (met_by g) e start q defines f
 
-        pub defined_on : {stock' : Stock} {c' : Counts} {to' : Spot} → d ≡ Taken stock' c' to' → (length t - to'.at < length t - spot.at)
+        pub defined_on : {stock' : Stock} {c' : Counts} {to' : Spot} → d ≡ Ok (record { stock = stock'; counts = c'; to = to' }) → (length t - to'.at < length t - spot.at)
         defined_on f = let k = taken u.passed f in omega (arith, k.ahead, k.fit.within, r.ahead)
 
-        pub passing_defined : {stock' : Stock} {c' : Counts} {to' : Spot} → d ≡ Taken stock' c' to' → Next rows' b' words' numbers drawing room to' l stock' (inked c' ink.pen)
+        pub passing_defined : {stock' : Stock} {c' : Counts} {to' : Spot} → d ≡ Ok (record { stock = stock'; counts = c'; to = to' }) → Next rows' b' words' numbers drawing room to' l stock' (inked c' ink.pen)
         passing_defined f =
             let k = taken u.passed f in
             record {
@@ -198,18 +197,18 @@ module _ {t : List ℕ} {w : ℕ} {words₀ numbers₀ : List ℤ} {drawing₀ r
             }
 
         -- refused outside of every call, as the run tells it
-        told_so : {number : ℕ} {r : Drawn} {drawing' : List ℕ} → RefusedOutside number place r drawing' → (p : Passed t)
-            → Painted dry (map (held_to w) (to_draw p)) room₀ [] (Refused (record { number = number; place = place })) room
+        told_so : {number : ℕ} {r : Result Ink Refusal} {drawing' : List ℕ} → RefusedOutside number place r drawing' → (p : Passed t)
+            → Painted dry (map (held_to w) (to_draw p)) room₀ [] (Err (record { number = number; place = place })) room
             → Painted dry (map (held_to w) (to_draw p)) room₀ (chain_in drawing') r room
         told_so {number} {r} {drawing'} o p x =
-            subst (λ (y : Drawn). Painted dry (map (held_to w) (to_draw p)) room₀ (chain_in drawing') y room) (sym o.is)
-            (subst (λ (chain : Chain). Painted dry (map (held_to w) (to_draw p)) room₀ chain (Refused (record { number = number; place = place })) room) (sym o.none_open) x)
+            subst (λ (y : Result Ink Refusal). Painted dry (map (held_to w) (to_draw p)) room₀ (chain_in drawing') y room) (sym o.is)
+            (subst (λ (chain : Chain). Painted dry (map (held_to w) (to_draw p)) room₀ chain (Err (record { number = number; place = place })) room) (sym o.none_open) x)
 
-        pub passing_overfull : {r : Drawn} {drawing' : List ℕ} → RefusedOutside 10 place r drawing' → d ≡ Overfull → TextDraws t w room₀ drawing' r room
+        pub passing_overfull : {r : Result Ink Refusal} {drawing' : List ℕ} → RefusedOutside 10 place r drawing' → d ≡ (Err TooManyDefinitions) → TextDraws t w room₀ drawing' r room
         unfolding Defines
         passing_overfull o f p = let g = u.onward p in told_so o p (text_overfull g (met_by g) e (comes g.stands (met_by g) e start q defines f))
 
-        pub passing_short : {r : Drawn} {drawing' : List ℕ} → RefusedOutside 25 place r drawing' → d ≡ Short → TextDraws t w room₀ drawing' r room
+        pub passing_short : {r : Result Ink Refusal} {drawing' : List ℕ} → RefusedOutside 25 place r drawing' → d ≡ (Err TooFewWords) → TextDraws t w room₀ drawing' r room
         unfolding Defines
         passing_short o f p =
             let g = u.onward p in
@@ -226,8 +225,8 @@ module _ {t : List ℕ} {w : ℕ} {words₀ numbers₀ : List ℤ} {drawing₀ r
         pub passing_says : (s : Step) × Says words' kind n (name_of l) s
         passing_says = (_, text_says here (met_by here) no_l no_d no_s e words_then)
 
-        module _ (drawing' : List ℕ) {room' : List ℕ} {d : Drawn} (draws : OuterDraws rows b stock.live words' kind place n l ink room drawing' d room') where
-          pub passing_drawn : {ink' : Ink} {ns : List ℤ} → d ≡ Done ink' → length ns ≡ length numbers → length drawing' ≡ length drawing
+        module _ (drawing' : List ℕ) {room' : List ℕ} {d : Result Ink Refusal} (draws : OuterDraws rows b stock.live words' kind place n l ink room drawing' d room') where
+          pub passing_drawn : {ink' : Ink} {ns : List ℤ} → d ≡ Ok ink' → length ns ≡ length numbers → length drawing' ≡ length drawing
               → Next rows b words' ns drawing' room' to l stock ink'
           passing_drawn q kn kd = record {
             passed = u.passed;
@@ -240,5 +239,5 @@ module _ {t : List ℕ} {w : ℕ} {words₀ numbers₀ : List ℤ} {drawing₀ r
             redefined = omega (arith, u.redefined, r.ahead, text_same here (met_by here) no_l no_d no_s e words_then drawing' draws q);
           }
 
-          pub passing_stopped : {why : Refusal} → d ≡ Refused why → TextDraws t w room₀ drawing' (Refused why) room'
+          pub passing_stopped : {why : Refusal} → d ≡ Err why → TextDraws t w room₀ drawing' (Err why) room'
           passing_stopped q p = let g = u.onward p in text-stopped g (met_by g) no_l no_d no_s e words_then drawing' draws q

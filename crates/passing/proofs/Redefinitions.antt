@@ -13,9 +13,9 @@ use Rattle.laws.proofs.Story.Counting.{redefinitions_of, counted_all}
 use Rattle.laws.proofs.Story.Outputs.{Outputs, output-events}
 use Rattle.counts.specs.Counting.{tally}
 use Rattle.shapes.specs.declared.Ink.{Ink}
-use Rattle.shapes.specs.declared.Drawn.{Drawn}
-use Rattle.shapes.specs.declared.Drawn.TheVariants.{Done}
 use Rattle.shapes.specs.Painting.{Goes, Answered, Painted}
+use Rattle.std.specs.Prelude.{Ok, Result}
+use Rattle.definition.specs.declared.Refusal.{Refusal}
 
 abbrev NoEntry : Event → Type 0
 NoEntry (entered d before) = ⊥
@@ -43,7 +43,7 @@ output-same t s {ink} {ink'} g =
     omega (arith, k.redefinitions_are, n)
 
 -- so a command that is output leaves the count as it is
-pub painted_same : (t : Table) (s : Placed Step) {ink ink' : Ink} {room room' : List ℕ} {chain : Chain} {d : Drawn} → Painted ink (happens t (output s)) room chain d room' → d ≡ Done ink'
+pub painted_same : (t : Table) (s : Placed Step) {ink ink' : Ink} {room room' : List ℕ} {chain : Chain} {d : Result Ink Refusal} → Painted ink (happens t (output s)) room chain d room' → d ≡ Ok ink'
     → ink'.counts.redefinitions ≡ ink.counts.redefinitions
 unfolding Answered
-painted_same t s {ink} {chain = chain} x e = output-same t s (subst (λ (y : Drawn). Answered ink (happens t (output s)) chain y) e x.answer)
+painted_same t s {ink} {chain = chain} x e = output-same t s (subst (λ (y : Result Ink Refusal). Answered ink (happens t (output s)) chain y) e x.answer)

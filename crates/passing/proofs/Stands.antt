@@ -32,12 +32,13 @@ use Rattle.keeping.specs.Voices.{Told}
 use Rattle.keeping.specs.Keeping.{most_words, Kept, Open, definition_of, Begins, Takes, Defines, DefinesAt}
 use Rattle.keeping.specs.declared.Start.{Start}
 use Rattle.keeping.specs.declared.Stock.{Stock}
-use Rattle.keeping.specs.declared.Defined.{Defined}
-use Rattle.keeping.specs.declared.Defined.TheVariants.{Taken}
 use Rattle.passing.specs.Passed.{Passed, start_in, Deletes}
 use Rattle.passing.proofs.Voices.{told_text}
 use Rattle.passing.proofs.Letters.{is_start}
 use Rattle.passing.proofs.Reading.{Met, meets}
+use Rattle.std.specs.Prelude.{Ok, Result}
+use Rattle.keeping.specs.declared.Taken.{Taken}
+use Rattle.definition.specs.declared.Rule.{Rule}
 
 -- ---- the memory
 
@@ -263,12 +264,12 @@ module _ {t rows : List ℕ} {b : List ℤ} {stock : Stock} {spot : Spot} (s : S
         pub may_define : Begins t rows b stock to start
         may_define = subst (λ (x : Start). Begins t rows b stock to x) (sym q) (record { table = s.table; kept = s.kept; opens = text-opens })
 
-        module _ {rows' : List ℕ} {b' : List ℤ} {c : Counts} {d : Defined} (defines : DefinesAt t rows b stock to start c d rows' b') where
-          pub comes : {x : Defined} → d ≡ x → Defines t rows' b' to begins c text-opens s.table x
+        module _ {rows' : List ℕ} {b' : List ℤ} {c : Counts} {d : Result Taken Rule} (defines : DefinesAt t rows b stock to start c d rows' b') where
+          pub comes : {x : Result Taken Rule} → d ≡ x → Defines t rows' b' to begins c text-opens s.table x
           comes f =
               subst (Defines t rows' b' to begins c text-opens s.table) f
               ((subst (λ (x : Start). DefinesAt t rows b stock to x c d rows' b') q defines).defines text-opens s.table s.kept)
 
-          pub takes : {stock' : Stock} {c' : Counts} {to' : Spot} → d ≡ Taken stock' c' to' → Takes t rows' b' to begins c text-opens s.table stock' c' to'
+          pub takes : {stock' : Stock} {c' : Counts} {to' : Spot} → d ≡ Ok (record { stock = stock'; counts = c'; to = to' }) → Takes t rows' b' to begins c text-opens s.table stock' c' to'
           unfolding Defines
           takes f = comes f

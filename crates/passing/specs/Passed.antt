@@ -20,9 +20,9 @@ use Rattle.keeping.specs.declared.Start.{Start}
 use Rattle.keeping.specs.declared.Stock.{Stock}
 use Rattle.chain.specs.Chain.{chain_in}
 use Rattle.shapes.specs.declared.Ink.{Ink}
-use Rattle.shapes.specs.declared.Drawn.{Drawn}
-use Rattle.shapes.specs.declared.Drawn.TheVariants.{Refused}
 use Rattle.shapes.specs.Painting.{Painted}
+use Rattle.std.specs.Prelude.{Err, Result}
+use Rattle.definition.specs.declared.Refusal.{Refusal}
 
 -- a text that refusals 1 to 9 let pass
 pub record Passed (t : List ℕ) : Type 0 where
@@ -39,12 +39,12 @@ abbrev pub dry : Ink
 dry = record { counts = record { calls = 0; shapes = 0; redefinitions = 0 }; pen = record { at = 0; layer = 0 } }
 
 -- the contract of `draw`, with so many words lent
-abbrev pub TextDraws : (t : List ℕ) (words : ℕ) (room drawing' : List ℕ) → Drawn → List ℕ → Type 0
+abbrev pub TextDraws : (t : List ℕ) (words : ℕ) (room drawing' : List ℕ) → Result Ink Refusal → List ℕ → Type 0
 TextDraws t words room drawing' r room' = (p : Passed t) → Painted dry (map (held_to words) (to_draw p)) room (chain_in drawing') r room'
 
 -- a definition is refused: it stands outside of every call
-pub record RefusedOutside (number place : ℕ) (r : Drawn) (drawing' : List ℕ) : Type 0 where
-  pub is : r ≡ Refused (record { number = number; place = place })
+pub record RefusedOutside (rule : Rule) (place : ℕ) (r : Result Ink Refusal) (drawing' : List ℕ) : Type 0 where
+  pub is : r ≡ Err (refuse rule place)
   pub none_open : chain_in drawing' ≡ []
 
 -- as many of the words lent as bodies can need

@@ -3,7 +3,6 @@
 #![tactic(auto)]
 
 ghost use Rattle.std.specs.Prelude.{◌+◌, ◌≤◌, ◌^◌, ◌<◌, ◌≡◌, length};
-ghost use Rattle.grammar.specs.Steps.{KindsLent, NextLent};
 ghost use Rattle.moves.specs.Moves.{most_values};
 ghost use Rattle.library.specs.Memory.{row_numbers, needed_in};
 ghost use Rattle.library.specs.Rows.{Sorted};
@@ -11,8 +10,9 @@ ghost use Rattle.keeping.specs.Keeping.{most_words};
 ghost use Rattle.chain.specs.Chain.{run_length};
 ghost use Rattle.passing.specs.Passed.{Passed, TextDraws, outputs, start_in, Deletes, RefusedOutside, lent_of};
 
-use keeping::{Defined, Start, Stock};
-use shapes::{Drawn, Ink};
+use definition::{Refusal, Rule};
+use keeping::{Start, Stock};
+use shapes::Ink;
 
 // A command has at most 2,049 numbers (RULES 12, refusal 9: 1,024 points, and a width), and two words in front.
 const COMMAND_WORDS: usize = 2051;
@@ -60,27 +60,25 @@ pub fn delete(rows: &[usize; library::ROW_NUMBERS], stock: Stock, symbol: usize)
 }
 
 // A definition is refused, where no call is open (refusals 10 and 25).
-fn refuse_definition(drawing: &mut [usize], number: usize, place: usize) -> Drawn
+fn refuse_definition(drawing: &mut [usize], rule: Rule, place: usize) -> Result<Ink, Refusal>
     requires { length drawing.old ≡ run_length }
-    ensures { RefusedOutside number place result drawing.new }
+    ensures { RefusedOutside rule place result drawing.new }
 {
     chain::stop(drawing, 0);
-    Drawn::Refused(definition::Refusal { number, place })
+    Err(Refusal { rule, place })
 }
 
 // The commands of a text from its start on: layers, definitions and deletions change what stands, all else is drawn.
 fn draw_text(
     text: &[u8],
-    kinds: &[u8; 256],
-    next: &[u16; grammar::tables::ENTRY_COUNT],
+    recogniser: &grammar::Recogniser,
     rows: &mut [usize; library::ROW_NUMBERS],
     bodies: &mut [i32],
     words: &mut [i32],
     numbers: &mut [i64],
     drawing: &mut [usize],
     room: &mut [u8],
-) -> Drawn
-    requires kinds_lent { KindsLent kinds.now × NextLent next.now }
+) -> Result<Ink, Refusal>
     requires passed { Passed text.now × (length rows.old ≡ row_numbers) × (length bodies.old ≤ most_words) }
     requires most_values_in_bounds { (most_values + 2 ≤ length words.old) × (most_values + 2 ≤ length numbers.old) × (length drawing.old ≡ run_length) }
     ensures { TextDraws text.now (length bodies.old) room.old drawing.new result room.new }
@@ -96,11 +94,15 @@ fn draw_text(
     let pen = shapes::Pen { at: 0, layer: 0 };
     let mut ink = Ink { counts, pen };
     loop {
-        match commands::read_command(text, kinds, next, words, spot, 1, 1) {
-            commands::Read::Nothing => {
-                return Drawn::Done(ink);
+        match commands::read_command(text, recogniser, words, spot, 1, 1) {
+            None => {
+                return Ok(ink);
             }
-            commands::Read::Decoded(kind, place, end, to) => {
+            Some(c) => {
+                let kind = c.kind;
+                let place = c.place;
+                let end = c.end;
+                let to = c.to;
                 spot = to;
                 if kind == b'L' {
                     layer = words[2] as u32;
@@ -110,33 +112,25 @@ fn draw_text(
                 } else if kind == b'S' {
                     let start = start_in(words, place);
                     match keeping::define(
-                        text, kinds, next, rows, bodies, stock, start, to, ink.counts,
+                        text, recogniser, rows, bodies, stock, start, to, ink.counts,
                     ) {
-                        Defined::Taken(more, counts, after) => {
-                            spot = after;
-                            stock = more;
-                            let pen = ink.pen;
-                            ink = Ink { counts, pen };
+                        Ok(taken) => {
+                            spot = taken.to;
+                            stock = taken.stock;
+                            ink = Ink {
+                                counts: taken.counts,
+                                pen: ink.pen,
+                            };
                         }
-                        Defined::Overfull => {
-                            return refuse_definition(drawing, 10, place);
-                        }
-                        Defined::Short => {
-                            return refuse_definition(drawing, 25, place);
+                        Err(rule) => {
+                            return refuse_definition(drawing, rule, place);
                         }
                     }
                 } else if draws(kind) {
-                    match engine::draw_outer(
+                    ink = engine::draw_outer(
                         bodies, rows, stock.live, words, numbers, drawing, room, kind, place, end,
                         layer, ink,
-                    ) {
-                        Drawn::Done(drawn) => {
-                            ink = drawn;
-                        }
-                        Drawn::Refused(refusal) => {
-                            return Drawn::Refused(refusal);
-                        }
-                    }
+                    )?;
                 }
             }
         }
@@ -155,20 +149,23 @@ pub fn at_most(n: usize) -> usize
 
 // All that a text draws, counted, and its lines in the room up to the first refusal. Lines past the room's end are counted and dropped. The run of the open
 // calls is lent, since it tells the calls that are open at a refusal (RULES 12, request 4).
-pub fn draw(text: &[u8], bodies: &mut [i32], drawing: &mut [usize], room: &mut [u8]) -> Drawn
+pub fn draw(
+    text: &[u8],
+    bodies: &mut [i32],
+    drawing: &mut [usize],
+    room: &mut [u8],
+) -> Result<Ink, Refusal>
     requires { Passed text.now × (length drawing.old ≡ run_length) }
     ensures { TextDraws text.now (length bodies.old) room.old drawing.new result room.new }
 {
-    let kinds = grammar::tables::KINDS;
-    let next = grammar::tables::NEXT;
+    let recogniser = grammar::Recogniser::new();
     let mut rows = [0usize; library::ROW_NUMBERS];
     let mut words = [0i32; COMMAND_WORDS];
     let mut numbers = [0i64; COMMAND_WORDS];
     let lent = at_most(bodies.len());
     draw_text(
         text,
-        &kinds,
-        &next,
+        &recogniser,
         &mut rows,
         &mut bodies[0..lent],
         &mut words,

@@ -5,7 +5,6 @@
 
 ghost use Rattle.std.specs.Prelude.{◌≡◌, ◌+◌, ◌*◌, ◌<◌, ◌≤◌, ltb, length};
 ghost use Rattle.grammar.specs.Tables.{state_count};
-ghost use Rattle.grammar.specs.Steps.{KindsLent, NextLent};
 ghost use Rattle.pieces.specs.Pieces.{too_large, farthest, capped, digit_of, digital, place_beyond, ended, numeral_of, Fit, Closes, Begins, Led, Step};
 ghost use Rattle.pieces.specs.declared.Piece.TheVariants.{Number};
 
@@ -129,21 +128,14 @@ pub fn read_number(text: &[u8], first: Begun) -> Numeral
 }
 
 // The place behind a comment, of which one parenthesis has been read; the text's end where the comment does not close, or holds what no comment may.
-fn after_comment(
-    text: &[u8],
-    kinds: &[u8; 256],
-    next: &[u16; grammar::tables::ENTRY_COUNT],
-    q: usize,
-    from: usize,
-) -> usize
-    requires kinds_lent { KindsLent kinds.now × NextLent next.now }
+fn after_comment(text: &[u8], recogniser: &grammar::Recogniser, q: usize, from: usize) -> usize
     requires q_lt_state_count { (q < state_count) × (1 ≤ from) × (from ≤ length text.now) }
     ensures { Closes text.now q from result }
 {
     let mut d: usize = 1;
     let mut i = from;
     while i < text.len() {
-        let m = grammar::step(kinds, next, q, d, text[i]);
+        let m = grammar::step(recogniser, q, d, text[i]);
         if m.state == grammar::tables::STUCK {
             return text.len();
         }
@@ -158,13 +150,7 @@ fn after_comment(
 
 // The letter that begins the next piece of any bytes from a spot on. Blanks and user text are passed over; where the text leaves the grammar it has no
 // more pieces. Outside comments one entry of the table says all of a byte, and only a command that is a comment goes another way.
-pub fn next_mark(
-    text: &[u8],
-    kinds: &[u8; 256],
-    next: &[u16; grammar::tables::ENTRY_COUNT],
-    from: Spot,
-) -> Begun
-    requires kinds_lent { KindsLent kinds.now × NextLent next.now }
+pub fn next_mark(text: &[u8], recogniser: &grammar::Recogniser, from: Spot) -> Begun
     requires fit { Fit text.now from }
     ensures { Begins text.now from result }
 {
@@ -173,7 +159,7 @@ pub fn next_mark(
     let mut p = i;
     while i < text.len() {
         let b = text[i];
-        let e = grammar::entry_at(kinds, next, q, b);
+        let e = grammar::entry_at(recogniser, q, b);
         let s = e % grammar::tables::ROLE_UNIT;
         let mark = e / grammar::tables::ROLE_UNIT;
         let j = i + 1;
@@ -182,7 +168,7 @@ pub fn next_mark(
                 return nothing(i, q);
             }
             let state = s - grammar::tables::DEEP;
-            let at = after_comment(text, kinds, next, state, j);
+            let at = after_comment(text, recogniser, state, j);
             return Begun {
                 mark,
                 byte: b,

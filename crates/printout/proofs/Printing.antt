@@ -11,7 +11,7 @@ use lib.Seq.{take_at}
 use Rattle.definition.specs.Counts.{shapes_of}
 use Rattle.definition.specs.Words.{bytes_of, those}
 use Rattle.definition.specs.Position.{line_of, column_of, since_line_end}
-use Rattle.definition.specs.Rules.{text_too_long, refuse}
+use Rattle.definition.specs.Rules.{TextTooLong, refuse}
 use Rattle.definition.specs.Flat.{digits, decimal, flat}
 use Rattle.definition.specs.declared.Answer.{Answer}
 use Rattle.definition.specs.Answer.{Outcome, accepted, rejected, flat_file, success, failure, given_back, Answers, Promised}
@@ -85,9 +85,9 @@ printed {t} {room} {left} {old} {new} {words} {words'} {a} {r} h w n m p list =
 -- ---- a text that is longer than the program takes
 
 abbrev too_long : List ℕ → List ℕ
-too_long t = listing t (rejected (refuse text_too_long 0) [])
+too_long t = listing t (rejected (refuse TextTooLong 0) [])
 
-refusal_is : (t w : List ℕ) → account (failure t (refuse text_too_long 0) []) w [] ≡ too_long t
+refusal_is : (t w : List ℕ) → account (failure t (refuse TextTooLong 0) []) w [] ≡ too_long t
 unfolding account listing refused_line failure tabbed fields bytes_of decimal digits line_of column_of those since_line_end
 refusal_is t w = refl
 
@@ -95,15 +95,15 @@ refusal-length : (t : List ℕ) → length (too_long t) ≡ 16
 unfolding listing fields bytes_of decimal digits line_of column_of those since_line_end
 refusal-length t = refl
 
-pub refusal-laid : (t : List ℕ) {old new : List ℕ} {r : ℕ} {a : Answer} → length old ≡ listing_length → a ≡ failure t (refuse text_too_long 0) [] → Listed t 0 a [] old new r
-    → Lays old new r (listing t (rejected (refuse text_too_long 0) []))
+pub refusal-laid : (t : List ℕ) {old new : List ℕ} {r : ℕ} {a : Answer} → length old ≡ listing_length → a ≡ failure t (refuse TextTooLong 0) [] → Listed t 0 a [] old new r
+    → Lays old new r (listing t (rejected (refuse TextTooLong 0) []))
 refusal-laid t {old} {new} {r} m is l =
     let w : Writes old new 0 r (too_long t) = subst (Writes old new 0 r) (ap (λ (a : Answer). account a l.along.warnings []) is ∙ refusal_is t l.along.warnings) l.along.writes in
     let e = w.ends in
     let k = refusal-length t in
     lays w (omega (arith, e, k, m))
 
-pub over-printed : {t old new : List ℕ} {r : ℕ} → 32768 < length t → Lays old new r (listing t (rejected (refuse text_too_long 0) [])) → Prints t old new r
+pub over-printed : {t old new : List ℕ} {r : ℕ} → 32768 < length t → Lays old new r (listing t (rejected (refuse TextTooLong 0) [])) → Prints t old new r
 over-printed {t} h l = record { bytes = too_long t; lists = over h; lays = l }
 
 -- ---- two outcomes that the contract allows are one

@@ -2,12 +2,12 @@
 #![tactic(auto)]
 
 ghost use Rattle.std.specs.Prelude.{◌≡◌, [], ◌≤◌, length};
-ghost use Rattle.definition.specs.Rules.{text_too_long, refuse};
+ghost use Rattle.definition.specs.Rules.{TextTooLong, refuse};
 ghost use Rattle.definition.specs.Answer.{rejected};
 ghost use Rattle.definition.specs.Listing.{listing};
 ghost use Rattle.printout.specs.Prints.{Lays, Prints, words_lent, room_length, listing_length};
 
-use definition::Refusal;
+use definition::{Refusal, Rule};
 
 // The longest text that is taken, the room for its flat file, and the words lent.
 pub const MOST: usize = 32_768;
@@ -31,10 +31,10 @@ fn body_words() -> [i32; MOST]
 // A text that is longer than the list program takes.
 fn print_refusal(text: &[u8], out: &mut [u8]) -> usize
     requires { length out.old ≡ listing_length }
-    ensures { Lays out.old out.new result (listing text.now (rejected (refuse text_too_long 0) [])) }
+    ensures { Lays out.old out.new result (listing text.now (rejected (refuse TextTooLong 0) [])) }
 {
     let over = Refusal {
-        number: 1,
+        rule: Rule::TextTooLong,
         place: 0,
     };
     let nothing: [u8; 0] = [];

@@ -15,7 +15,7 @@ use Rattle.definition.specs.declared.Answer.{Answer}
 use Rattle.definition.specs.declared.Refusal.{Refusal}
 use Rattle.definition.specs.Limits.{most_bytes}
 use Rattle.definition.specs.Words.{Placed}
-use Rattle.definition.specs.Rules.{Rule, text_too_long, not_in_grammar, too_few_words, x_out_of_range, y_out_of_range, flat_file_too_long, number_of, refuse}
+use Rattle.definition.specs.Rules.{Rule, TextTooLong, NotInGrammar, TooFewWords, XOutOfRange, YOutOfRange, FlatFileTooLong, number_of, refuse}
 use Rattle.definition.specs.Commands.{Command}
 use Rattle.definition.specs.Drawing.{Chain, Event}
 use Rattle.definition.specs.Counts.{Counts, shapes_of}
@@ -137,12 +137,12 @@ module _ {t : List ℕ} {words words' : List ℤ} {room left : List ℕ} {r : An
   )
 
   -- 1, text over 16,777,216 bytes; at 0
-  pub refused_by_length-when : {p : ℕ} → Says r (number_of text_too_long) p ↔ ((p ≡ 0) × (most_bytes < length t))
-  refused_by_length-when = Iff.trans (refused-when text_too_long) refused_by_length
+  pub refused_by_length-when : {p : ℕ} → Says r (number_of TextTooLong) p ↔ ((p ≡ 0) × (most_bytes < length t))
+  refused_by_length-when = Iff.trans (refused-when TextTooLong) refused_by_length
 
   -- 2, not in the grammar; at the length of the longest prefix that some continuation completes to a grammatical text
-  pub refused_by_grammar_when : {p : ℕ} → Says r (number_of not_in_grammar) p ↔ ((length t ≤ most_bytes) × (Grammatical t → ⊥) × LongestViable t p)
-  refused_by_grammar_when = Iff.trans (refused-when not_in_grammar) refused_by_grammar
+  pub refused_by_grammar_when : {p : ℕ} → Says r (number_of NotInGrammar) p ↔ ((length t ≤ most_bytes) × (Grammatical t → ⊥) × LongestViable t p)
+  refused_by_grammar_when = Iff.trans (refused-when NotInGrammar) refused_by_grammar
 
   -- 3 to 9, the first command that breaks a rule, the foremost of its rules, the nearest place
   pub refused_by_command-when : {by : Rule} {p : ℕ} → ByCommand by → Says r (number_of by) p ↔ CommandsBreak t by p
@@ -164,16 +164,16 @@ module _ {t : List ℕ} {words words' : List ℤ} {room left : List ℕ} {r : An
   drawing_tells i s = (refusal-holds h (outcome_is ((refused_by_drawing i).1 s))).0
 
   -- 16, exactly when the first moment that breaks a rule draws a shape with some x beyond the range
-  pub refused_by_x-when : {p : ℕ} → Says r (number_of x_out_of_range) p ↔ ((chain : Chain) × OutOfRange FarInX t (length words) p chain)
-  refused_by_x-when = Iff.trans (refused-when x_out_of_range) (λ s. (s.0, refused_by_x.0 s.1), λ s. (s.0, refused_by_x.1 s.1))
+  pub refused_by_x-when : {p : ℕ} → Says r (number_of XOutOfRange) p ↔ ((chain : Chain) × OutOfRange FarInX t (length words) p chain)
+  refused_by_x-when = Iff.trans (refused-when XOutOfRange) (λ s. (s.0, refused_by_x.0 s.1), λ s. (s.0, refused_by_x.1 s.1))
 
   -- 20, exactly when it draws one whose x are all good and some y is not
-  pub refused_by_y-when : {p : ℕ} → Says r (number_of y_out_of_range) p ↔ ((chain : Chain) × OutOfRange FarInY t (length words) p chain)
-  refused_by_y-when = Iff.trans (refused-when y_out_of_range) (λ s. (s.0, refused_by_y.0 s.1), λ s. (s.0, refused_by_y.1 s.1))
+  pub refused_by_y-when : {p : ℕ} → Says r (number_of YOutOfRange) p ↔ ((chain : Chain) × OutOfRange FarInY t (length words) p chain)
+  refused_by_y-when = Iff.trans (refused-when YOutOfRange) (λ s. (s.0, refused_by_y.0 s.1), λ s. (s.0, refused_by_y.1 s.1))
 
   -- 18, flat file longer than the room or than 16,777,216; at 0
-  pub refused_by_flat_file_when : {p : ℕ} → Says r (number_of flat_file_too_long) p ↔ ((p ≡ 0) × FileTooLong t (length words) (length room))
-  refused_by_flat_file_when = Iff.trans (refused-when flat_file_too_long) refused_by_flat_file
+  pub refused_by_flat_file_when : {p : ℕ} → Says r (number_of FlatFileTooLong) p ↔ ((p ≡ 0) × FileTooLong t (length words) (length room))
+  refused_by_flat_file_when = Iff.trans (refused-when FlatFileTooLong) refused_by_flat_file
 
   -- ---- request 10
 
@@ -182,9 +182,9 @@ module _ {t : List ℕ} {words words' : List ℤ} {room left : List ℕ} {r : An
   words_zero = h.cleared
 
   -- 25, exactly when the live bodies after some DF need more words than were lent, at the DS of the first for which they do, if nothing stops the reading before
-  pub refused_by_words_when : {p : ℕ} → Says r (number_of too_few_words) p ↔ TooFewLent t (length words) p
+  pub refused_by_words_when : {p : ℕ} → Says r (number_of TooFewWords) p ↔ TooFewLent t (length words) p
   refused_by_words_when {p} =
-      Iff.trans (refused-when too_few_words)
+      Iff.trans (refused-when TooFewWords)
       (λ s. (refused_by_words.0 s.1).1, λ l. ([], refused_by_words.1 (refl, l)))
 
   -- the answer is that with as many words as the text has bytes, or it is 25; and then the bodies do need more, at that DS and nothing earlier
@@ -192,7 +192,7 @@ module _ {t : List ℕ} {words words' : List ℤ} {room left : List ℕ} {r : An
   as_without = as_without_words h.answers
 
   -- with as many words as the text has bytes 25 never occurs
-  pub never-25-when : length t ≤ length words → r.number ≡ number_of too_few_words → ⊥
+  pub never-25-when : length t ≤ length words → r.number ≡ number_of TooFewWords → ⊥
   never-25-when enough e = let l = refused_by_words_when.0 (e, refl) in let k = fewer_than_bytes l in omega (arith, enough, k)
 
   -- ---- demand 3

@@ -9,11 +9,9 @@ use lib.IntN.{ℤ, pos}
 use lib.ListN.{length, replicate, length-append}
 use lib.Seq.{sets}
 use Rattle.grammar.specs.Viable.{Judged}
-use Rattle.grammar.specs.declared.Verdict.{Verdict}
-use Rattle.grammar.specs.declared.Verdict.TheVariants.{InGrammar, StuckAt}
 use Rattle.definition.specs.declared.Answer.{Answer}
 use Rattle.definition.specs.declared.Refusal.{Refusal}
-use Rattle.definition.specs.Rules.{flat_file_too_long, refuse}
+use Rattle.definition.specs.Rules.{FlatFileTooLong, refuse}
 use Rattle.definition.specs.Commands.{commands}
 use Rattle.definition.specs.Standing.{outside}
 use Rattle.definition.specs.Faults.{first_fault}
@@ -29,20 +27,17 @@ use Rattle.laws.proofs.Rules.DrawingRules.{drawing_rule}
 use Rattle.laws.proofs.Rules.Outcomes
 use Rattle.laws.proofs.Rules.Outcomes.{flat_length, TooLong, by_drawing, by_flat_file, Accepting, refusal, acceptance}
 use Rattle.reading.specs.Refusal.{fault_said, by_verdict}
-use Rattle.checking.specs.declared.Fault.{Fault}
-use Rattle.checking.specs.declared.Fault.TheVariants.{Clear, Refused}
 use Rattle.pen.specs.Names.{name_of}
 use Rattle.digits.specs.Writes.{Writes}
 use Rattle.pen.proofs.Names.{no_name}
 use Rattle.digits.proofs.Writing.{both, written, begins}
 use Rattle.counts.specs.Counting.{tally}
 use Rattle.shapes.specs.declared.Ink.{Ink}
-use Rattle.shapes.specs.declared.Drawn.{Drawn}
-use Rattle.shapes.specs.declared.Drawn.TheVariants as drawing
 use Rattle.shapes.specs.Painting.{bytes_of, Goes, Answered, Painted}
 use Rattle.passing.specs.Passed.{Passed, to_draw, dry}
 use Rattle.shapes.proofs.Painting.{until_all}
 use Rattle.reader.specs.Screened.{Screened, over, within, Rounds, Comes, held_lines}
+use Rattle.std.specs.Prelude.{Err, Ok, Result}
 
 -- a refusal leaves the room as it was
 refusing : {t : List ℕ} {words : ℕ} {room : List ℕ} {r : Answer} {why : Refusal} (chain : Chain) → Answers t words (length room) (rejected why chain)
@@ -52,45 +47,45 @@ refusing {why = why} chain a e = record { outcome = rejected why chain; answers 
 
 -- ---- 1 to 9
 
-never_clear : {k : ℕ} {why : Refusal} → Clear k ≡ Refused why → ⊥
+never_clear : {k : ℕ} {why : Refusal} → Ok k ≡ Err why → ⊥
 never_clear e = let z : ◌≡◌ {A = ℕ} 0 1 = cc in omega arith
 
 -- how a text with this fault comes out; one without is not asked
-abbrev outcome_by : Fault → Outcome
-outcome_by (Clear k) = rejected (record { number = 0; place = 0 }) []
-outcome_by (Refused why) = rejected why []
+abbrev outcome_by : Result ℕ Refusal → Outcome
+outcome_by (Ok k) = rejected (record { number = 0; place = 0 }) []
+outcome_by (Err why) = rejected why []
 
-judged-answers : {t : List ℕ} {words room : ℕ} {why : Refusal} → length t ≤ 16777216 → (v : Verdict) → Judged t v → by_verdict t v (Refused why) → Answers t words room (rejected why [])
-judged-answers {t} {words} {room} {why} h InGrammar g e = go (first_fault (commands 0 g.0)) refl (e g.0 g.1)
+judged-answers : {t : List ℕ} {words room : ℕ} {why : Refusal} → length t ≤ 16777216 → (v : Result Unit ℕ) → Judged t v → by_verdict t v (Err why) → Answers t words room (rejected why [])
+judged-answers {t} {words} {room} {why} h (Ok tt) g e = go (first_fault (commands 0 g.0)) refl (e g.0 g.1)
   where
-    go : (f : Option Refusal) → first_fault (commands 0 g.0) ≡ f → Refused why ≡ fault_said f (rounded (commands 0 g.0)) → Answers t words room (rejected why [])
+    go : (f : Option Refusal) → first_fault (commands 0 g.0) ≡ f → Err why ≡ fault_said f (rounded (commands 0 g.0)) → Answers t words room (rejected why [])
     go none q x = absurd (never_clear (sym x))
     go (some r) q x = unfold outcome_of drawn in
         subst (Answers t words room) (ap (λ (f : Option Refusal). drawn f (commands 0 g.0) words room) q ∙ ap outcome_by (sym x)) (read {m = g.0} h g.1)
-judged-answers {t} {words} {room} h (StuckAt i) g e = subst (Answers t words room) (ap outcome_by (sym e)) (not_cif h g.0 g.1)
+judged-answers {t} {words} {room} h (Err i) g e = subst (Answers t words room) (ap outcome_by (sym e)) (not_cif h g.0 g.1)
 
-fault-answers : {t : List ℕ} {words room : ℕ} {d : Fault} {why : Refusal} → Screened t d → d ≡ Refused why → Answers t words room (rejected why [])
+fault-answers : {t : List ℕ} {words room : ℕ} {d : Result ℕ Refusal} {why : Refusal} → Screened t d → d ≡ Err why → Answers t words room (rejected why [])
 fault-answers {t} {words} {room} (over h) is = subst (Answers t words room) (ap outcome_by is) (too_long h)
 fault-answers {t} (within h f) is = judged-answers h f.verdict f.judged (subst (by_verdict t f.verdict) is f.is)
 
-pub fault-told : {t : List ℕ} {words : ℕ} {room : List ℕ} {r : Answer} {d : Fault} {why : Refusal} → Screened t d → d ≡ Refused why → r ≡ failure t why []
+pub fault-told : {t : List ℕ} {words : ℕ} {room : List ℕ} {r : Answer} {d : Result ℕ Refusal} {why : Refusal} → Screened t d → d ≡ Err why → r ≡ failure t why []
     → Comes t words room r room
 fault-told s is e = refusing [] (fault-answers s is) e
 
 -- how many distances a text without a fault has rounded
-abbrev rounded_by : Fault → ℕ
-rounded_by (Clear k) = k
-rounded_by (Refused why) = 0
+abbrev rounded_by : Result ℕ Refusal → ℕ
+rounded_by (Ok k) = k
+rounded_by (Err why) = 0
 
-clear-passes : {t : List ℕ} {k : ℕ} → length t ≤ 16777216 → (v : Verdict) → Judged t v → by_verdict t v (Clear k) → Rounds t k
-clear-passes {t} {k} h InGrammar g e = go (first_fault (commands 0 g.0)) refl (e g.0 g.1)
+clear-passes : {t : List ℕ} {k : ℕ} → length t ≤ 16777216 → (v : Result Unit ℕ) → Judged t v → by_verdict t v (Ok k) → Rounds t k
+clear-passes {t} {k} h (Ok tt) g e = go (first_fault (commands 0 g.0)) refl (e g.0 g.1)
   where
-    go : (f : Option Refusal) → first_fault (commands 0 g.0) ≡ f → Clear k ≡ fault_said f (rounded (commands 0 g.0)) → Rounds t k
+    go : (f : Option Refusal) → first_fault (commands 0 g.0) ≡ f → Ok k ≡ fault_said f (rounded (commands 0 g.0)) → Rounds t k
     go none q x = record { passed = record { letters = g.0; marked = g.1; short = h; clear = q }; is = ap rounded_by x }
     go (some r) q x = absurd (never_clear x)
-clear-passes h (StuckAt i) g e = absurd (never_clear e)
+clear-passes h (Err i) g e = absurd (never_clear e)
 
-pub passes : {t : List ℕ} {d : Fault} {k : ℕ} → Screened t d → d ≡ Clear k → Rounds t k
+pub passes : {t : List ℕ} {d : Result ℕ Refusal} {k : ℕ} → Screened t d → d ≡ Ok k → Rounds t k
 passes (over h) is = absurd (never_clear (sym is))
 passes {t} (within h f) is = clear-passes h f.verdict f.judged (subst (by_verdict t f.verdict) is f.is)
 
@@ -111,13 +106,13 @@ module _ {t : List ℕ} (words : ℕ) (p : Passed t) where
       subst (λ (x : Refusal). Answers t words room (rejected x chain)) (sym by)
       ((refusal rule why.place chain).1 (by_drawing let_pass (e ∙ ap (λ (x : Refusal). stopped x chain) by)))
 
-  pub stopped-told : {scrap scrap' room : List ℕ} {chain : Chain} {r : Answer} {d : Drawn} {why : Refusal} → Painted dry held scrap chain d scrap' → d ≡ drawing.Refused why
+  pub stopped-told : {scrap scrap' room : List ℕ} {chain : Chain} {r : Answer} {d : Result Ink Refusal} {why : Refusal} → Painted dry held scrap chain d scrap' → d ≡ Err why
       → r ≡ failure t why chain → Comes t words room r room
   unfolding Answered
   stopped-told {chain = chain} x is e = refusing chain (stopped-answers (subst (Answered dry held chain) is x.answer)) e
 
   -- the drawing finished on some room, with these counts and the pen there
-  module _ {scrap scrap' : List ℕ} {chain : Chain} {d : Drawn} (x : Painted dry held scrap chain d scrap') {ink : Ink} (is : d ≡ drawing.Done ink) where
+  module _ {scrap scrap' : List ℕ} {chain : Chain} {d : Result Ink Refusal} (x : Painted dry held scrap chain d scrap') {ink : Ink} (is : d ≡ Ok ink) where
     goes-held : Goes dry held ink
     unfolding Answered
     goes-held = subst (Answered dry held chain) is x.answer
@@ -140,9 +135,9 @@ module _ {t : List ℕ} (words : ℕ) (p : Passed t) where
     unfolding flat
     file_length = omega (arith, goes.next, ap length first-lines, length-append (lines [] (shapes_of (to_draw p))) (69 ∷ 10 ∷ []))
 
-    pub over-told : {room : List ℕ} {r : Answer} → TooLong (ink.pen.at + 2) (length room) → r ≡ failure t (refuse flat_file_too_long 0) [] → Comes t words room r room
+    pub over-told : {room : List ℕ} {r : Answer} → TooLong (ink.pen.at + 2) (length room) → r ≡ failure t (refuse FlatFileTooLong 0) [] → Comes t words room r room
     over-told {room} h e =
-        refusing [] ((refusal flat_file_too_long 0 []).1 (by_flat_file let_pass goes-held.ends (subst (λ (n : ℕ). TooLong n (length room)) (sym file_length) h))) e
+        refusing [] ((refusal FlatFileTooLong 0 []).1 (by_flat_file let_pass goes-held.ends (subst (λ (n : ℕ). TooLong n (length room)) (sym file_length) h))) e
 
     accepting : {room : ℕ} → ink.pen.at + 2 ≤ room → ink.pen.at + 2 ≤ 16777216 → Accepting t words room (commands 0 p.letters) (tally ink.counts) (to_draw p)
     accepting h k = record {

@@ -6,18 +6,18 @@ use Rattle.definition.specs.declared.Answer.{Answer}
 use Rattle.definition.specs.Answer.{Outcome, Answers, given_back, room_after}
 use Rattle.definition.specs.Held.{held_to}
 use Rattle.definition.specs.Limits.{most_bytes}
-use Rattle.definition.specs.Rules.{text_too_long, refuse}
+use Rattle.definition.specs.Rules.{TextTooLong, refuse}
 use Rattle.definition.specs.Commands.{commands}
 use Rattle.definition.specs.Rounded.{rounded}
 use Rattle.passing.specs.Passed.{Passed, to_draw, dry}
 use Rattle.shapes.specs.Painting.{bytes_of}
 use Rattle.reading.specs.Refusal.{Refuses}
-use Rattle.checking.specs.declared.Fault.{Fault}
-use Rattle.checking.specs.declared.Fault.TheVariants.{Refused}
+use Rattle.std.specs.Prelude.{Err, Result}
+use Rattle.definition.specs.declared.Refusal.{Refusal}
 
-pub data Screened (t : List ℕ) : Fault → Type 0 where
-  over : most_bytes < length t → Screened t (Refused (refuse text_too_long 0))
-  within : {r : Fault} → length t ≤ most_bytes → Refuses t r → Screened t r
+pub data Screened (t : List ℕ) : Result ℕ Refusal → Type 0 where
+  over : most_bytes < length t → Screened t (Err (refuse TextTooLong 0))
+  within : {r : Result ℕ Refusal} → length t ≤ most_bytes → Refuses t r → Screened t r
 
 -- a text that refusals 1 to 9 let pass, and how many of its distances are rounded
 pub record Rounds (t : List ℕ) (k : ℕ) : Type 0 where

@@ -4,16 +4,14 @@
 
 ghost use Rattle.std.specs.Prelude.{◌≡◌, ◌∷◌, [], ◌^◌, ◌≤◌, length};
 ghost use Rattle.std.proofs.lemmas.List.Edits.{sets};
-ghost use Rattle.definition.specs.Rules.{flat_file_too_long, refuse};
+ghost use Rattle.definition.specs.Rules.{FlatFileTooLong, refuse};
 ghost use Rattle.definition.specs.Answer.{failure, Promised};
 ghost use Rattle.chain.specs.Chain.{run_length};
 ghost use Rattle.passing.specs.Passed.{Passed};
 ghost use Rattle.reader.specs.Screened.{Screened, Rounds, Comes, held_lines};
 
-use checking::Fault;
 use counts::Counts;
-use definition::{Answer, Refusal};
-use shapes::Drawn;
+use definition::{Answer, Refusal, Rule};
 
 // How long the flat file's last line is: `E` and byte 10.
 const LAST_LINE: usize = 2;
@@ -29,10 +27,10 @@ fn write_file(text: &[u8], words: &mut [i32], drawing: &mut [usize], room: &mut 
 
 // Refusal 18: the flat file is too long, whatever was counted in drawing it.
 fn too_long(text: &[u8], counted: Counts) -> Answer
-    ensures { result ≡ failure text.now (refuse flat_file_too_long 0) [] }
+    ensures { result ≡ failure text.now (refuse FlatFileTooLong 0) [] }
 {
     let over = Refusal {
-        number: 18,
+        rule: Rule::FlatFileTooLong,
         place: 0,
     };
     answer::refused_outside(text, over, counted)
@@ -52,8 +50,8 @@ fn flatten_passed(
 {
     let mut drawing = [0usize; chain::RUN];
     match passing::draw(text, words, &mut drawing, scrap) {
-        Drawn::Refused(refusal) => answer::refused(text, refusal, &drawing, counts::no_counts()),
-        Drawn::Done(ink) => {
+        Err(refusal) => answer::refused(text, refusal, &drawing, counts::no_counts()),
+        Ok(ink) => {
             let counted = ink.counts;
             let end = ink.pen.at;
             let length = end + LAST_LINE;
@@ -69,13 +67,13 @@ fn flatten_passed(
     }
 }
 
-// The first of refusals 1 to 9.
-pub fn first_fault(text: &[u8]) -> Fault
+// The first of refusals 1 to 9, or how many distances of the text are rounded.
+pub fn first_fault(text: &[u8]) -> Result<usize, Refusal>
     ensures { Screened text.now result }
 {
     if definition::MOST_BYTES < text.len() {
-        return Fault::Refused(Refusal {
-            number: 1,
+        return Err(Refusal {
+            rule: Rule::TextTooLong,
             place: 0,
         });
     }
@@ -87,8 +85,8 @@ fn read_text(text: &[u8], words: &mut [i32], room: &mut [u8]) -> Answer
     ensures { Comes text.now (length words.old) room.old result room.new }
 {
     match first_fault(text) {
-        Fault::Refused(refusal) => answer::refused_outside(text, refusal, counts::no_counts()),
-        Fault::Clear(rounded) => {
+        Err(refusal) => answer::refused_outside(text, refusal, counts::no_counts()),
+        Ok(rounded) => {
             let mut nothing: [u8; 0] = [];
             flatten_passed(text, words, &mut nothing, room, rounded)
         }

@@ -16,7 +16,7 @@ use Rattle.grammar.specs.Notation.{Letter}
 use Rattle.grammar.specs.Viable.{Marked}
 use Rattle.definition.specs.Limits.{largest}
 use Rattle.definition.specs.declared.Refusal.{Refusal}
-use Rattle.definition.specs.Rules.{Rule, number_too_large, zero_factor, scaled_too_large, degenerate_command, no_layer, too_many_parts, number_of, refuse}
+use Rattle.definition.specs.Rules.{Rule, NumberTooLarge, ZeroFactor, ScaledTooLarge, DegenerateCommand, NoLayer, TooManyParts, number_of, refuse}
 use Rattle.definition.specs.Words.{Placed, at, any, those, first}
 use Rattle.definition.specs.Commands.{Number, Command, start, finish, layer, commands}
 use Rattle.definition.specs.Standing.{Standing, outside, after, nearest, scaled, whole}
@@ -34,7 +34,6 @@ use Rattle.rules.specs.Rules.{scaleless, few, bare, many}
 use Rattle.checking.specs.Account.{layer_of, Blame, blame, of_numbers, of_whole, blames, foremost, fault_by, scope_after, rounded_of, fault_from, at_start, fault_of}
 use Rattle.reading.specs.Refusal.{fault_said}
 use Rattle.checking.specs.declared.Scope.{Scope}
-use Rattle.checking.specs.declared.Fault.{Fault}
 use Rattle.laws.proofs.FlatFile.Said.{or_first, or_second}
 use Rattle.commands.specs.Words.{signed}
 use Rattle.reading.proofs.Says.{tells, Says, a_polygon, a_box, a_turned_box, a_flash, a_wire, a_layer, a_call, a_start, a_scaled-start, a_finish, a_deletion, a_nothing, AllSay, none_said, one_said}
@@ -44,6 +43,7 @@ use Rattle.reading.proofs.Marks.{Mark, along_marks, found_by, one_place, marks_o
 use Rattle.reading.proofs.Blames.{capped-exact, sees_none, sees-3, sees-6, sees-7, sees_rounded, all_of_numbers, Wholly, of_whole_lem}
 use Rattle.reading.proofs.Facing.{abs_signed, letters_words, Faces, faces}
 use Rattle.reading.proofs.Packed.{packed, packed_none}
+use Rattle.std.specs.Prelude.{Result}
 
 -- ---- what stands
 
@@ -197,17 +197,17 @@ module _ (s : Scope) (σ : Standing) (g : Fits s σ) (c : Written) (d : Placed C
       (pick (if_place (degenerate σ d.what)) 7 (pick (if_place (layerless σ d.what)) 8 (pick (if_place (has_too_many d.what)) 9 (blame 10 0))))))
   unfolding faults
   faults_head =
-      head_numbers number_too_large beyond (numbers_of d.what) _
+      head_numbers NumberTooLarge beyond (numbers_of d.what) _
       ∙ ap (pick (found beyond (numbers_of d.what) none) 3)
-      (head_command zero_factor (zero_scale d.what) d.place _
+      (head_command ZeroFactor (zero_scale d.what) d.place _
       ∙ ap (pick (if_place (zero_scale d.what)) 4)
-      (head_numbers scaled_too_large (λ z. beyond (scaled σ z)) (distances d.what) _
+      (head_numbers ScaledTooLarge (λ z. beyond (scaled σ z)) (distances d.what) _
       ∙ ap (pick (found (λ z. beyond (scaled σ z)) (distances d.what) none) 6)
-      (head_command degenerate_command (degenerate σ d.what) d.place _
+      (head_command DegenerateCommand (degenerate σ d.what) d.place _
       ∙ ap (pick (if_place (degenerate σ d.what)) 7)
-      (head_command no_layer (layerless σ d.what) d.place _ ∙ ap (pick (if_place (layerless σ d.what)) 8) (last (has_too_many d.what))))))
+      (head_command NoLayer (layerless σ d.what) d.place _ ∙ ap (pick (if_place (layerless σ d.what)) 8) (last (has_too_many d.what))))))
     where
-      last : (b : Bool) → head_of (at_command too_many_parts b d.place) ≡ pick (if_place b) 9 (blame 10 0)
+      last : (b : Bool) → head_of (at_command TooManyParts b d.place) ≡ pick (if_place b) 9 (blame 10 0)
       last true = refl
       last false = refl
 
@@ -249,18 +249,18 @@ no_at_command n false p e = refl
 pub faultless : (σ : Standing) (d : Placed Command) → faults σ d ≡ [] → Faultless σ d
 unfolding faults
 faultless σ d e =
-    let f₃ = at_numbers number_too_large beyond (numbers_of d.what) in
-    let f₄ = at_command zero_factor (zero_scale d.what) d.place in
-    let f₆ = at_numbers scaled_too_large (λ z. beyond (scaled σ z)) (distances d.what) in
-    let f₇ = at_command degenerate_command (degenerate σ d.what) d.place in
-    let f₈ = at_command no_layer (layerless σ d.what) d.place in
+    let f₃ = at_numbers NumberTooLarge beyond (numbers_of d.what) in
+    let f₄ = at_command ZeroFactor (zero_scale d.what) d.place in
+    let f₆ = at_numbers ScaledTooLarge (λ z. beyond (scaled σ z)) (distances d.what) in
+    let f₇ = at_command DegenerateCommand (degenerate σ d.what) d.place in
+    let f₈ = at_command NoLayer (layerless σ d.what) d.place in
     let e₄ = nil-right f₃ _ e in
     let e₆ = nil-right f₄ _ e₄ in
     record {
-      near = at_numbers_lem number_too_large beyond (numbers_of d.what) (nil-left f₃ _ e);
-      scale = no_at_command zero_factor (zero_scale d.what) d.place (nil-left f₄ _ e₄);
-      near-distances = at_numbers_lem scaled_too_large (λ z. beyond (scaled σ z)) (distances d.what) (nil-left f₆ _ e₆);
-      not_many = no_at_command too_many_parts (has_too_many d.what) d.place (nil-right f₈ _ (nil-right f₇ _ (nil-right f₆ _ e₆)));
+      near = at_numbers_lem NumberTooLarge beyond (numbers_of d.what) (nil-left f₃ _ e);
+      scale = no_at_command ZeroFactor (zero_scale d.what) d.place (nil-left f₄ _ e₄);
+      near-distances = at_numbers_lem ScaledTooLarge (λ z. beyond (scaled σ z)) (distances d.what) (nil-left f₆ _ e₆);
+      not_many = no_at_command TooManyParts (has_too_many d.what) d.place (nil-right f₈ _ (nil-right f₇ _ (nil-right f₆ _ e₆)));
     }
 
 -- a number that is not beyond is told exactly
@@ -377,14 +377,14 @@ low-command n h false p = tt
 low : (σ : Standing) (d : Placed Command) → All Low (faults σ d)
 unfolding faults
 low σ d =
-    all-++ Low _ _ (low-numbers number_too_large (omega arith) beyond (numbers_of d.what))
-    (all-++ Low _ _ (low-command zero_factor (omega arith) (zero_scale d.what) d.place)
-    (all-++ Low _ _ (low-numbers scaled_too_large (omega arith) (λ z. beyond (scaled σ z)) (distances d.what))
-    (all-++ Low _ _ (low-command degenerate_command (omega arith) (degenerate σ d.what) d.place)
-    (all-++ Low _ _ (low-command no_layer (omega arith) (layerless σ d.what) d.place) (low-command too_many_parts (omega arith) (has_too_many d.what) d.place)))))
+    all-++ Low _ _ (low-numbers NumberTooLarge (omega arith) beyond (numbers_of d.what))
+    (all-++ Low _ _ (low-command ZeroFactor (omega arith) (zero_scale d.what) d.place)
+    (all-++ Low _ _ (low-numbers ScaledTooLarge (omega arith) (λ z. beyond (scaled σ z)) (distances d.what))
+    (all-++ Low _ _ (low-command DegenerateCommand (omega arith) (degenerate σ d.what) d.place)
+    (all-++ Low _ _ (low-command NoLayer (omega arith) (layerless σ d.what) d.place) (low-command TooManyParts (omega arith) (has_too_many d.what) d.place)))))
 
 -- the first of a command's, or of those behind it
-said : (f : Fault) (rs more : List Refusal) (n : ℕ) → All Low rs → (rs ≡ [] → f ≡ fault_said (first more) n) → fault_by (head_of rs) f ≡ fault_said (first (rs ++ more)) n
+said : (f : Result ℕ Refusal) (rs more : List Refusal) (n : ℕ) → All Low rs → (rs ≡ [] → f ≡ fault_said (first more) n) → fault_by (head_of rs) f ≡ fault_said (first (rs ++ more)) n
 unfolding first All
 said f [] more n h k = k refl
 said f (r ∷ rs) more n h k = rw (lt-ltb r.number 10 h.0) refl

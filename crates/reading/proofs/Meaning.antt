@@ -21,9 +21,8 @@ use Rattle.checking.specs.Account.{layer_of, refusal, Blame, blame, when, of_num
 use Rattle.checking.specs.Along.{lower, blamed, kept, fresh, begun, idle, counted, worded, after_doing, finished, onward, runs}
 use Rattle.checking.specs.declared.Scope.{Scope}
 use Rattle.checking.specs.declared.Doing.{Doing}
-use Rattle.checking.specs.declared.Ended.TheVariants.{Then, Broken}
-use Rattle.checking.specs.declared.Fault.{Fault}
-use Rattle.checking.specs.declared.Fault.TheVariants.{Clear}
+use Rattle.std.specs.Prelude.{Err, Ok, Result}
+use Rattle.definition.specs.declared.Refusal.{Refusal}
 
 -- the sooner of two
 module _ (x y z : Blame) where
@@ -105,18 +104,18 @@ whole_law p l w n t a b y = whole_chained p (scaleless l w a b) (few l n) (bare 
 abbrev so_far : Doing → Blame
 so_far c = blame c.no c.at
 
-ended_by : (k q n at : ℕ) (f : Fault) (s : Scope) (g : Scope → Fault) → n ≤ no_refusal → g s ≡ f
-    → onward g (choose (ltb k n) (Broken (refusal k q)) (choose (ltb n no_refusal) (Broken (refusal n at)) (Then s))) ≡ fault_by (sooner (blame n at) (blame k (choose (ltb k no_refusal) q 0))) f
+ended_by : (k q n at : ℕ) (f : Result ℕ Refusal) (s : Scope) (g : Scope → Result ℕ Refusal) → n ≤ no_refusal → g s ≡ f
+    → onward g (choose (ltb k n) (Err (refusal k q)) (choose (ltb n no_refusal) (Err (refusal n at)) (Ok s))) ≡ fault_by (sooner (blame n at) (blame k (choose (ltb k no_refusal) q 0))) f
 ended_by k q n at f s g h e = go (ltb k n) (ltb n no_refusal) (ltb k no_refusal) refl refl refl
   where
     go : (x y z : Bool) → ltb k n ≡ x → ltb n no_refusal ≡ y → ltb k no_refusal ≡ z
-        → onward g (choose x (Broken (refusal k q)) (choose y (Broken (refusal n at)) (Then s))) ≡ fault_by (choose x (blame k (choose z q 0)) (blame n at)) f
+        → onward g (choose x (Err (refusal k q)) (choose y (Err (refusal n at)) (Ok s))) ≡ fault_by (choose x (blame k (choose z q 0)) (blame n at)) f
     go true y true ex ey ez = rw ez
     go true y false ex ey ez = absurd (omega (arith, ltb-true k n ex, ltb-false k no_refusal ez))
     go false true z ex ey ez = rw ey
     go false false z ex ey ez = rw ey e
 
-finish_is : (s : Scope) (c : Doing) (g : Scope → Fault) → c.busy ≡ true → c.no ≤ no_refusal
+finish_is : (s : Scope) (c : Doing) (g : Scope → Result ℕ Refusal) → c.busy ≡ true → c.no ≤ no_refusal
     → onward g (finished s c) ≡ fault_by (sooner (so_far c) (foremost (of_whole c.place c.letter c.word c.count c.turns c.a c.b (layer_of s)))) (g (after_doing s c))
 unfolding finished
 finish_is s c g hb h =
@@ -125,14 +124,14 @@ finish_is s c g hb h =
     ∙ ap (λ (x : Blame). fault_by (sooner (so_far c) x) (g (after_doing s c))) (sym (whole_law c.place c.letter c.word c.count c.turns c.a c.b (layer_of s)))
 
 -- from within a command on
-said_of : Scope → ℕ → ℕ → Blame → List Figure → ℕ → ℕ → ℕ → ℕ → ℕ → ℕ → ℕ → List Written → Fault
+said_of : Scope → ℕ → ℕ → Blame → List Figure → ℕ → ℕ → ℕ → ℕ → ℕ → ℕ → ℕ → List Written → Result ℕ Refusal
 said_of s p l x ns w n t a b y k cs = fault_by (sooner x (foremost (of_numbers s p l ns (of_whole p l w n t a b (layer_of s))))) (fault_from (scope_by s l w a b y) k cs)
 
 -- how many numbers are rounded after the pieces xs
 abbrev rounded_then : Scope → Doing → List Piece → ℕ
 rounded_then s c xs = c.rounded + rounded_of s c.letter (figures c.word c.count c.zero xs)
 
-abbrev within : Scope → Doing → List Piece → List Written → Fault
+abbrev within : Scope → Doing → List Piece → List Written → Result ℕ Refusal
 within s c xs cs =
     let ns = figures c.word c.count c.zero xs in
     let ls = letters xs in
@@ -199,7 +198,7 @@ second_is : (s : Scope) (c : Doing) (b : ℕ) (xs : List Piece) (cs : List Writt
 unfolding figures letters
 second_is s c b xs cs = refl
 
-none_is : (x : Blame) (f : Fault) → fault_by (sooner (blame no_refusal 0) x) f ≡ fault_by x f
+none_is : (x : Blame) (f : Result ℕ Refusal) → fault_by (sooner (blame no_refusal 0) x) f ≡ fault_by x f
 none_is x f = go (ltb x.no no_refusal) refl
   where
     go : (b : Bool) → ltb x.no no_refusal ≡ b → fault_by (choose b x (blame no_refusal 0)) f ≡ fault_by x f
@@ -218,7 +217,7 @@ no_items : (s : Scope) (c : Doing) (cs : List Written) → within s c [] cs ≡ 
 unfolding said_of figures letters last_of turns_of packed_by size_at of_numbers rounded_of
 no_items s c cs = rw (add-zero c.count, add-zero c.turns, add-zero c.name, add-zero c.rounded)
 
-abbrev target : List Piece → Scope → Doing → Fault
+abbrev target : List Piece → Scope → Doing → Result ℕ Refusal
 target ps s c = choose c.busy (within s c (items_of ps) (written ps)) (fault_from s (rounded_then s c (items_of ps)) (written ps))
 
 no_le : (k n : ℕ) → n ≤ no_refusal → lower k n ≤ no_refusal
@@ -228,26 +227,26 @@ no_le k n h = go (ltb k n) refl
     go true e = let l = ltb-true k n e in omega arith
     go false e = h
 
-finish-idle : (s : Scope) (c : Doing) (g : Scope → Fault) → c.busy ≡ false → onward g (finished s c) ≡ g s
+finish-idle : (s : Scope) (c : Doing) (g : Scope → Result ℕ Refusal) → c.busy ≡ false → onward g (finished s c) ≡ g s
 unfolding finished
 finish-idle s c g h = rw h
 
 -- the end of a command, whether one was there or not; after it comes what g says
-closes : (s : Scope) (c : Doing) (g : Scope → Fault) (cs : List Written) → c.no ≤ no_refusal → ((t : Scope) → g t ≡ fault_from t c.rounded cs)
+closes : (s : Scope) (c : Doing) (g : Scope → Result ℕ Refusal) (cs : List Written) → c.no ≤ no_refusal → ((t : Scope) → g t ≡ fault_from t c.rounded cs)
     → (b : Bool) → c.busy ≡ b → onward g (finished s c) ≡ choose b (within s c [] cs) (fault_from s (rounded_then s c []) cs)
 unfolding figures rounded_of
 closes s c g cs h e true hb =
     finish_is s c g hb h
-    ∙ ap (λ (f : Fault). fault_by (sooner (so_far c) (foremost (of_whole c.place c.letter c.word c.count c.turns c.a c.b (layer_of s)))) f) (e (after_doing s c))
+    ∙ ap (λ (f : Result ℕ Refusal). fault_by (sooner (so_far c) (foremost (of_whole c.place c.letter c.word c.count c.turns c.a c.b (layer_of s)))) f) (e (after_doing s c))
     ∙ sym (no_items s c cs)
 closes s c g cs h e false hb = finish-idle s c g hb ∙ e s ∙ ap (λ (k : ℕ). fault_from s k cs) (sym (add-zero c.rounded))
 
-none_left : (k : ℕ) (t : Scope) → Clear k ≡ fault_from t k []
+none_left : (k : ℕ) (t : Scope) → Ok k ≡ fault_from t k []
 unfolding fault_from
 none_left k t = refl
 
 -- a piece of a command changes only what is said of that command, and how many numbers are rounded
-inner : (b : Bool) (x y f g : Fault) → x ≡ y → f ≡ g → choose b x f ≡ choose b y g
+inner : (b : Bool) (x y f g : Result ℕ Refusal) → x ≡ y → f ≡ g → choose b x f ≡ choose b y g
 inner true x y f g e i = e
 inner false x y f g e i = i
 
@@ -267,7 +266,7 @@ idle-rounded s k ps = ap (λ (j : ℕ). fault_from s j (written ps)) (let e = no
 
 runs_is : (ps : List Piece) (s : Scope) (c : Doing) → c.no ≤ no_refusal → runs ps s c ≡ target ps s c
 unfolding runs items_of stops written fresh counted worded figures
-runs_is [] s c h = closes s c (λ t. Clear c.rounded) [] h (none_left c.rounded) c.busy refl
+runs_is [] s c h = closes s c (λ t. Ok c.rounded) [] h (none_left c.rounded) c.busy refl
 runs_is (First p b ∷ xs) s c h =
     closes s c (λ t. runs xs t (begun p b c.rounded)) (written_at p b xs ∷ written xs) h
     (λ t. runs_is xs t (begun p b c.rounded) (omega arith) ∙ begun_is t p b c.rounded (items_of xs) (stops xs) (written xs)) c.busy refl

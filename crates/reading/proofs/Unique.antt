@@ -4,29 +4,27 @@ use mathlib.Core.Path.{◌≡◌, refl, sym, ◌∙◌, subst}
 use mathlib.Core.List.{List}
 use Prim.Native.Nat.{ℕ}
 use Rattle.grammar.specs.Viable.{Judged}
-use Rattle.grammar.specs.declared.Verdict.{Verdict}
-use Rattle.grammar.specs.declared.Verdict.TheVariants.{InGrammar, StuckAt}
 use Rattle.grammar.proofs.Unique.{one_verdict}
-use Rattle.definition.specs.Rules.{not_in_grammar, refuse}
+use Rattle.definition.specs.Rules.{NotInGrammar, refuse}
 use Rattle.reading.specs.Refusal.{Checked, by_verdict, Refuses}
-use Rattle.checking.specs.declared.Fault.{Fault}
-use Rattle.checking.specs.declared.Fault.TheVariants.{Refused}
+use Rattle.std.specs.Prelude.{Err, Ok, Result}
+use Rattle.definition.specs.declared.Refusal.{Refusal}
 
-pub one_fault : (t : List ℕ) (r s : Fault) → Checked t r → Checked t s → r ≡ s
+pub one_fault : (t : List ℕ) (r s : Result ℕ Refusal) → Checked t r → Checked t s → r ≡ s
 one_fault t r s h k = h.along ∙ sym k.along
 
-by_one : (t : List ℕ) (v : Verdict) → Judged t v → (r s : Fault) → by_verdict t v r → by_verdict t v s → r ≡ s
-by_one t InGrammar g r s h k = h g.0 g.1 ∙ sym (k g.0 g.1)
-by_one t (StuckAt n) g r s h k = h ∙ sym k
+by_one : (t : List ℕ) (v : Result Unit ℕ) → Judged t v → (r s : Result ℕ Refusal) → by_verdict t v r → by_verdict t v s → r ≡ s
+by_one t (Ok tt) g r s h k = h g.0 g.1 ∙ sym (k g.0 g.1)
+by_one t (Err n) g r s h k = h ∙ sym k
 
-pub one_refusal : (t : List ℕ) (r s : Fault) → Refuses t r → Refuses t s → r ≡ s
+pub one_refusal : (t : List ℕ) (r s : Result ℕ Refusal) → Refuses t r → Refuses t s → r ≡ s
 one_refusal t r s h k =
     by_one t h.verdict h.judged r s h.is
-    (subst (λ (v : Verdict). by_verdict t v s) (one_verdict t k.verdict h.verdict k.judged h.judged) k.is)
+    (subst (λ (v : Result Unit ℕ). by_verdict t v s) (one_verdict t k.verdict h.verdict k.judged h.judged) k.is)
 
 -- the two ways through the code
-pub refuses-stuck : (t : List ℕ) (v : Verdict) → Judged t v → (n : ℕ) → v ≡ StuckAt n → Refuses t (Refused (refuse not_in_grammar n))
-refuses-stuck t v j n e = record { verdict = StuckAt n; judged = subst (Judged t) e j; is = refl }
+pub refuses-stuck : (t : List ℕ) (v : Result Unit ℕ) → Judged t v → (n : ℕ) → v ≡ Err n → Refuses t (Err (refuse NotInGrammar n))
+refuses-stuck t v j n e = record { verdict = Err n; judged = subst (Judged t) e j; is = refl }
 
-pub refuses_checked : (t : List ℕ) (v : Verdict) → Judged t v → v ≡ InGrammar → (r : Fault) → by_verdict t InGrammar r → Refuses t r
-refuses_checked t v j e r k = record { verdict = InGrammar; judged = subst (Judged t) e j; is = k }
+pub refuses_checked : (t : List ℕ) (v : Result Unit ℕ) → Judged t v → v ≡ (Ok tt) → (r : Result ℕ Refusal) → by_verdict t (Ok tt) r → Refuses t r
+refuses_checked t v j e r k = record { verdict = (Ok tt); judged = subst (Judged t) e j; is = k }

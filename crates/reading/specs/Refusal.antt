@@ -6,37 +6,34 @@ use Rattle.std.proofs.Math.Option.{Option, none, some}
 use Rattle.grammar.specs.Notation.{Letter}
 use Rattle.grammar.specs.Viable.{Marked, Judged}
 use Rattle.grammar.specs.Steps.{marked}
-use Rattle.grammar.specs.declared.Verdict.{Verdict}
-use Rattle.grammar.specs.declared.Verdict.TheVariants.{InGrammar, StuckAt}
 use Rattle.definition.specs.declared.Refusal.{Refusal}
-use Rattle.definition.specs.Rules.{not_in_grammar, refuse}
+use Rattle.definition.specs.Rules.{NotInGrammar, refuse}
 use Rattle.definition.specs.Commands.{commands}
 use Rattle.definition.specs.Faults.{first_fault}
 use Rattle.definition.specs.Rounded.{rounded}
 use Rattle.checking.specs.Account.{fault_of}
-use Rattle.checking.specs.declared.Fault.{Fault}
-use Rattle.checking.specs.declared.Fault.TheVariants.{Clear, Refused}
+use Rattle.std.specs.Prelude.{Err, Ok, Result}
 
 -- the definition's first of refusals 3 to 9, or else its rounded distances, as the code says it
-abbrev pub fault_said : Option Refusal → (rounded : ℕ) → Fault
-fault_said none k = Clear k
-fault_said (some r) k = Refused r
+abbrev pub fault_said : Option Refusal → (rounded : ℕ) → Result ℕ Refusal
+fault_said none k = Ok k
+fault_said (some r) k = Err r
 
 -- of a text in the grammar, r is the definition's first fault, or else how many of its distances are rounded
-abbrev pub Faulted : List ℕ → Fault → Type 0
+abbrev pub Faulted : List ℕ → Result ℕ Refusal → Type 0
 Faulted t r = (m : List Letter) → Marked t m → r ≡ fault_said (first_fault (commands 0 m)) (rounded (commands 0 m))
 
 -- the contract of `check_by`: the definition's first fault; and on every text, the account of its letters as far as the recogniser goes
-pub record Checked (t : List ℕ) (r : Fault) : Type 0 where
+pub record Checked (t : List ℕ) (r : Result ℕ Refusal) : Type 0 where
   pub is : Faulted t r
   pub along : r ≡ fault_of (marked 0 0 t)
 
 -- the contract of `refusal`: refusals 2 to 9 together
-abbrev pub by_verdict : List ℕ → Verdict → Fault → Type 0
-by_verdict t InGrammar r = Faulted t r
-by_verdict t (StuckAt n) r = r ≡ Refused (refuse not_in_grammar n)
+abbrev pub by_verdict : List ℕ → Result Unit ℕ → Result ℕ Refusal → Type 0
+by_verdict t (Ok tt) r = Faulted t r
+by_verdict t (Err n) r = r ≡ Err (refuse NotInGrammar n)
 
-pub record Refuses (t : List ℕ) (r : Fault) : Type 0 where
-  pub verdict : Verdict
+pub record Refuses (t : List ℕ) (r : Result ℕ Refusal) : Type 0 where
+  pub verdict : Result Unit ℕ
   pub judged : Judged t verdict
   pub is : by_verdict t verdict r

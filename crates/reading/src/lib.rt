@@ -2,31 +2,25 @@
 // on every text of the grammar is proved here.
 #![tactic(auto)]
 
-ghost use Rattle.grammar.specs.Steps.{KindsLent, NextLent};
 ghost use Rattle.reading.specs.Refusal.{Checked, Refuses};
 
-use checking::Fault;
-use definition::Refusal;
+use definition::{Refusal, Rule};
 
 // The first of refusals 3 to 9, if the text is one of the grammar, with the tables lent.
-fn check_by(text: &[u8], kinds: &[u8; 256], next: &[u16; grammar::tables::ENTRY_COUNT]) -> Fault
-    requires { KindsLent kinds.now × NextLent next.now }
+fn check_by(text: &[u8], recogniser: &grammar::Recogniser) -> Result<usize, Refusal>
     ensures { Checked text.now result }
 {
-    checking::checked(text, kinds, next)
+    checking::checked(text, recogniser)
 }
 
 // The first of refusals 2 to 9. The tables are copied once for both passes.
-pub fn refusal(text: &[u8]) -> Fault
+pub fn refusal(text: &[u8]) -> Result<usize, Refusal>
     ensures { Refuses text.now result }
 {
-    let kinds = grammar::tables::KINDS;
-    let next = grammar::tables::NEXT;
-    match grammar::recognised(text, &kinds, &next) {
-        grammar::Verdict::StuckAt(n) => Fault::Refused(Refusal {
-            number: 2,
-            place: n,
-        }),
-        grammar::Verdict::InGrammar => check_by(text, &kinds, &next),
-    }
+    let recogniser = grammar::Recogniser::new();
+    grammar::recognised(text, &recogniser).map_err(|place| Refusal {
+        rule: Rule::NotInGrammar,
+        place,
+    })?;
+    check_by(text, &recogniser)
 }

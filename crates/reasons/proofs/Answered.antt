@@ -14,7 +14,7 @@ use Rattle.grammar.proofs.Markings.{one_marking}
 use Rattle.definition.specs.declared.Refusal.{Refusal}
 use Rattle.definition.specs.Limits.{most_bytes}
 use Rattle.definition.specs.Words.{Placed}
-use Rattle.definition.specs.Rules.{Rule, flat_file_too_long, no_such_shape, number_of, refuse}
+use Rattle.definition.specs.Rules.{Rule, FlatFileTooLong, NoSuchShape, number_of, refuse}
 use Rattle.definition.specs.Commands.{Command, commands}
 use Rattle.definition.specs.Standing.{outside}
 use Rattle.definition.specs.Faults.{first_fault}
@@ -37,13 +37,13 @@ use Rattle.reasons.proofs.Explained.{shapes_explained}
 use Rattle.reasons.proofs.Told.{Through, shapes_through, through-told, through-when, missing_told, zero-told}
 
 pub data Answered (t : List ℕ) (words count : ℕ) : Reason → Type 0 where
-  as_reader : {r : Refusal} {chain : Chain} → ((room : ℕ) → Answers t words room (rejected r chain)) → (r.number ≡ number_of flat_file_too_long → ⊥) → Answered t words count (refuses r chain)
-  no_shape : (f : Through t words) → Missing count (shapes_through f) → Answered t words count (refuses (refuse no_such_shape 0) [])
+  as_reader : {r : Refusal} {chain : Chain} → ((room : ℕ) → Answers t words room (rejected r chain)) → (r.number ≡ number_of FlatFileTooLong → ⊥) → Answered t words count (refuses r chain)
+  no_shape : (f : Through t words) → Missing count (shapes_through f) → Answered t words count (refuses (refuse NoSuchShape 0) [])
   told : (f : Through t words) (d : Drawn) → ListedAt count (shapes_through f) d → Answered t words count (because d)
 
 -- the parts of a refusal
 outcome_in : Reason → Outcome
-outcome_in (because d) = rejected (refuse no_such_shape 0) []
+outcome_in (because d) = rejected (refuse NoSuchShape 0) []
 outcome_in (refuses r chain) = rejected r chain
 
 place_in : Reason → ℕ
@@ -59,7 +59,7 @@ number_in (because d) = 0
 number_in (refuses r chain) = r.number
 
 -- what is refused so for every count is not refused by 18 alone: count 0 would be 26
-not-18 : {t : List ℕ} {words room : ℕ} (r : Refusal) (chain : Chain) → WhyAnswers t words 0 (refuses r chain) → Answers t words room (rejected r chain) → r.number ≡ number_of flat_file_too_long → ⊥
+not-18 : {t : List ℕ} {words room : ℕ} (r : Refusal) (chain : Chain) → WhyAnswers t words 0 (refuses r chain) → Answers t words room (rejected r chain) → r.number ≡ number_of FlatFileTooLong → ⊥
 unfolding given_back failure number_in
 not-18 r chain w a e =
     let f = through-when (rejected r chain) a (inr e) in
@@ -130,10 +130,10 @@ told_explained {d = d} x =
 -- ---- 26
 
 -- the reader never answers 26
-pub never-26 : {t : List ℕ} {words room p : ℕ} {chain : Chain} → Answers t words room (rejected (refuse no_such_shape p) chain) → ⊥
-never-26 {t} {words} {room} {p} {chain} a = go ((refusal no_such_shape p chain).0 a) refl
+pub never-26 : {t : List ℕ} {words room p : ℕ} {chain : Chain} → Answers t words room (rejected (refuse NoSuchShape p) chain) → ⊥
+never-26 {t} {words} {room} {p} {chain} a = go ((refusal NoSuchShape p chain).0 a) refl
   where
-    go : {r : Rule} {q : ℕ} {x : Chain} → Way t words room r q x → no_such_shape ≡ r → ⊥
+    go : {r : Rule} {q : ℕ} {x : Chain} → Way t words room r q x → NoSuchShape ≡ r → ⊥
     go (by_length h) e = omega (arith, ap rank e)
     go (by_grammar h g l) e = omega (arith, ap rank e)
     go (by_command h k b) e = let m = (subst ByCommand (sym e) (rule_ranked b.breaks)).most in omega (arith, m)
@@ -147,22 +147,22 @@ pub record Lacking (t : List ℕ) (words count : ℕ) : Type 0 where  -- the tex
   pub through : Through t words
   pub missing : Missing count (shapes_through through)
 
-pub refused_by_count : {t : List ℕ} {words count p : ℕ} {chain : Chain} → WhyAnswers t words count (refuses (refuse no_such_shape p) chain) ↔ ((p ≡ 0) × (chain ≡ []) × Lacking t words count)
+pub refused_by_count : {t : List ℕ} {words count p : ℕ} {chain : Chain} → WhyAnswers t words count (refuses (refuse NoSuchShape p) chain) ↔ ((p ≡ 0) × (chain ≡ []) × Lacking t words count)
 unfolding outcome_in place_in chain_in
 refused_by_count {t} {words} {count} {p} {chain} = (λ a. there (answered a) refl, back)
   where
-    there : {o : Reason} → Answered t words count o → refuses (refuse no_such_shape p) chain ≡ o → (p ≡ 0) × (chain ≡ []) × Lacking t words count
+    there : {o : Reason} → Answered t words count o → refuses (refuse NoSuchShape p) chain ≡ o → (p ≡ 0) × (chain ≡ []) × Lacking t words count
     there (as_reader f n) e = absurd (never-26 (subst (Answers t words 0) (sym (ap outcome_in e)) (f 0)))
     there (no_shape f m) e = (ap place_in e, ap chain_in e, record { through = f; missing = m })
     there (told f d l) e = let z : ◌≡◌ {A = ℕ} 0 1 = cc in absurd (omega (arith, z))
 
-    back : (p ≡ 0) × (chain ≡ []) × Lacking t words count → WhyAnswers t words count (refuses (refuse no_such_shape p) chain)
+    back : (p ≡ 0) × (chain ≡ []) × Lacking t words count → WhyAnswers t words count (refuses (refuse NoSuchShape p) chain)
     back (e, q, x) =
-        subst (λ (y : ℕ). WhyAnswers t words count (refuses (refuse no_such_shape y) chain)) (sym e)
-        (subst (λ (y : Chain). WhyAnswers t words count (refuses (refuse no_such_shape 0) y)) (sym q) (missing_told count x.through x.missing))
+        subst (λ (y : ℕ). WhyAnswers t words count (refuses (refuse NoSuchShape y) chain)) (sym e)
+        (subst (λ (y : Chain). WhyAnswers t words count (refuses (refuse NoSuchShape 0) y)) (sym q) (missing_told count x.through x.missing))
 
 -- nothing but 26 is new: any other refusal is the reader's, whatever the room
-pub refused_as_reader : {t : List ℕ} {words count : ℕ} {r : Refusal} {chain : Chain} → WhyAnswers t words count (refuses r chain) → (r.number ≡ number_of no_such_shape → ⊥)
+pub refused_as_reader : {t : List ℕ} {words count : ℕ} {r : Refusal} {chain : Chain} → WhyAnswers t words count (refuses r chain) → (r.number ≡ number_of NoSuchShape → ⊥)
     → (room : ℕ) → Answers t words room (rejected r chain)
 unfolding outcome_in number_in
 refused_as_reader {t} {words} {count} {r} {chain} a not = go (answered a) refl

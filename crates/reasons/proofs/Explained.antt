@@ -13,7 +13,7 @@ use lib.IntN.{ℤ}
 use lib.ListN.{length}
 use Rattle.definition.specs.Limits.{most_definitions, deepest}
 use Rattle.definition.specs.Words.{Placed, at, any}
-use Rattle.definition.specs.Rules.{too_many_definitions, off_the_axes, undefined_symbol, being_drawn, too_deep, refuse}
+use Rattle.definition.specs.Rules.{TooManyDefinitions, OffTheAxes, UndefinedSymbol, BeingDrawn, TooDeep, refuse}
 use Rattle.definition.specs.Commands.{Shape, Turn}
 use Rattle.definition.specs.Turns.{moved, off_axes}
 use Rattle.definition.specs.Table.{Step, shape, instance, setting, Definition, Table, find, enter}
@@ -96,12 +96,12 @@ passage_leads : (left : ℕ) (t : Table) (chain : Chain) (n : ℕ) (ts : List (T
 unfolding passage_of passage_to Leading
 passage_leads left t chain n ts = go (off_axes ts) refl (find n t) refl
   where
-    further : (a b : Bool) (d : Definition) → LeadsTo t n ts d → Leading t n ts (if a then barred being_drawn else if b then barred too_deep else leads d)
+    further : (a b : Bool) (d : Definition) → LeadsTo t n ts d → Leading t n ts (if a then barred BeingDrawn else if b then barred TooDeep else leads d)
     further true b d h = tt
     further false true d h = tt
     further false false d h = h
 
-    go : (a : Bool) → off_axes ts ≡ a → (x : Option Definition) → find n t ≡ x → Leading t n ts (if a then barred off_the_axes else passage_to x left chain n)
+    go : (a : Bool) → off_axes ts ≡ a → (x : Option Definition) → find n t ≡ x → Leading t n ts (if a then barred OffTheAxes else passage_to x left chain n)
     go true e x h = tt
     go false e none h = tt
     go false e (some d) h = further (any (λ c. eqb c.what n) chain) (eqb left 0) d (record { upright = e; found = h })
@@ -181,7 +181,7 @@ happens_owed t (output s) ds =
     (step_accounted t [] [] (drawn_call deepest t [] []) (λ q m us. call_accounted deepest t [] [] q m us) s.place s.what)
 happens_owed t (define d) ds = (go (ltb most_definitions (length (enter d t))), tt)
   where
-    go : (b : Bool) → Owed t (define d ∷ ds) (if b then refused (refuse too_many_definitions d.place) [] else entered d t)
+    go : (b : Bool) → Owed t (define d ∷ ds) (if b then refused (refuse TooManyDefinitions d.place) [] else entered d t)
     go true = tt
     go false = tt
 happens_owed t (remove n) ds = (tt, tt)

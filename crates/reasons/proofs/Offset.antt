@@ -14,7 +14,7 @@ use lib.ListN.{length, drop}
 use Rattle.definition.specs.declared.Refusal.{Refusal}
 use Rattle.definition.specs.Limits.{most_calls, most_shapes}
 use Rattle.definition.specs.Words.{none?, first}
-use Rattle.definition.specs.Rules.{too_many_calls, too_many_shapes, refuse}
+use Rattle.definition.specs.Rules.{TooManyCalls, TooManyShapes, refuse}
 use Rattle.definition.specs.Table.{Table, Definition, find}
 use Rattle.definition.specs.Drawing.{Chain, Drawn, Event, called, drew, entered, removed, refused}
 use Rattle.definition.specs.Counts.{Counts, counts, End, finished, stopped, counted, go_on, ending, shapes_of}
@@ -31,11 +31,11 @@ pub record DrawnThere (n : ℕ) (b : Counts) (es : List Event) (d : Drawn) : Typ
   pub parted : es ≡ before ++ drew d ∷ after
   pub earlier : length (shapes_of before) ≡ n
   pub so_far : ending b before ≡ finished reached
-  pub stops-here : counted reached (drew d) ≡ stopped (refuse too_many_shapes d.place) d.chain
+  pub stops-here : counted reached (drew d) ≡ stopped (refuse TooManyShapes d.place) d.chain
 
 -- the counting from b on: it is stopped at the shape that has n before it; or there is none, and it finishes with calls and redefinitions as they were
 pub data Reaches (n : ℕ) (b : Counts) (es : List Event) (last : Counts) : Type 0 where
-  at_shape : (d : Drawn) → numbered (suc n) (shapes_of es) ≡ some d → DrawnThere n b es d → ending b es ≡ stopped (refuse too_many_shapes d.place) d.chain → Reaches n b es last
+  at_shape : (d : Drawn) → numbered (suc n) (shapes_of es) ≡ some d → DrawnThere n b es d → ending b es ≡ stopped (refuse TooManyShapes d.place) d.chain → Reaches n b es last
   past_all : numbered (suc n) (shapes_of es) ≡ none → length (shapes_of es) ≤ n
       → ending b es ≡ finished (counts last.calls (b.shapes + length (shapes_of es)) last.redefinitions) → Reaches n b es last
 
@@ -54,7 +54,7 @@ module _ (c s r : ℕ) (es : List Event) (last : Counts) where
   unfolding ending go_on counted
   call_passes p chain d h = go (ltb c most_calls) refl h
     where
-      go : (b : Bool) → ltb c most_calls ≡ b → go_on (if b then finished (counts (c + 1) s r) else stopped (refuse too_many_calls p) chain) (λ c'. ending c' es) ≡ finished last
+      go : (b : Bool) → ltb c most_calls ≡ b → go_on (if b then finished (counts (c + 1) s r) else stopped (refuse TooManyCalls p) chain) (λ c'. ending c' es) ≡ finished last
           → (c < most_calls) × (ending (counts (c + 1) s r) es ≡ finished last)
       go true e q = (ltb-true c most_calls e, q)
       go false e q = absurd (not_finished q)
@@ -63,7 +63,7 @@ module _ (c s r : ℕ) (es : List Event) (last : Counts) where
   unfolding ending go_on counted
   shape-passes d h = go (ltb s most_shapes) h
     where
-      go : (b : Bool) → go_on (if b then finished (counts c (s + 1) r) else stopped (refuse too_many_shapes d.place) d.chain) (λ c'. ending c' es) ≡ finished last
+      go : (b : Bool) → go_on (if b then finished (counts c (s + 1) r) else stopped (refuse TooManyShapes d.place) d.chain) (λ c'. ending c' es) ≡ finished last
           → ending (counts c (s + 1) r) es ≡ finished last
       go true q = q
       go false q = absurd (not_finished q)
@@ -76,7 +76,7 @@ shape-counted : (c s r : ℕ) (d : Drawn) → s < most_shapes → counted (count
 unfolding counted
 shape-counted c s r d h = rw (lt-ltb s most_shapes h)
 
-shape-stops : (c s r : ℕ) (d : Drawn) → most_shapes ≤ s → counted (counts c s r) (drew d) ≡ stopped (refuse too_many_shapes d.place) d.chain
+shape-stops : (c s r : ℕ) (d : Drawn) → most_shapes ≤ s → counted (counts c s r) (drew d) ≡ stopped (refuse TooManyShapes d.place) d.chain
 unfolding counted
 shape-stops c s r d h = rw (le-ltb s most_shapes h)
 

@@ -14,7 +14,7 @@ use lib.ListN.{length, length-append}
 use Rattle.definition.specs.declared.Refusal.{Refusal}
 use Rattle.definition.specs.Limits.{most_definitions, most_shapes, deepest}
 use Rattle.definition.specs.Words.{Placed, at}
-use Rattle.definition.specs.Rules.{Rule, too_many_definitions, too_few_words, too_few_records, too_many_shapes, refuse}
+use Rattle.definition.specs.Rules.{Rule, TooManyDefinitions, TooFewWords, TooFewRecords, TooManyShapes, refuse}
 use Rattle.definition.specs.Commands.{Shape, Turn}
 use Rattle.definition.specs.Table.{Step, shape, instance, setting, Definition, Table, enter}
 use Rattle.definition.specs.Drawing.{Deed, output, define, remove, Chain, Drawn, Event, called, drew, entered, removed, refused}
@@ -90,7 +90,7 @@ module _ (P : Drawn → Type 0) where
   stacked_keeps n (drew d) h = h
   stacked_keeps n (called p chain d) h = go (leb n (length chain))
     where
-      go : (b : Bool) → OfShape P (if b then refused (refuse too_few_records p) chain else called p chain d)
+      go : (b : Bool) → OfShape P (if b then refused (refuse TooFewRecords p) chain else called p chain d)
       go true = tt
       go false = tt
   stacked_keeps n (entered d before) h = tt
@@ -103,7 +103,7 @@ module _ (P : Drawn → Type 0) where
   held_keeps w (called p chain d) h = tt
   held_keeps w (entered d before) h = go (ltb w (words_in (enter d before)))
     where
-      go : (b : Bool) → OfShape P (if b then refused (refuse too_few_words d.place) [] else entered d before)
+      go : (b : Bool) → OfShape P (if b then refused (refuse TooFewWords d.place) [] else entered d before)
       go true = tt
       go false = tt
   held_keeps w (removed m before) h = tt
@@ -140,7 +140,7 @@ unfolding happens All
 happens-own t (output s) = step_all (λ d. d.chain ≡ [] → d.net ≡ []) (drawn_call deepest t [] []) [] [] (own-shape [] []) (call-own deepest t [] []) s.place s.what
 happens-own t (define d) = go (ltb most_definitions (length (enter d t)))
   where
-    go : (b : Bool) → Own [] [] (if b then refused (refuse too_many_definitions d.place) [] else entered d t) × Unit {0}
+    go : (b : Bool) → Own [] [] (if b then refused (refuse TooManyDefinitions d.place) [] else entered d t) × Unit {0}
     go true = (tt, tt)
     go false = (tt, tt)
 happens-own t (remove n) = (tt, tt)
@@ -176,7 +176,7 @@ drew-chain : (c : Counts) (d : Drawn) {r : Refusal} {chain : Chain} → counted 
 unfolding counted
 drew-chain c d {r} {chain} h = go (ltb c.shapes most_shapes) h
   where
-    go : (b : Bool) → (if b then finished (counts c.calls (c.shapes + 1) c.redefinitions) else stopped (refuse too_many_shapes d.place) d.chain) ≡ stopped r chain → d.chain ≡ chain
+    go : (b : Bool) → (if b then finished (counts c.calls (c.shapes + 1) c.redefinitions) else stopped (refuse TooManyShapes d.place) d.chain) ≡ stopped r chain → d.chain ≡ chain
     go true q = absurd (not_finished (sym q))
     go false q = cc
 

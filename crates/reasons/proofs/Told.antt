@@ -15,7 +15,7 @@ use Rattle.definition.specs.declared.Answer.{Answer}
 use Rattle.definition.specs.declared.Refusal.{Refusal}
 use Rattle.definition.specs.Limits.{most_bytes, most_shapes, deepest}
 use Rattle.definition.specs.Words.{Placed}
-use Rattle.definition.specs.Rules.{Rule, flat_file_too_long, no_such_shape, too_many_shapes, number_of, refuse}
+use Rattle.definition.specs.Rules.{Rule, FlatFileTooLong, NoSuchShape, TooManyShapes, number_of, refuse}
 use Rattle.definition.specs.Commands.{Command, commands}
 use Rattle.definition.specs.Faults.{first_fault}
 use Rattle.definition.specs.Drawing.{Chain, Drawn, Event, drew}
@@ -60,7 +60,7 @@ module _ {t : List ℕ} {words : ℕ} (count : ℕ) where
   through-told f = read-ended f.roles (finished f.last) f.passed f.finishes
 
   -- refused by the reader for anything but 18
-  way_told : {room : ℕ} {r : Rule} {p : ℕ} {chain : Chain} → Way t words room r p chain → (r ≡ flat_file_too_long → ⊥) → WhyAnswers t words count (refuses (refuse r p) chain)
+  way_told : {room : ℕ} {r : Rule} {p : ℕ} {chain : Chain} → Way t words room r p chain → (r ≡ FlatFileTooLong → ⊥) → WhyAnswers t words count (refuses (refuse r p) chain)
   unfolding reason_of reason_from reason_at
   way_told (by_length h) not = too_long h
   way_told (by_grammar h g l) not = not_cif h g l
@@ -68,7 +68,7 @@ module _ {t : List ℕ} {words : ℕ} (count : ℕ) where
   way_told (by_drawing {m} {r} {p} {chain} q e) not = read-ended m (stopped (refuse r p) chain) q e
   way_told (by_flat_file q f l) not = absurd (not refl)
 
-  pub refused_too : {room : ℕ} {r : Refusal} {chain : Chain} → Answers t words room (rejected r chain) → (r.number ≡ number_of flat_file_too_long → ⊥) → WhyAnswers t words count (refuses r chain)
+  pub refused_too : {room : ℕ} {r : Refusal} {chain : Chain} → Answers t words room (rejected r chain) → (r.number ≡ number_of FlatFileTooLong → ⊥) → WhyAnswers t words count (refuses r chain)
   refused_too {room} {r} {chain} a not =
       let (rule, e, w) = refusal-rule a in
       subst (λ (x : Refusal). WhyAnswers t words count (refuses x chain)) (sym e)
@@ -78,14 +78,14 @@ module _ {t : List ℕ} {words : ℕ} (count : ℕ) where
 pub through-accepted : {t : List ℕ} {words room : ℕ} {cs : List (Placed Command)} {c : Counts} {es : List Event} → Answers t words room (accepted cs c es) → Through t words
 through-accepted {c = c} a = let w = acceptance.0 a in record { roles = w.roles; last = c; passed = w.passed; finishes = w.finishes }
 
-way_through : {t : List ℕ} {words room : ℕ} {r : Rule} {p : ℕ} {chain : Chain} → Way t words room r p chain → number_of r ≡ number_of flat_file_too_long → Through t words
-way_through {t} {words} {room} {r} {p} {chain} w e = go (subst (λ (x : Rule). Way t words room x p chain) (one_number r flat_file_too_long e) w)
+way_through : {t : List ℕ} {words room : ℕ} {r : Rule} {p : ℕ} {chain : Chain} → Way t words room r p chain → number_of r ≡ number_of FlatFileTooLong → Through t words
+way_through {t} {words} {room} {r} {p} {chain} w e = go (subst (λ (x : Rule). Way t words room x p chain) (one_number r FlatFileTooLong e) w)
   where
-    go : Way t words room flat_file_too_long p chain → Through t words
-    go x = let f = (refused_by_flat_file.0 (chain, (refusal flat_file_too_long p chain).1 x)).1 in record { roles = f.roles; last = f.finished_with; passed = f.passed; finishes = f.finishes }
+    go : Way t words room FlatFileTooLong p chain → Through t words
+    go x = let f = (refused_by_flat_file.0 (chain, (refusal FlatFileTooLong p chain).1 x)).1 in record { roles = f.roles; last = f.finished_with; passed = f.passed; finishes = f.finishes }
 
 -- the number that the reader gives back tells which: 0 and 18, or another
-pub through-when : {t : List ℕ} {words room : ℕ} (o : Outcome) → Answers t words room o → ((given_back t o).number ≡ 0) ⊎ ((given_back t o).number ≡ number_of flat_file_too_long) → Through t words
+pub through-when : {t : List ℕ} {words room : ℕ} (o : Outcome) → Answers t words room o → ((given_back t o).number ≡ 0) ⊎ ((given_back t o).number ≡ number_of FlatFileTooLong) → Through t words
 unfolding given_back success failure
 through-when (accepted cs c es) a e = through-accepted a
 through-when (rejected r chain) a (inl e) =
@@ -103,7 +103,7 @@ pub record RefusedSo (t : List ℕ) (words count : ℕ) (o : Outcome) : Type 0 w
   pub is : o ≡ rejected why chain
   pub answers : WhyAnswers t words count (refuses why chain)
 
-pub refused-when : {t : List ℕ} {words room : ℕ} (count : ℕ) (o : Outcome) → Answers t words room o → ((given_back t o).number ≡ 0 → ⊥) → ((given_back t o).number ≡ number_of flat_file_too_long → ⊥)
+pub refused-when : {t : List ℕ} {words room : ℕ} (count : ℕ) (o : Outcome) → Answers t words room o → ((given_back t o).number ≡ 0 → ⊥) → ((given_back t o).number ≡ number_of FlatFileTooLong → ⊥)
     → RefusedSo t words count o
 unfolding given_back success failure
 refused-when count (accepted cs c es) a not-0 not-18 = absurd (not-0 refl)
@@ -114,7 +114,7 @@ refused-when count (rejected r chain) a not-0 not-18 = record { why = r; chain =
 pub record FoundThere (t : List ℕ) (words n : ℕ) (b : Counts) (es : List Event) (why : Refusal) (chain : Chain) : Type 0 where
   pub shape : Drawn
   pub stops_at : stop_of b es ≡ some (drew shape)
-  pub refused_so : why ≡ refuse too_many_shapes shape.place
+  pub refused_so : why ≡ refuse TooManyShapes shape.place
   pub chain_is : chain ≡ shape.chain
   pub answers : WhyAnswers t words (suc n) (because shape)
 
@@ -140,20 +140,20 @@ module _ {t : List ℕ} {words : ℕ} (f : Through t words) (n k records : ℕ) 
     where
       go : Reaches n (counts 0 k 0) es f.last → FoundThere t words n (counts 0 k 0) es r chain
       go (at_shape d e there q) =
-          let same : stopped r chain ≡ stopped (refuse too_many_shapes d.place) d.chain = sym h ∙ q in
+          let same : stopped r chain ≡ stopped (refuse TooManyShapes d.place) d.chain = sym h ∙ q in
           record { shape = d; stops_at = stopped_at there; refused_so = cc; chain_is = cc; answers = told_by (some d) e }
       go (past_all e few q) = absurd (not_finished (sym h ∙ q))
 
-  pub none_there : {c : Counts} → ending (counts 0 k 0) es ≡ finished c → WhyAnswers t words (suc n) (refuses (refuse no_such_shape 0) [])
+  pub none_there : {c : Counts} → ending (counts 0 k 0) es ≡ finished c → WhyAnswers t words (suc n) (refuses (refuse NoSuchShape 0) [])
   unfolding reason_found
   none_there {c} h = go reaches
     where
-      go : Reaches n (counts 0 k 0) es f.last → WhyAnswers t words (suc n) (refuses (refuse no_such_shape 0) [])
+      go : Reaches n (counts 0 k 0) es f.last → WhyAnswers t words (suc n) (refuses (refuse NoSuchShape 0) [])
       go (at_shape d e there q) = absurd (not_finished (sym q ∙ h))
       go (past_all e few q) = told_by none e
 
 -- 26 for count 0, and for a count above the shapes; so for every count above 1,048,576
-pub missing_told : {t : List ℕ} {words : ℕ} (count : ℕ) (f : Through t words) → Missing count (shapes_through f) → WhyAnswers t words count (refuses (refuse no_such_shape 0) [])
+pub missing_told : {t : List ℕ} {words : ℕ} (count : ℕ) (f : Through t words) → Missing count (shapes_through f) → WhyAnswers t words count (refuses (refuse NoSuchShape 0) [])
 unfolding reason_found
 missing_told {t} {words} count f h = subst (λ (x : Option Drawn). WhyAnswers t words count (reason_found x)) ((none_when count (shapes_through f)).1 h) (through-told count f)
 
@@ -165,8 +165,8 @@ shapes-few {words = words} f =
     let same = ap length (held-shapes words (drawing_of (commands 0 f.roles))) in
     omega (arith, few, are, same)
 
-pub beyond-told : {t : List ℕ} {words : ℕ} (count : ℕ) → Through t words → most_shapes < count → WhyAnswers t words count (refuses (refuse no_such_shape 0) [])
+pub beyond-told : {t : List ℕ} {words : ℕ} (count : ℕ) → Through t words → most_shapes < count → WhyAnswers t words count (refuses (refuse NoSuchShape 0) [])
 beyond-told count f h = missing_told count f (inr (let few = shapes-few f in omega (arith, few, h)))
 
-pub zero-told : {t : List ℕ} {words : ℕ} → Through t words → WhyAnswers t words 0 (refuses (refuse no_such_shape 0) [])
+pub zero-told : {t : List ℕ} {words : ℕ} → Through t words → WhyAnswers t words 0 (refuses (refuse NoSuchShape 0) [])
 zero-told f = missing_told 0 f (inl refl)

@@ -9,6 +9,7 @@ use Rattle.pieces.specs.Pieces.{letter_s}
 use Rattle.rules.specs.declared.AtScale.{AtScale}
 use Rattle.rules.specs.Written.{one}
 use Rattle.rules.specs.Letters.{letter_b, letter_c, letter_d, letter_p, letter_r, letter_t, letter_w, least_points, no_refusal}
+use Rattle.definition.specs.Rules.{Rule, NumberTooLarge, ZeroFactor, ScaledTooLarge, DegenerateCommand, NoLayer, TooManyParts}
 
 -- a command with the first letter l is a shape
 unfoldable pub shapely : ℕ → Bool
@@ -71,3 +72,13 @@ whole_refusal l w n t a b y =
     else if bare l y then 8
     else if many l n t then 9
     else no_refusal
+
+-- the rule of the lowest refusal that a command meets
+unfoldable pub rule_of : ℕ → Rule
+rule_of n =
+    if eqb n 3 then NumberTooLarge
+    else if eqb n 4 then ZeroFactor
+    else if eqb n 6 then ScaledTooLarge
+    else if eqb n 7 then DegenerateCommand
+    else if eqb n 8 then NoLayer
+    else TooManyParts

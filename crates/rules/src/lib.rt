@@ -6,12 +6,28 @@ ghost use Rattle.std.specs.Prelude.{◌≡◌, not, ◌+◌, ◌*◌, ◌%◌, �
 ghost use Rattle.definition.specs.Standing.{nearest};
 ghost use Rattle.pieces.specs.Pieces.{too_large};
 ghost use Rattle.rules.specs.Written.{one};
-ghost use Rattle.rules.specs.Rules.{shapely, distance, scaled_by, rounded_by, scaled_to, vital, scaleless, few, bare, points_of, many, empty_no, number_refusal, whole_refusal};
+ghost use Rattle.rules.specs.Rules.{shapely, distance, scaled_by, rounded_by, scaled_to, vital, scaleless, few, bare, points_of, many, empty_no, number_refusal, whole_refusal, rule_of};
+
+use definition::Rule;
 
 // RULES 12, refusal 7.
 const LEAST_POINTS: usize = 3;
 // Above the refusals that a command can meet: none.
 pub const NO_REFUSAL: usize = 10;
+
+// The rule of the lowest refusal that a command meets.
+pub fn rule_of(no: usize) -> Rule
+    ensures { result ≡ rule_of no }
+{
+    match no {
+        3 => Rule::NumberTooLarge,
+        4 => Rule::ZeroFactor,
+        6 => Rule::ScaledTooLarge,
+        7 => Rule::DegenerateCommand,
+        8 => Rule::NoLayer,
+        _ => Rule::TooManyParts,
+    }
+}
 
 // The letters of shapes: B, P, R and W.
 pub fn is_shape(letter: u8) -> bool

@@ -14,9 +14,9 @@ use Rattle.laws.proofs.Story.Lean.{Alike, no_more, same, same-call, alike_ending
 use Rattle.pen.specs.Names.{name_of}
 use Rattle.counts.specs.Counting.{tally}
 use Rattle.shapes.specs.declared.Ink.{Ink}
-use Rattle.shapes.specs.declared.Drawn.{Drawn}
-use Rattle.shapes.specs.declared.Drawn.TheVariants.{Done, Refused}
 use Rattle.shapes.specs.Painting.{going_by, until, Goes, Answered, Painted}
+use Rattle.std.specs.Prelude.{Err, Ok, Result}
+use Rattle.definition.specs.declared.Refusal.{Refusal}
 
 -- the events before the first refusal are alike
 alike_until : {a b : List Event} → Alike a b → (c : Tally) → Alike (until c a) (until c b)
@@ -45,12 +45,12 @@ module _ {a b : List Event} (h : Alike a b) (ink : Ink) where
         reached = g.reached;
       }
 
-  alike_answer : (chain : Chain) (r : Drawn) → Answered ink a chain r → Answered ink b chain r
+  alike_answer : (chain : Chain) (r : Result Ink Refusal) → Answered ink a chain r → Answered ink b chain r
   unfolding Answered
-  alike_answer chain (Done ink') g = alike_goes g
-  alike_answer chain (Refused why) g = sym (alike_ending h (tally ink.counts)) ∙ g
+  alike_answer chain (Ok ink') g = alike_goes g
+  alike_answer chain (Err why) g = sym (alike_ending h (tally ink.counts)) ∙ g
 
-  pub alike_painted : {room : List ℕ} {chain : Chain} {r : Drawn} {room' : List ℕ} → Painted ink a room chain r room' → Painted ink b room chain r room'
+  pub alike_painted : {room : List ℕ} {chain : Chain} {r : Result Ink Refusal} {room' : List ℕ} → Painted ink a room chain r room' → Painted ink b room chain r room'
   alike_painted {room} {chain} {r} x = record {
     answer = alike_answer chain r x.answer;
     laid = x.laid ∙ ap (λ (s : List Shown). sets room ink.pen.at (lines (name_of ink.pen.layer) s)) (alike_shapes (alike_until h (tally ink.counts)));

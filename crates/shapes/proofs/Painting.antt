@@ -18,10 +18,9 @@ use Rattle.digits.specs.Writes.{Writes}
 use Rattle.digits.proofs.Writing.{both, written}
 use Rattle.counts.specs.declared.Counts.{Counts}
 use Rattle.shapes.specs.declared.Ink.{Ink}
-use Rattle.shapes.specs.declared.Drawn.{Drawn}
-use Rattle.shapes.specs.declared.Drawn.TheVariants.{Done, Refused}
 use Rattle.counts.specs.Counting.{tally}
 use Rattle.shapes.specs.Painting.{going_by, until, inked, bytes_of, Reached, Goes, Answered, Painted}
+use Rattle.std.specs.Prelude.{Err, Ok, Result}
 
 pub never : (why : Refusal) (chain : Chain) (c : Tally) → stopped why chain ≡ finished c → ⊥
 never why chain c e = let z : ◌≡◌ {A = ℕ} 0 1 = cc in omega arith
@@ -54,7 +53,7 @@ until_all c (x ∷ es) c' e = go (counted c x) (λ d. until_all d es c') e
 -- ---- one after another
 
 -- nothing happens
-pub still : (ink : Ink) (room : List ℕ) {chain : Chain} → Reached ink → Painted ink [] room chain (Done ink) room
+pub still : (ink : Ink) (room : List ℕ) {chain : Chain} → Reached ink → Painted ink [] room chain (Ok ink) room
 unfolding Answered until ending shapes_of lines
 still ink room h = record {
   answer = record { ends = refl; next = sym (add-zero ink.pen.at); on = λ ds. refl; reached = h };
@@ -63,7 +62,7 @@ still ink room h = record {
 
 -- an event that is counted and no shape
 pub quiet : (ink : Ink) (c : Counts) (e : Event) (room : List ℕ) {chain : Chain} → counted (tally ink.counts) e ≡ finished (tally c) → shapes_of (e ∷ []) ≡ [] → Reached (inked c ink.pen)
-    → Painted ink (e ∷ []) room chain (Done (inked c ink.pen)) room
+    → Painted ink (e ∷ []) room chain (Ok (inked c ink.pen)) room
 unfolding Answered until ending lines going_by go_on
 quiet ink c e room h n k = record {
   answer = record {
@@ -77,13 +76,13 @@ quiet ink c e room h n k = record {
 
 -- a refusal, before anything is drawn
 pub refusal : (ink : Ink) (e : Event) (es : List Event) (room : List ℕ) (why : Refusal) (chain : Chain) → counted (tally ink.counts) e ≡ stopped why chain
-    → Painted ink (e ∷ es) room chain (Refused why) room
+    → Painted ink (e ∷ es) room chain (Err why) room
 unfolding Answered until ending going_by go_on shapes_of lines
 refusal ink e es room why chain h = record { answer = rw h; laid = rw h }
 
 module _ {ink : Ink} {a : List Event} {room : List ℕ} {chain : Chain} where
   -- what is refused stays so, whatever would come
-  pub cut : (b : List Event) {why : Refusal} {room' : List ℕ} → Painted ink a room chain (Refused why) room' → Painted ink (a ++ b) room chain (Refused why) room'
+  pub cut : (b : List Event) {why : Refusal} {room' : List ℕ} → Painted ink a room chain (Err why) room' → Painted ink (a ++ b) room chain (Err why) room'
   unfolding Answered
   cut b {why} {room'} x =
       let e = x.answer in
@@ -95,9 +94,9 @@ module _ {ink : Ink} {a : List Event} {room : List ℕ} {chain : Chain} where
             (sym (append-nil (until (tally ink.counts) a)) ∙ sym (until-++ (tally ink.counts) a b ∙ (ap (λ (y : End). until (tally ink.counts) a ++ further y b) e ∙ (unfold further in refl))));
       }
 
-  module _ {ink' : Ink} {room' : List ℕ} (x : Painted ink a room chain (Done ink') room') where
+  module _ {ink' : Ink} {room' : List ℕ} (x : Painted ink a room chain (Ok ink') room') where
     -- what is done is so whatever calls a refusal would be told with
-    pub for_any : {other : Chain} → Painted ink a room other (Done ink') room'
+    pub for_any : {other : Chain} → Painted ink a room other (Ok ink') room'
     unfolding Answered
     for_any = record { answer = x.answer; laid = x.laid }
 
@@ -143,12 +142,12 @@ module _ {ink : Ink} {a : List Event} {room : List ℕ} {chain : Chain} where
           reached = g.reached;
         }
 
-    answer_then : (b : List Event) (open_calls : Chain) (r : Drawn) → Answered ink' b open_calls r → Answered ink (a ++ b) open_calls r
+    answer_then : (b : List Event) (open_calls : Chain) (r : Result Ink Refusal) → Answered ink' b open_calls r → Answered ink (a ++ b) open_calls r
     unfolding Answered
-    answer_then b open_calls (Done ink'') g = goes_then b g
-    answer_then b open_calls (Refused why) g = ends_then b ∙ g
+    answer_then b open_calls (Ok ink'') g = goes_then b g
+    answer_then b open_calls (Err why) g = ends_then b ∙ g
 
-    pub next_drawn : (b : List Event) {open_calls : Chain} {r : Drawn} {room'' : List ℕ} → Painted ink' b room' open_calls r room'' → Painted ink (a ++ b) room open_calls r room''
+    pub next_drawn : (b : List Event) {open_calls : Chain} {r : Result Ink Refusal} {room'' : List ℕ} → Painted ink' b room' open_calls r room'' → Painted ink (a ++ b) room open_calls r room''
     next_drawn b {open_calls} {r} y = record { answer = answer_then b open_calls r y.answer; laid = laid_both b y.laid }
 
 -- ---- a loop that draws: what is to be drawn in all, and what of it is left. Nothing is refused yet, so that the calls of a refusal are told as none
@@ -156,7 +155,7 @@ module _ {ink : Ink} {a : List Event} {room : List ℕ} {chain : Chain} where
 pub record PaintedSoFar (all : List Event) (ink₀ : Ink) (room₀ : List ℕ) (left : List Event) (ink : Ink) (room : List ℕ) : Type 0 where
   pub done : List Event
   pub parts : done ++ left ≡ all
-  pub drawn : Painted ink₀ done room₀ [] (Done ink) room
+  pub drawn : Painted ink₀ done room₀ [] (Ok ink) room
 
 pub begun : (all : List Event) (ink : Ink) (room : List ℕ) → Reached ink → PaintedSoFar all ink room all ink room
 begun all ink room h = record { done = []; parts = refl; drawn = still ink room h }
@@ -172,7 +171,7 @@ module _ {all : List Event} {ink₀ : Ink} {room₀ : List ℕ} {left : List Eve
   parts_then : (now rest : List Event) → left ≡ now ++ rest → (g.done ++ now) ++ rest ≡ all
   parts_then now rest e = append_assoc g.done now rest ∙ (ap (λ (l : List Event). g.done ++ l) (sym e) ∙ g.parts)
 
-  pub goes_on : (now rest : List Event) → left ≡ now ++ rest → {chain : Chain} {ink' : Ink} {room' : List ℕ} → Painted ink now room chain (Done ink') room'
+  pub goes_on : (now rest : List Event) → left ≡ now ++ rest → {chain : Chain} {ink' : Ink} {room' : List ℕ} → Painted ink now room chain (Ok ink') room'
       → PaintedSoFar all ink₀ room₀ rest ink' room'
   goes_on now rest e x = record { done = g.done ++ now; parts = parts_then now rest e; drawn = next_drawn g.drawn now (for_any x) }
 
@@ -180,12 +179,12 @@ module _ {all : List Event} {ink₀ : Ink} {room₀ : List ℕ} {left : List Eve
   pub skips : (rest : List Event) → left ≡ rest → PaintedSoFar all ink₀ room₀ rest ink room
   skips rest e = subst (λ (l : List Event). PaintedSoFar all ink₀ room₀ l ink room) e g
 
-  pub stops : (now rest : List Event) → left ≡ now ++ rest → {chain : Chain} {why : Refusal} {room' : List ℕ} → Painted ink now room chain (Refused why) room'
-      → Painted ink₀ all room₀ chain (Refused why) room'
+  pub stops : (now rest : List Event) → left ≡ now ++ rest → {chain : Chain} {why : Refusal} {room' : List ℕ} → Painted ink now room chain (Err why) room'
+      → Painted ink₀ all room₀ chain (Err why) room'
   stops now rest e {chain} {why} {room'} x =
-      subst (λ (l : List Event). Painted ink₀ l room₀ chain (Refused why) room') (parts_then now rest e) (cut rest (next_drawn g.drawn now x))
+      subst (λ (l : List Event). Painted ink₀ l room₀ chain (Err why) room') (parts_then now rest e) (cut rest (next_drawn g.drawn now x))
 
-  pub over : left ≡ [] → {chain : Chain} → Painted ink₀ all room₀ chain (Done ink) room
+  pub over : left ≡ [] → {chain : Chain} → Painted ink₀ all room₀ chain (Ok ink) room
   over e {chain} =
-      subst (λ (l : List Event). Painted ink₀ l room₀ chain (Done ink) room)
+      subst (λ (l : List Event). Painted ink₀ l room₀ chain (Ok ink) room)
       (sym (append-nil g.done) ∙ (ap (λ (l : List Event). g.done ++ l) (sym e) ∙ g.parts)) (for_any g.drawn)

@@ -23,16 +23,15 @@ use Rattle.pen.specs.Lines.{layer_line}
 use Rattle.pen.proofs.Lines.{Handed, shape-said, layer-line-length}
 use Rattle.moves.proofs.Shapes.{placed-moved, part_placed}
 use Rattle.counts.specs.declared.Counts.{Counts}
-use Rattle.counts.specs.declared.Counted.{Counted}
-use Rattle.counts.specs.declared.Counted.TheVariants.{More, Full}
 use Rattle.counts.specs.Counting.{tally, CountsShape}
 use Rattle.counts.proofs.ByValue.{shape-goes, shape-stops, shape-more}
 use Rattle.shapes.specs.declared.Pen.{Pen}
 use Rattle.shapes.specs.declared.Ink.{Ink}
-use Rattle.shapes.specs.declared.Drawn.TheVariants.{Done, Refused}
 use Rattle.moves.specs.Moves.{most_values, ShapedAt, Judges, MovesShape}
 use Rattle.shapes.specs.Painting.{going_by, until, inked, Reached, Answered, Painted}
 use Rattle.shapes.proofs.Painting.{refusal}
+use Rattle.std.specs.Prelude.{Err, Ok, Result}
+use Rattle.definition.specs.declared.Rule.{Rule}
 
 module _ {words : List ℤ} {letter end : ℕ} (h : ShapedAt words letter end) (chain : Chain) (ts : List (Turn ℤ)) (net : Net) (carries : Carries ts net) (p : ℕ) (layer : ℕ) where
   abbrev k : Shape ℤ
@@ -64,24 +63,24 @@ module _ {words : List ℤ} {letter end : ℕ} (h : ShapedAt words letter end) (
     is_near x y = rw (sym judges.xs ∙ x, sym judges.ys ∙ y)
 
     module _ (ink : Ink) (room : List ℕ) where
-      shape-refused : (e : Event) (n : ℕ) → event ≡ e → counted (tally ink.counts) e ≡ stopped (refusing n) chain → Painted ink (event ∷ []) room chain (Refused (refusing n)) room
-      shape-refused e n is h = subst (λ (x : Event). Painted ink (x ∷ []) room chain (Refused (refusing n)) room) (sym is) (refusal ink e [] room (refusing n) chain h)
+      shape-refused : (e : Event) (n : ℕ) → event ≡ e → counted (tally ink.counts) e ≡ stopped (refusing n) chain → Painted ink (event ∷ []) room chain (Err (refusing n)) room
+      shape-refused e n is h = subst (λ (x : Event). Painted ink (x ∷ []) room chain (Err (refusing n)) room) (sym is) (refusal ink e [] room (refusing n) chain h)
 
-      pub shape_far_x : far.x ≡ true → Painted ink (event ∷ []) room chain (Refused (refusing 16)) room
+      pub shape_far_x : far.x ≡ true → Painted ink (event ∷ []) room chain (Err (refusing 16)) room
       shape_far_x x = shape-refused (refused (refusing 16) chain) 16 (is_far_x x) (unfold counted in refl)
 
-      pub shape_far_y : far.x ≡ false → far.y ≡ true → Painted ink (event ∷ []) room chain (Refused (refusing 20)) room
+      pub shape_far_y : far.x ≡ false → far.y ≡ true → Painted ink (event ∷ []) room chain (Err (refusing 20)) room
       shape_far_y x y = shape-refused (refused (refusing 20) chain) 20 (is_far_y x y) (unfold counted in refl)
 
-      pub shape-many : far.x ≡ false → far.y ≡ false → {a : Counted} → CountsShape ink.counts a → (n : ℕ) → a ≡ Full n
-          → Painted ink (event ∷ []) room chain (Refused (refusing n)) room
+      pub shape-many : far.x ≡ false → far.y ≡ false → {a : Result Counts Rule} → CountsShape ink.counts a → (n : ℕ) → a ≡ Err n
+          → Painted ink (event ∷ []) room chain (Err (refusing n)) room
       shape-many x y count n q = shape-refused (drew shown) n (is_near x y) (shape-stops ink.counts count n q shown)
 
     -- the numbers that are written
     pub part_is : end ≤ length numbers → take (end - 2) (drop 2 numbers') ≡ numbers_of_shape (moved ts k)
     part_is l = part_placed h net m l ∙ ap (λ (x : Shape ℤ). numbers_of_shape x) (placed-moved ts net carries k)
 
-    module _ (ink : Ink) (near-x : far.x ≡ false) (near-y : far.y ≡ false) {a : Counted} (count : CountsShape ink.counts a) (more : Counts) (q : a ≡ More more) (reach : Reached ink)
+    module _ (ink : Ink) (near-x : far.x ≡ false) (near-y : far.y ≡ false) {a : Result Counts Rule} (count : CountsShape ink.counts a) (more : Counts) (q : a ≡ Ok more) (reach : Reached ink)
         {room₀ room₁ room₂ : List ℕ} {next last : ℕ} {ns : List ℤ}
         (are : ns ≡ numbers_of_shape (moved ts k)) (w₁ : Writes room₀ room₁ ink.pen.at next (layer_line (name_of ink.pen.layer) (name_of layer)))
         (w₂ : Writes room₁ room₂ next last (line letter (spaced ns))) (short : last ≤ next + 21 * length ns + 3) (size : length ns ≤ most_values) where
@@ -110,7 +109,7 @@ module _ {words : List ℤ} {letter end : ℕ} (h : ShapedAt words letter end) (
       unfolding lines
       said_so = append-nil (said (name_of ink.pen.layer) shown)
 
-      drew-painted : Painted ink (drew shown ∷ []) room₀ chain (Done (inked more pen')) room₂
+      drew-painted : Painted ink (drew shown ∷ []) room₀ chain (Ok (inked more pen')) room₂
       unfolding Answered ending go_on shapes_of until going_by lines
       drew-painted = record {
         answer = record {
@@ -122,5 +121,5 @@ module _ {words : List ℤ} {letter end : ℕ} (h : ShapedAt words letter end) (
         laid = both-written.laid ∙ (ap (sets room₀ ink.pen.at) (sym said_so) ∙ rw (shape-goes ink.counts count more q shown));
       }
 
-      pub shape-near : Painted ink (event ∷ []) room₀ chain (Done (inked more pen')) room₂
-      shape-near = subst (λ (x : Event). Painted ink (x ∷ []) room₀ chain (Done (inked more pen')) room₂) (sym (is_near near-x near-y)) drew-painted
+      pub shape-near : Painted ink (event ∷ []) room₀ chain (Ok (inked more pen')) room₂
+      shape-near = subst (λ (x : Event). Painted ink (x ∷ []) room₀ chain (Ok (inked more pen')) room₂) (sym (is_near near-x near-y)) drew-painted

@@ -21,10 +21,9 @@ use Rattle.pen.proofs.Names.{name-same, same_refl}
 use Rattle.counts.specs.declared.Counts.{Counts}
 use Rattle.counts.specs.Counting.{tally}
 use Rattle.shapes.specs.declared.Ink.{Ink}
-use Rattle.shapes.specs.declared.Drawn.{Drawn}
-use Rattle.shapes.specs.declared.Drawn.TheVariants.{Done, Refused}
 use Rattle.shapes.specs.Painting.{inked, Goes, Answered, Painted}
 use Rattle.shapes.proofs.Painting.{never}
+use Rattle.std.specs.Prelude.{Err, Ok, Result}
 
 -- ---- the last layer
 
@@ -60,19 +59,19 @@ goes_once {ink} {es} {a} {b} x y =
     let layer : a.pen.layer ≡ b.pen.layer = name-same a.pen.layer b.pen.layer (layer-told (name_of a.pen.layer) (name_of b.pen.layer) names-so) in
     λ i. inked (counts i) (record { at = place i; layer = layer i })
 
-answered_once : (ink : Ink) (es : List Event) (chain open_calls : Chain) (r s : Drawn) → Answered ink es chain r → Answered ink es open_calls s → r ≡ s
+answered_once : (ink : Ink) (es : List Event) (chain open_calls : Chain) (r s : Result Ink Refusal) → Answered ink es chain r → Answered ink es open_calls s → r ≡ s
 unfolding Answered
-answered_once ink es chain open_calls (Done a) (Done b) x y = ap Done (goes_once x y)
-answered_once ink es chain open_calls (Done a) (Refused why) x y = absurd (never why open_calls (tally a.counts) (sym y ∙ x.ends))
-answered_once ink es chain open_calls (Refused why) (Done b) x y = absurd (never why chain (tally b.counts) (sym x ∙ y.ends))
-answered_once ink es chain open_calls (Refused why) (Refused other) x y = let e : stopped why chain ≡ stopped other open_calls = sym x ∙ y in cc
+answered_once ink es chain open_calls (Ok a) (Ok b) x y = ap Ok (goes_once x y)
+answered_once ink es chain open_calls (Ok a) (Err why) x y = absurd (never why open_calls (tally a.counts) (sym y ∙ x.ends))
+answered_once ink es chain open_calls (Err why) (Ok b) x y = absurd (never why chain (tally b.counts) (sym x ∙ y.ends))
+answered_once ink es chain open_calls (Err why) (Err other) x y = let e : stopped why chain ≡ stopped other open_calls = sym x ∙ y in cc
 
 module _ {ink : Ink} {es : List Event} {room : List ℕ} {chain open_calls : Chain} where
-  pub painted_once : {r s : Drawn} {room' room'' : List ℕ} → Painted ink es room chain r room' → Painted ink es room open_calls s room'' → (r ≡ s) × (room' ≡ room'')
+  pub painted_once : {r s : Result Ink Refusal} {room' room'' : List ℕ} → Painted ink es room chain r room' → Painted ink es room open_calls s room'' → (r ≡ s) × (room' ≡ room'')
   painted_once {r} {s} x y = (answered_once ink es chain open_calls r s x.answer y.answer, x.laid ∙ sym y.laid)
 
   -- and the calls that are open where it is refused
-  pub chain_once : {why other : Refusal} {room' room'' : List ℕ} → Painted ink es room chain (Refused why) room' → Painted ink es room open_calls (Refused other) room''
+  pub chain_once : {why other : Refusal} {room' room'' : List ℕ} → Painted ink es room chain (Err why) room' → Painted ink es room open_calls (Err other) room''
       → chain ≡ open_calls
   unfolding Answered
   chain_once {why} {other} x y = let e : stopped why chain ≡ stopped other open_calls = sym x.answer ∙ y.answer in cc

@@ -17,8 +17,8 @@ use Rattle.counts.specs.declared.Counts.{Counts}
 use Rattle.counts.specs.Counting.{tally}
 use Rattle.shapes.specs.declared.Pen.{Pen}
 use Rattle.shapes.specs.declared.Ink.{Ink}
-use Rattle.shapes.specs.declared.Drawn.{Drawn}
-use Rattle.shapes.specs.declared.Drawn.TheVariants.{Done, Refused}
+use Rattle.std.specs.Prelude.{Err, Ok, Result}
+use Rattle.definition.specs.declared.Refusal.{Refusal}
 
 -- the events before the first that is refused
 unfoldable pub going_by : End → Event → (Tally → List Event) → List Event
@@ -54,16 +54,16 @@ pub record Goes (ink : Ink) (es : List Event) (ink' : Ink) : Type 0 where
   pub reached : Reached ink'
 
 -- where one of them is refused, these calls are open
-unfoldable pub Answered : Ink → List Event → Chain → Drawn → Type 0
-Answered ink es chain (Done ink') = Goes ink es ink'
-Answered ink es chain (Refused why) = ending (tally ink.counts) es ≡ stopped why chain
+unfoldable pub Answered : Ink → List Event → Chain → Result Ink Refusal → Type 0
+Answered ink es chain (Ok ink') = Goes ink es ink'
+Answered ink es chain (Err why) = ending (tally ink.counts) es ≡ stopped why chain
 
 -- the contract of every function that draws
-pub record Painted (ink : Ink) (es : List Event) (room : List ℕ) (chain : Chain) (r : Drawn) (room' : List ℕ) : Type 0 where
+pub record Painted (ink : Ink) (es : List Event) (room : List ℕ) (chain : Chain) (r : Result Ink Refusal) (room' : List ℕ) : Type 0 where
   pub answer : Answered ink es chain r
   pub laid : room' ≡ sets room ink.pen.at (bytes_of ink es)
 
 -- the contract of `draw_shape`, whatever calls are open, and for every list that does what the net transformation does
-abbrev pub ShapeDraws : (words : List ℤ) (letter end : ℕ) (net : Net) (layer place : ℕ) → Ink → List ℕ → Drawn → List ℕ → Type 0
+abbrev pub ShapeDraws : (words : List ℤ) (letter end : ℕ) (net : Net) (layer place : ℕ) → Ink → List ℕ → Result Ink Refusal → List ℕ → Type 0
 ShapeDraws words letter end net layer place ink room r room' =
     (h : ShapedAt words letter end) (chain : Chain) (ts : List (Turn ℤ)) → Carries ts net → Painted ink (drawn_shape chain ts place (name_of layer) h.shape ∷ []) room chain r room'

@@ -6,6 +6,8 @@ ghost use Rattle.turns.specs.Nets.{Near};
 ghost use Rattle.moves.specs.Moves.{ShapedAt};
 ghost use Rattle.shapes.specs.Painting.{Reached, ShapeDraws};
 
+use definition::{Refusal, Rule};
+
 // Where the next byte of the flat file goes, and the layer of the last shape written, packed, 0 for none.
 #[derive(Clone, Copy)]
 pub struct Pen {
@@ -20,14 +22,8 @@ pub struct Ink {
     pub pen: Pen,
 }
 
-// What a function that draws answers: the ink afterwards, or a refusal.
-#[derive(Clone, Copy)]
-pub enum Drawn {
-    Done(Ink),
-    Refused(definition::Refusal),
-}
-
-// One shape (refusals 16, 20 and 17): an L line, if its layer is not the last one's, and its own line.
+// One shape (refusals 16, 20 and 17): an L line, if its layer is not the last one's, and its own line. What a function that draws answers: the ink
+// afterwards, or a refusal.
 pub fn draw_shape(
     words: &[i32],
     numbers: &mut [i64],
@@ -38,34 +34,32 @@ pub fn draw_shape(
     layer: u32,
     place: usize,
     ink: Ink,
-) -> Drawn
+) -> Result<Ink, Refusal>
     requires shaped_at { ShapedAt words.now letter end × (end ≤ length numbers.old) }
     requires near { Near (2 ^ 61) net × Reached ink }
     ensures { ShapeDraws words.now letter end net layer place ink room.old result room.new }
 {
     let far = moves::move_shape(words, numbers, letter, end, net);
     if far.x {
-        return Drawn::Refused(definition::Refusal { number: 16, place });
+        return Err(Refusal {
+            rule: Rule::XOutOfRange,
+            place,
+        });
     }
     if far.y {
-        return Drawn::Refused(definition::Refusal { number: 20, place });
+        return Err(Refusal {
+            rule: Rule::YOutOfRange,
+            place,
+        });
     }
-    let had = ink.counts;
-    match counts::count_shape(had) {
-        counts::Counted::Full(number) => {
-            return Drawn::Refused(definition::Refusal { number, place });
-        }
-        counts::Counted::More(drawn) => {
-            let before = ink.pen;
-            let next = pen::put_layer_line(room, before.at, before.layer, layer);
-            let last = pen::put_line(room, next, letter, &numbers[2..end]);
-            let after = Pen { at: last, layer };
-            Drawn::Done(Ink {
-                counts: drawn,
-                pen: after,
-            })
-        }
-    }
+    let drawn = counts::count_shape(ink.counts).map_err(|rule| Refusal { rule, place })?;
+    let before = ink.pen;
+    let next = pen::put_layer_line(room, before.at, before.layer, layer);
+    let last = pen::put_line(room, next, letter, &numbers[2..end]);
+    Ok(Ink {
+        counts: drawn,
+        pen: Pen { at: last, layer },
+    })
 }
 
 // A symbol's number and a scale have no sign.

@@ -17,7 +17,7 @@ use Rattle.definition.specs.declared.Answer.{Answer}
 use Rattle.definition.specs.declared.Refusal.{Refusal}
 use Rattle.definition.specs.Limits.{most_bytes, deepest}
 use Rattle.definition.specs.Words.{Placed}
-use Rattle.definition.specs.Rules.{Rule, not_in_grammar, too_few_records, number_of, refuse}
+use Rattle.definition.specs.Rules.{Rule, NotInGrammar, TooFewRecords, number_of, refuse}
 use Rattle.definition.specs.Commands.{Turn, Command, commands}
 use Rattle.definition.specs.Faults.{first_fault}
 use Rattle.definition.specs.Table.{Table}
@@ -42,7 +42,7 @@ unique_with (too_long h) (too_long k) = refl
 unique_with (too_long h) (not_cif k g l) = absurd (omega arith)
 unique_with (too_long h) (read k m) = absurd (omega arith)
 unique_with (not_cif h g l) (too_long k) = absurd (omega arith)
-unique_with (not_cif h g l) (not_cif k e m) = ap (λ (n : ℕ). rejected (refuse not_in_grammar n) []) (one_length l m)
+unique_with (not_cif h g l) (not_cif k e m) = ap (λ (n : ℕ). rejected (refuse NotInGrammar n) []) (one_length l m)
 unique_with (not_cif h g l) (read {m} k e) = absurd (g (m, e))
 unique_with (read h m) (too_long k) = absurd (omega arith)
 unique_with (read {m} h e) (not_cif k g l) = absurd (g (m, e))
@@ -103,7 +103,7 @@ pub record TooFewLent (t : List ℕ) (words records p : ℕ) (chain : Chain) : T
 -- what comes of a text is what comes of it without records, or 21
 pub data WithRecords (t : List ℕ) (words records room : ℕ) (o : Outcome) : Type 0 where
   the_same : Answers t words room o → WithRecords t words records room o
-  refused-21 : (p : ℕ) (chain : Chain) → o ≡ rejected (refuse too_few_records p) chain → TooFewLent t words records p chain → WithRecords t words records room o
+  refused-21 : (p : ℕ) (chain : Chain) → o ≡ rejected (refuse TooFewRecords p) chain → TooFewLent t words records p chain → WithRecords t words records room o
 
 module _ {t : List ℕ} (words records room : ℕ) {m : List Letter} (h : length t ≤ most_bytes) (k : Marked t m) where
   abbrev cs : List (Placed Command)
@@ -132,7 +132,7 @@ with_records (not_cif h g l) = the_same (Answer.not_cif h g l)
 with_records {t} {words} {records} {room} (read {m} h k) = by_reading words records room h k
 
 -- no rule of the first engine (RULES 12) is 21
-never_broken : {words : ℕ} {c : Counts} {t : Table} {chain : Chain} {net : List (Turn ℤ)} {a : Act} {r : Rule} → Broken words c t chain net a r → r ≡ too_few_records → ⊥
+never_broken : {words : ℕ} {c : Counts} {t : Table} {chain : Chain} {net : List (Turn ℤ)} {a : Act} {r : Rule} → Broken words c t chain net a r → r ≡ TooFewRecords → ⊥
 never_broken (live x) e = let n = ap number_of e in omega (arith, n)
 never_broken (few_words x) e = let n = ap number_of e in omega (arith, n)
 never_broken (off_axes_lem x) e = let n = ap number_of e in omega (arith, n)
@@ -145,14 +145,14 @@ never_broken (far_y x) e = let n = ap number_of e in omega (arith, n)
 never_broken (many-shapes x) e = let n = ap number_of e in omega (arith, n)
 
 -- the reader never answers 21
-pub never-21 : {t : List ℕ} {words room p : ℕ} {chain : Chain} → Answers t words room (rejected (refuse too_few_records p) chain) → ⊥
+pub never-21 : {t : List ℕ} {words room p : ℕ} {chain : Chain} → Answers t words room (rejected (refuse TooFewRecords p) chain) → ⊥
 never-21 {t} {words} {room} {p} {chain} a =
-    let s = (refused_by_drawing {r = too_few_records} (record { least = omega arith; most = omega arith })).0 a in
+    let s = (refused_by_drawing {r = TooFewRecords} (record { least = omega arith; most = omega arith })).0 a in
     never_broken s.stops.foremost.breaks refl
 
 -- RULES 12, request 7: 21, with its chain, at the first call that needs one record more than lent, and nowhere else
 pub refused_by_records : {t : List ℕ} {words records room p : ℕ} {chain : Chain}
-    → AnswersWith t words records room (rejected (refuse too_few_records p) chain) ↔ TooFewLent t words records p chain
+    → AnswersWith t words records room (rejected (refuse TooFewRecords p) chain) ↔ TooFewLent t words records p chain
 unfolding outcome_with drawn_with fitted
 refused_by_records {t} {words} {records} {room} {p} {chain} = (there, back)
   where
@@ -164,7 +164,7 @@ refused_by_records {t} {words} {records} {room} {p} {chain} = (there, back)
     chain_of (rejected r x) = x
     chain_of (accepted _ _ _) = []
 
-    by_case : WithRecords t words records room (rejected (refuse too_few_records p) chain) → TooFewLent t words records p chain
+    by_case : WithRecords t words records room (rejected (refuse TooFewRecords p) chain) → TooFewLent t words records p chain
     by_case (the_same a) = absurd (never-21 a)
     by_case (refused-21 q l e f) = record {
       roles = f.roles;
@@ -174,15 +174,15 @@ refused_by_records {t} {words} {records} {room} {p} {chain} = (there, back)
       chain_is = f.chain_is ∙ sym (ap chain_of e);
     }
 
-    there : AnswersWith t words records room (rejected (refuse too_few_records p) chain) → TooFewLent t words records p chain
+    there : AnswersWith t words records room (rejected (refuse TooFewRecords p) chain) → TooFewLent t words records p chain
     there a = by_case (with_records a)
 
-    back : TooFewLent t words records p chain → AnswersWith t words records room (rejected (refuse too_few_records p) chain)
+    back : TooFewLent t words records p chain → AnswersWith t words records room (rejected (refuse TooFewRecords p) chain)
     back f =
         let cs = commands 0 f.roles in
-        let stops : ending (counts 0 0 0) (stacked_drawing words records cs) ≡ stopped (refuse too_few_records p) chain =
-        lacking_stops records (counts 0 0 0) (held_drawing words cs) f.lacking ∙ ap (λ (q : ℕ). stopped (refuse too_few_records q) f.lacking.chain) f.place_is
-        ∙ ap (stopped (refuse too_few_records p)) f.chain_is in
+        let stops : ending (counts 0 0 0) (stacked_drawing words records cs) ≡ stopped (refuse TooFewRecords p) chain =
+        lacking_stops records (counts 0 0 0) (held_drawing words cs) f.lacking ∙ ap (λ (q : ℕ). stopped (refuse TooFewRecords q) f.lacking.chain) f.place_is
+        ∙ ap (stopped (refuse TooFewRecords p)) f.chain_is in
         subst (AnswersWith t words records room)
         (ap (λ (y : Option Refusal). drawn_with y cs words records room) ((no_first-fault f.passed.marked).1 f.passed.unbroken)
         ∙ ap (λ (e : End). fitted e cs (drawing_of cs) room) stops)

@@ -9,7 +9,7 @@ use native.Mathlib.Omega.{arith}
 use borrow.Author.Tests.{le-leb, leb-true, leb-false}
 use lib.Dec.{leb}
 use lib.ListN.{length}
-use Rattle.definition.specs.Rules.{too_few_records, refuse}
+use Rattle.definition.specs.Rules.{TooFewRecords, refuse}
 use Rattle.definition.specs.Table.{Definition}
 use Rattle.definition.specs.Drawing.{Chain, Event, called, drew, entered, removed, refused}
 use Rattle.definition.specs.Counts.{Counts, End, finished, stopped, counted, go_on, ending}
@@ -32,14 +32,14 @@ pub record Lacks (records : ℕ) (c : Counts) (es : List Event) : Type 0 where
   pub counted_so_far : ending c before ≡ finished reached
   pub one_more : records ≤ length chain
 
-pub lacking_stops : (records : ℕ) (c : Counts) (es : List Event) (f : Lacks records c es) → ending c (map (stacked_to records) es) ≡ stopped (refuse too_few_records f.place) f.chain
+pub lacking_stops : (records : ℕ) (c : Counts) (es : List Event) (f : Lacks records c es) → ending c (map (stacked_to records) es) ≡ stopped (refuse TooFewRecords f.place) f.chain
 unfolding stacked_to ending go_on counted
 lacking_stops records c es f =
     let after = map (stacked_to records) f.after in
-    let here = refused (refuse too_few_records f.place) f.chain ∷ after in
+    let here = refused (refuse TooFewRecords f.place) f.chain ∷ after in
     ap (λ (x : List Event). ending c (map (stacked_to records) x)) f.parted
     ∙ ap (ending c) (map-append (stacked_to records) f.before (called f.place f.chain f.found ∷ f.after))
-    ∙ ap₂ {C = End} (λ (x : List Event) (b : Bool). ending c (x ++ (if b then refused (refuse too_few_records f.place) f.chain else called f.place f.chain f.found) ∷ after))
+    ∙ ap₂ {C = End} (λ (x : List Event) (b : Bool). ending c (x ++ (if b then refused (refuse TooFewRecords f.place) f.chain else called f.place f.chain f.found) ∷ after))
     (stacked_all records f.before f.enough-before) (le-leb records (length f.chain) f.one_more)
     ∙ ending-++ c f.before here
     ∙ ap (λ (x : End). go_on x (λ c'. ending c' here)) f.counted_so_far
@@ -47,7 +47,7 @@ lacking_stops records c es f =
 -- how it ends: as it did, where no such call is come to; or by 21 at that call
 pub data EndsStacked (records : ℕ) (c : Counts) (es : List Event) : End → Type 0 where
   as_before : (Lacks records c es → ⊥) → EndsStacked records c es (ending c es)
-  by_records : (f : Lacks records c es) → EndsStacked records c es (stopped (refuse too_few_records f.place) f.chain)
+  by_records : (f : Lacks records c es) → EndsStacked records c es (stopped (refuse TooFewRecords f.place) f.chain)
 
 -- an event that has its record, and a call that has none
 data One (records : ℕ) : Event → Type 0 where

@@ -14,7 +14,7 @@ use lib.IntN.{ℤ}
 use lib.ListN.{length, length-append}
 use Rattle.definition.specs.Limits.{most_definitions, deepest}
 use Rattle.definition.specs.Words.{Placed, at, any}
-use Rattle.definition.specs.Rules.{too_many_definitions, too_few_words, off_the_axes, being_drawn, too_deep, refuse}
+use Rattle.definition.specs.Rules.{TooManyDefinitions, TooFewWords, OffTheAxes, BeingDrawn, TooDeep, refuse}
 use Rattle.definition.specs.Commands.{Shape, Turn, Command}
 use Rattle.definition.specs.Standing.{outside}
 use Rattle.definition.specs.Turns.{off_axes}
@@ -77,11 +77,11 @@ module _ (records : ℕ) (many : deepest ≤ records) where
   unfolding passage_of passage_to
   last_fits t chain p n ts go = by_axis (off_axes ts) (find n t)
     where
-      by_open : (b : Bool) (d : Definition) → All (Fits records) (through (if b then barred being_drawn else if eqb 0 0 then barred too_deep else leads d) p chain go)
+      by_open : (b : Bool) (d : Definition) → All (Fits records) (through (if b then barred BeingDrawn else if eqb 0 0 then barred TooDeep else leads d) p chain go)
       by_open true d = unfold through All in (tt, tt)
       by_open false d = unfold through All in (tt, tt)
 
-      by_axis : (b : Bool) (found : Option Definition) → All (Fits records) (through (if b then barred off_the_axes else passage_to found 0 chain n) p chain go)
+      by_axis : (b : Bool) (found : Option Definition) → All (Fits records) (through (if b then barred OffTheAxes else passage_to found 0 chain n) p chain go)
       by_axis true found = unfold through All in (tt, tt)
       by_axis false none = unfold through All in (tt, tt)
       by_axis false (some d) = by_open (any (λ c. eqb c.what n) chain) d
@@ -101,7 +101,7 @@ module _ (records : ℕ) (many : deepest ≤ records) where
   happens-fits t (output s) = step_fits (drawn_call deepest t [] []) (λ q m us. call_fits deepest t [] [] q m us refl) [] [] s.place s.what
   happens-fits t (define d) = (go (ltb most_definitions (length (enter d t))), tt)
     where
-      go : (b : Bool) → Fits records (if b then refused (refuse too_many_definitions d.place) [] else entered d t)
+      go : (b : Bool) → Fits records (if b then refused (refuse TooManyDefinitions d.place) [] else entered d t)
       go true = tt
       go false = tt
   happens-fits t (remove n) = (tt, tt)
@@ -119,7 +119,7 @@ module _ (records : ℕ) (many : deepest ≤ records) where
   held_fits words (drew d ∷ es) h = (tt, held_fits words es h.1)
   held_fits words (entered d before ∷ es) h = (go (ltb words (words_in (enter d before))), held_fits words es h.1)
     where
-      go : (b : Bool) → Fits records (if b then refused (refuse too_few_words d.place) [] else entered d before)
+      go : (b : Bool) → Fits records (if b then refused (refuse TooFewWords d.place) [] else entered d before)
       go true = tt
       go false = tt
   held_fits words (removed n before ∷ es) h = (tt, held_fits words es h.1)

@@ -17,13 +17,10 @@ use Rattle.definition.specs.declared.Refusal.{Refusal}
 use Rattle.turns.specs.Nets.{Carries, Near}
 use Rattle.counts.specs.declared.Counts.{Counts}
 use Rattle.shapes.specs.declared.Ink.{Ink}
-use Rattle.shapes.specs.declared.Drawn.TheVariants.{Done, Refused}
 use Rattle.shapes.specs.Painting.{inked, Reached, Painted}
 use Rattle.shapes.proofs.Painting.{PaintedSoFar, quiet, refusal, goes_on}
 use Rattle.library.specs.Memory.{definition_at, body_at, table_of}
 use Rattle.opening.specs.declared.Call.{Call}
-use Rattle.opening.specs.declared.Opened.{Opened}
-use Rattle.opening.specs.declared.Opened.TheVariants as opened
 use Rattle.opening.specs.Opening.{Descent}
 use Rattle.opening.proofs.Opening.{called-first}
 use Rattle.engine.specs.Draws.{open_at}
@@ -32,6 +29,8 @@ use Rattle.stacking.proofs.Stacked.{stacked_one}
 use Rattle.stretch.specs.Opening.{OpensWith}
 use Rattle.stretch.proofs.Counting.{called_one}
 use Rattle.stretch.specs.Bodies.{body_story, call_story, deeper, Led, Opens}
+use Rattle.std.specs.Prelude.{Err, Ok, Result}
+use Rattle.opening.specs.declared.Entered.{Entered}
 
 module _ (records : ℕ) (t : Table) (chain : Chain) (outer : List (Turn ℤ)) (call : Call) (ts : List (Turn ℤ)) where
   abbrev inner : ℕ → Definition → List Event
@@ -59,22 +58,22 @@ module _ (records : ℕ) (t : Table) (chain : Chain) (outer : List (Turn ℤ)) (
       ∙ (ap (map (stacked_to records)) (called-first call.place chain (passage_of left t chain call.symbol ts) (further left) d e)
       ∙ ap₂ {C = List Event} (λ (x : Event) (y : List Event). x ∷ map (stacked_to records) y) (stacked_one records (called call.place chain d) h) (one_down left z d))
 
-module _ (records : ℕ) (rows : List ℕ) (live : ℕ) (drawing : List ℕ) (left : ℕ) (call : Call) (ink : Ink) {o : Opened}
+module _ (records : ℕ) (rows : List ℕ) (live : ℕ) (drawing : List ℕ) (left : ℕ) (call : Call) (ink : Ink) {o : Result Entered Refusal}
     (x : OpensWith records rows live (open_at drawing left) left call ink.counts o) where
-  pub call-stopped : {why : Refusal} → o ≡ opened.Refused why → (b : List ℤ) (outer ts : List (Turn ℤ)) → call.askew ≡ off_axes ts → (room : List ℕ)
-      → Painted ink (call_story records (table_of rows b live) left (open_at drawing left) outer call.place call.symbol ts) room (open_at drawing left) (Refused why) room
+  pub call-stopped : {why : Refusal} → o ≡ Err why → (b : List ℤ) (outer ts : List (Turn ℤ)) → call.askew ≡ off_axes ts → (room : List ℕ)
+      → Painted ink (call_story records (table_of rows b live) left (open_at drawing left) outer call.place call.symbol ts) room (open_at drawing left) (Err why) room
   unfolding OpensWith
   call-stopped {why} e b outer ts askew room =
       let t = table_of rows b live in
       let chain = open_at drawing left in
-      let s = subst (λ (o : Opened). OpensWith records rows live chain left call ink.counts o) e x b ts askew (further records t chain outer call ts left) in
-      subst (λ (es : List Event). Painted ink es room chain (Refused why) room) (sym (call_is records t chain outer call ts left ∙ s.are))
+      let s = subst (λ (o : Result Entered Refusal). OpensWith records rows live chain left call ink.counts o) e x b ts askew (further records t chain outer call ts left) in
+      subst (λ (es : List Event). Painted ink es room chain (Err why) room) (sym (call_is records t chain outer call ts left ∙ s.are))
       (refusal ink s.event s.rest room why chain s.stops)
 
-  module _ {row : ℕ} {more : Counts} (e : o ≡ opened.Descends row more) where
+  module _ {row : ℕ} {more : Counts} (e : o ≡ Ok (record { row = row; counts = more })) where
     descends : Descent rows live (open_at drawing left) left call ink.counts row more × (length (open_at drawing left) < records)
     unfolding OpensWith
-    descends = subst (λ (o : Opened). OpensWith records rows live (open_at drawing left) left call ink.counts o) e x
+    descends = subst (λ (o : Result Entered Refusal). OpensWith records rows live (open_at drawing left) left call ink.counts o) e x
 
     pub call-led : Near ((33 - left) * 2 ^ 36) call.net → Led records live (open_at drawing left) left call row
     call-led near = record {

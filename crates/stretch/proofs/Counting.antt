@@ -8,7 +8,7 @@ use Prim.Native.Nat.{ℕ, ◌+◌, ◌≤◌}
 use native.Mathlib.Omega.{arith}
 use lib.Dec.{ltb}
 use Rattle.definition.specs.Limits.{most_calls}
-use Rattle.definition.specs.Rules.{too_many_calls, refuse}
+use Rattle.definition.specs.Rules.{TooManyCalls, refuse}
 use Rattle.definition.specs.Table.{Definition}
 use Rattle.definition.specs.Drawing.{Chain, Event, called}
 use Rattle.definition.specs.Counts.{finished, stopped, counted}
@@ -17,11 +17,11 @@ use Rattle.laws.proofs.Story.Counting.{counted_all}
 use Rattle.counts.specs.declared.Counts.{Counts}
 use Rattle.counts.specs.Counting.{tally}
 use Rattle.shapes.specs.declared.Ink.{Ink}
-use Rattle.shapes.specs.declared.Drawn.TheVariants.{Done}
 use Rattle.shapes.specs.Painting.{Goes, Answered, Painted}
 use Rattle.shapes.proofs.Painting.{PaintedSoFar}
+use Rattle.std.specs.Prelude.{Ok}
 
-pub painted-grows : {ink ink' : Ink} {es : List Event} {room room' : List ℕ} {chain : Chain} → Painted ink es room chain (Done ink') room' → ink.counts.calls ≤ ink'.counts.calls
+pub painted-grows : {ink ink' : Ink} {es : List Event} {room room' : List ℕ} {chain : Chain} → Painted ink es room chain (Ok ink') room' → ink.counts.calls ≤ ink'.counts.calls
 unfolding Answered
 painted-grows {ink} {ink'} {es} x =
     let g : Goes ink es ink' = x.answer in
@@ -35,6 +35,6 @@ pub called_one : (c more : Counts) (p : ℕ) (chain : Chain) → ((d : Definitio
 unfolding counted
 called_one c more p chain e = go (ltb c.calls most_calls) (e (record { symbol = 0; place = 0; body = [] }))
   where
-    go : (b : Bool) → (if b then finished (tallied (c.calls + 1) c.shapes c.redefinitions) else stopped (refuse too_many_calls p) chain) ≡ finished (tally more) → more.calls ≡ c.calls + 1
+    go : (b : Bool) → (if b then finished (tallied (c.calls + 1) c.shapes c.redefinitions) else stopped (refuse TooManyCalls p) chain) ≡ finished (tally more) → more.calls ≡ c.calls + 1
     go true q = let same : tallied (c.calls + 1) c.shapes c.redefinitions ≡ tally more = cc in sym (ap (λ (x : Tally). x.calls) same)
     go false q = absurd (let z : ◌≡◌ {A = ℕ} 0 1 = cc in omega arith)

@@ -12,7 +12,7 @@ use lib.Dec.{ltb}
 use lib.IntN.{ℤ}
 use lib.ListN.{length}
 use Rattle.definition.specs.Limits.{deepest, most_calls}
-use Rattle.definition.specs.Rules.{too_few_records, too_many_calls, refuse}
+use Rattle.definition.specs.Rules.{TooFewRecords, TooManyCalls, refuse}
 use Rattle.definition.specs.Commands.{Turn}
 use Rattle.definition.specs.Turns.{off_axes}
 use Rattle.definition.specs.Table.{Definition}
@@ -26,14 +26,14 @@ use Rattle.library.specs.Memory.{definition_at, table_of}
 use Rattle.chain.specs.Chain.{open_calls}
 use Rattle.chain.proofs.Runs.{so_many}
 use Rattle.opening.specs.declared.Call.{Call}
-use Rattle.opening.specs.declared.Opened.{Opened}
-use Rattle.opening.specs.declared.Opened.TheVariants.{Refused, Descends}
 use Rattle.opening.specs.Opening.{Stops, Descent}
 use Rattle.opening.specs.Opening.{Opens as OpensFreely}
 use Rattle.opening.proofs.Opening.{called-first}
 use Rattle.shapes.proofs.Painting.{never}
 use Rattle.stacking.proofs.Stacked.{Fits, stacked_one}
 use Rattle.stretch.specs.Opening.{OpensWith}
+use Rattle.std.specs.Prelude.{Err, Ok, Result}
+use Rattle.opening.specs.declared.Entered.{Entered}
 
 -- ---- the first event of a call
 
@@ -68,14 +68,14 @@ module _ (records p : ℕ) (chain : Chain) (go : Definition → List Event) wher
   }
   stops-before (leads d) c {why} s = absurd (counts-first d (ap (counted (tally zero_counts)) (head-eq_of_cons-eq s.are) ∙ s.stops))
 
-  stops_there : (w : Passage) (c : Counts) (d : Definition) → records ≤ length chain → w ≡ leads d → Stops c (map (stacked_to records) (through w p chain go)) (refuse too_few_records p) chain
+  stops_there : (w : Passage) (c : Counts) (d : Definition) → records ≤ length chain → w ≡ leads d → Stops c (map (stacked_to records) (through w p chain go)) (refuse TooFewRecords p) chain
   unfolding stacked_to counted
   stops_there w c d h e = record {
-    event = refused (refuse too_few_records p) chain;
+    event = refused (refuse TooFewRecords p) chain;
     rest = map (stacked_to records) (go d);
     are =
         ap (map (stacked_to records)) (called-first p chain w go d e)
-        ∙ ap (λ (b : Bool). (if b then refused (refuse too_few_records p) chain else called p chain d) ∷ map (stacked_to records) (go d)) (le-leb records (length chain) h);
+        ∙ ap (λ (b : Bool). (if b then refused (refuse TooFewRecords p) chain else called p chain d) ∷ map (stacked_to records) (go d)) (le-leb records (length chain) h);
     stops = refl;
   }
 
@@ -86,19 +86,19 @@ pub levels_open : (drawing : List ℕ) (left : ℕ) → length (open_calls drawi
 levels_open drawing left = so_many drawing (deepest - left)
 
 module _ (records : ℕ) (rows : List ℕ) (live : ℕ) (chain : Chain) (left : ℕ) (call : Call) (c : Counts) where
-  pub a_record : length chain < records → (o : Opened) → OpensFreely rows live chain left call c o → OpensWith records rows live chain left call c o
+  pub a_record : length chain < records → (o : Result Entered Refusal) → OpensFreely rows live chain left call c o → OpensWith records rows live chain left call c o
   unfolding OpensFreely OpensWith
-  a_record h (Refused why) x = λ b ts e go. stops_so records call.place chain go (passage_of left (table_of rows b live) chain call.symbol ts) c h (x b ts e go)
-  a_record h (Descends row more) x = (x, h)
+  a_record h (Err why) x = λ b ts e go. stops_so records call.place chain go (passage_of left (table_of rows b live) chain call.symbol ts) c h (x b ts e go)
+  a_record h (Ok (record { row = row; counts = more })) x = (x, h)
 
-  module _ {none : Counts} (z : none ≡ zero_counts) {o : Opened} (x : OpensFreely rows live chain left call none o) where
-    pub no_record_refused : {why : Refusal} → o ≡ Refused why → OpensWith records rows live chain left call c (Refused why)
+  module _ {none : Counts} (z : none ≡ zero_counts) {o : Result Entered Refusal} (x : OpensFreely rows live chain left call none o) where
+    pub no_record_refused : {why : Refusal} → o ≡ Err why → OpensWith records rows live chain left call c (Err why)
     unfolding OpensFreely OpensWith
     no_record_refused {why} q = λ b ts e go.
-        let y : OpensFreely rows live chain left call zero_counts (Refused why) = subst (OpensFreely rows live chain left call zero_counts) q (subst (λ (n : Counts). OpensFreely rows live chain left call n o) z x) in
+        let y : OpensFreely rows live chain left call zero_counts (Err why) = subst (OpensFreely rows live chain left call zero_counts) q (subst (λ (n : Counts). OpensFreely rows live chain left call n o) z x) in
         stops-before records call.place chain go (passage_of left (table_of rows b live) chain call.symbol ts) c (y b ts e go)
 
-    pub no_record_led : records ≤ length chain → {row : ℕ} {more : Counts} → o ≡ Descends row more → OpensWith records rows live chain left call c (Refused (refuse too_few_records call.place))
+    pub no_record_led : records ≤ length chain → {row : ℕ} {more : Counts} → o ≡ Ok (record { row = row; counts = more }) → OpensWith records rows live chain left call c (Err (refuse TooFewRecords call.place))
     unfolding OpensFreely OpensWith
     no_record_led h {row} {more} q = λ b ts e go.
         let y : Descent rows live chain left call none row more = subst (OpensFreely rows live chain left call none) q x in

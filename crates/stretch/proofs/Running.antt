@@ -21,8 +21,6 @@ use Rattle.names.specs.Names.{name_of, packed}
 use Rattle.moves.specs.Moves.{ShapedAt}
 use Rattle.counts.specs.declared.Counts.{Counts}
 use Rattle.shapes.specs.declared.Ink.{Ink}
-use Rattle.shapes.specs.declared.Drawn.{Drawn}
-use Rattle.shapes.specs.declared.Drawn.TheVariants.{Done, Refused}
 use Rattle.shapes.specs.Painting.{inked, Reached, Painted, ShapeDraws}
 use Rattle.shapes.proofs.Painting.{PaintedSoFar, begun, goes_on, skips, stops, over, so_far, room-kept}
 use Rattle.library.specs.Memory.{call_letter, layer_letter, words_at, layer_after, steps_of, table_of}
@@ -34,16 +32,16 @@ use Rattle.engine.specs.Draws.{open_at}
 use Rattle.engine.proofs.Taking.{Met, meets, two_words, layer_is, call_is, call_words, shape_is, shape_words}
 use Rattle.engine.proofs.Underway.{none_left}
 use Rattle.opening.specs.declared.Call.{Call}
-use Rattle.opening.specs.declared.Opened.{Opened}
-use Rattle.opening.specs.declared.Opened.TheVariants as opened
 use Rattle.opening.specs.Calls.{CalledAt, ReadsCall}
 use Rattle.opening.proofs.Witnesses.{some_list}
 use Rattle.stretch.specs.declared.Here.{Here}
-use Rattle.stretch.specs.declared.Body.TheVariants.{Ends, Calls, Stops}
 use Rattle.stretch.specs.Opening.{OpensWith}
 use Rattle.stretch.specs.Bodies.{rest_of, Rests, body_story, call_story, Led, Opens, CallsOn, BodyComes, Grows}
 use Rattle.stretch.proofs.Calls.{call-stopped, call-led, call-counts, call-going}
 use Rattle.stretch.proofs.Counting.{going-grows}
+use Rattle.std.specs.Prelude.{Err, Ok, Result}
+use Rattle.opening.specs.declared.Entered.{Entered}
+use Rattle.stretch.specs.declared.Body.TheVariants.{Ends, Calls}
 
 abbrev pub here_at : (at end layer : ℕ) → Net → Here
 here_at from end layer net = record { at = from; end = end; layer = layer; net = net }
@@ -81,7 +79,7 @@ module _ (records : ℕ) (t : Table) (left : ℕ) (chain : Chain) (outer : List 
   call-left p n ts ss = map-append (stacked_to records) (drawn_call left t chain outer p n ts) (drawn_body (drawn_call left t chain outer) chain outer ss)
 
 -- a refusal counts nothing
-pub stop-grows : (ink : Ink) (why : Refusal) → Grows ink (Stops why)
+pub stop-grows : (ink : Ink) (why : Refusal) → Grows ink (Err why)
 unfolding Grows
 stop-grows ink why = tt
 
@@ -130,12 +128,12 @@ module _ {records : ℕ} {rows : List ℕ} {b : List ℤ} {live : ℕ} {drawing 
   grown : ink₀.counts.calls ≤ ink.counts.calls
   grown = going-grows (w.along (some_list net).0 (some_list net).1)
 
-  pub all_grows : Grows ink₀ (Ends ink)
+  pub all_grows : Grows ink₀ (Ok (Ends ink))
   unfolding Grows
   all_grows = grown
 
   -- nothing is left
-  pub was_all : end ≤ here → BodyComes records rows b live chain left (here_at from end layer₀ net) ink₀ room₀ (Ends ink) room
+  pub was_all : end ≤ here → BodyComes records rows b live chain left (here_at from end layer₀ net) ink₀ room₀ (Ok (Ends ink)) room
   unfolding BodyComes
   was_all z = λ outer h.
       let n : end - here ≡ 0 = omega arith in
@@ -185,23 +183,23 @@ module _ {records : ℕ} {rows : List ℕ} {b : List ℤ} {live : ℕ} {drawing 
       pub shape_asked : ShapedAt (take (h.next - here) (drop here b)) h.kind (h.next - here)
       shape_asked = shape_words m fits e f
 
-      module _ {room' : List ℕ} {d : Drawn}
+      module _ {room' : List ℕ} {d : Result Ink Refusal}
           (drawn : ShapeDraws (take (h.next - here) (drop here b)) h.kind (h.next - here) net l h.place ink room d room') where
         abbrev figure : Shape ℤ
         figure = (shape_is m fits e f).0
 
-        painted : (outer : List (Turn ℤ)) → Carries outer net → {y : Drawn} → d ≡ y → Painted ink (drawn_shape chain outer h.place (name_of l) figure ∷ []) room chain y room'
-        painted outer k q = subst (λ (y : Drawn). Painted ink (drawn_shape chain outer h.place (name_of l) figure ∷ []) room chain y room') q (drawn (shape_words m fits e f) chain outer k)
+        painted : (outer : List (Turn ℤ)) → Carries outer net → {y : Result Ink Refusal} → d ≡ y → Painted ink (drawn_shape chain outer h.place (name_of l) figure ∷ []) room chain y room'
+        painted outer k q = subst (λ (y : Result Ink Refusal). Painted ink (drawn_shape chain outer h.place (name_of l) figure ∷ []) room chain y room') q (drawn (shape_words m fits e f) chain outer k)
 
         shape-next : (outer : List (Turn ℤ)) → held outer w.steps ≡ (drawn_shape chain outer h.place (name_of l) figure ∷ []) ++ held outer m.rest
         shape-next outer = left_is outer (shape_is m fits e f).1 ∙ shape-left records table left chain outer h.place (name_of l) figure m.rest
 
-        pub was_shape : {ink' : Ink} → d ≡ Done ink' → Next room' l ink'
+        pub was_shape : {ink' : Ink} → d ≡ Ok ink' → Next room' l ink'
         was_shape q =
             onward (sym (ap (λ (x : Step). layer_after x (name_of l)) (shape_is m fits e f).1))
             (λ outer k. goes_on (w.along outer k) (drawn_shape chain outer h.place (name_of l) figure ∷ []) _ (shape-next outer) (painted outer k q))
 
-        pub shape-refused : {why : Refusal} → d ≡ Refused why → BodyComes records rows b live chain left (here_at from end layer₀ net) ink₀ room₀ (Stops why) room'
+        pub shape-refused : {why : Refusal} → d ≡ Err why → BodyComes records rows b live chain left (here_at from end layer₀ net) ink₀ room₀ (Err why) room'
         unfolding BodyComes
         shape-refused {why} q = λ outer k. stops (w.along outer k) (drawn_shape chain outer h.place (name_of l) figure ∷ []) _ (shape-next outer) (painted outer k q)
 
@@ -229,15 +227,15 @@ module _ {records : ℕ} {rows : List ℕ} {b : List ℤ} {live : ℕ} {drawing 
             ∙ (call-left records table left chain outer h.place number own m.rest
             ∙ ap₂ {C = List Event} (λ (p n : ℕ). call_story records table left chain outer p n own ++ held outer m.rest) (sym it_reads.at_place) (sym it_reads.symbol))
 
-        module _ {o : Opened} (x : OpensWith records rows live chain left read ink.counts o) where
-          pub call-refused : {why : Refusal} → o ≡ opened.Refused why → BodyComes records rows b live chain left (here_at from end layer₀ net) ink₀ room₀ (Stops why) room
+        module _ {o : Result Entered Refusal} (x : OpensWith records rows live chain left read ink.counts o) where
+          pub call-refused : {why : Refusal} → o ≡ Err why → BodyComes records rows b live chain left (here_at from end layer₀ net) ink₀ room₀ (Err why) room
           unfolding BodyComes
           call-refused {why} q = λ outer k.
               stops (w.along outer k) (call_story records table left chain outer read.place read.symbol own) _ (call_next outer)
               (call-stopped records rows live drawing left read ink x q b outer own it_reads.askew room)
 
-          pub call_opens : left ≤ 32 → Near ((32 - left) * 2 ^ 36) net → {row : ℕ} {more : Counts} → o ≡ opened.Descends row more
-              → BodyComes records rows b live chain left (here_at from end layer₀ net) ink₀ room₀ (Calls (here_at h.next end l net) read row (inked more ink.pen)) room
+          pub call_opens : left ≤ 32 → Near ((32 - left) * 2 ^ 36) net → {row : ℕ} {more : Counts} → o ≡ Ok (record { row = row; counts = more })
+              → BodyComes records rows b live chain left (here_at from end layer₀ net) ink₀ room₀ (Ok (Calls (here_at h.next end l net) read row (inked more ink.pen))) room
           unfolding BodyComes
           call_opens le near q =
               let rests : Rests b (here_at h.next end l net) =
@@ -262,6 +260,6 @@ module _ {records : ℕ} {rows : List ℕ} {b : List ℤ} {live : ℕ} {drawing 
                 };
               }
 
-          pub call-grows : (on : Here) {row : ℕ} {more : Counts} → o ≡ opened.Descends row more → Grows ink₀ (Calls on read row (inked more ink.pen))
+          pub call-grows : (on : Here) {row : ℕ} {more : Counts} → o ≡ Ok (record { row = row; counts = more }) → Grows ink₀ (Ok (Calls on read row (inked more ink.pen)))
           unfolding Grows
           call-grows on q = let n = call-counts records rows live drawing left read ink x q in let k = grown in omega (arith, n, k)

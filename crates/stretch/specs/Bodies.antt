@@ -11,7 +11,6 @@ use Rattle.definition.specs.Records.{stacked_to}
 use Rattle.names.specs.Names.{name_of}
 use Rattle.turns.specs.Nets.{Carries, Near}
 use Rattle.shapes.specs.declared.Ink.{Ink}
-use Rattle.shapes.specs.declared.Drawn.TheVariants.{Done, Refused}
 use Rattle.shapes.specs.Painting.{Reached, Painted}
 use Rattle.shapes.proofs.Painting.{PaintedSoFar}
 use Rattle.library.specs.Memory.{words_at, steps_of, body_at, table_of, most_words}
@@ -20,8 +19,10 @@ use Rattle.library.specs.Rows.{Sorted}
 use Rattle.chain.specs.Chain.{run_length}
 use Rattle.opening.specs.declared.Call.{Call}
 use Rattle.stretch.specs.declared.Here.{Here}
+use Rattle.std.specs.Prelude.{Err, Ok, Result}
 use Rattle.stretch.specs.declared.Body.{Body}
-use Rattle.stretch.specs.declared.Body.TheVariants.{Ends, Calls, Stops}
+use Rattle.definition.specs.declared.Refusal.{Refusal}
+use Rattle.stretch.specs.declared.Body.TheVariants.{Ends, Calls}
 
 -- the steps that are left of an open body, by its words and the layer that stands
 abbrev pub rest_of : List ℤ → Here → List (Placed Step)
@@ -78,15 +79,15 @@ pub record CallsOn (records : ℕ) (rows : List ℕ) (b : List ℤ) (live : ℕ)
       ink room call row ink' room'
 
 -- the contract of `draw_body`
-unfoldable pub BodyComes : (records : ℕ) (rows : List ℕ) (b : List ℤ) (live : ℕ) (chain : Chain) (left : ℕ) (here : Here) → Ink → List ℕ → Body → List ℕ → Type 0
-BodyComes records rows b live chain left here ink room (Ends ink') room' =
-    (outer : List (Turn ℤ)) → Carries outer here.net → Painted ink (body_story records (table_of rows b live) left chain outer (rest_of b here)) room [] (Done ink') room'
-BodyComes records rows b live chain left here ink room (Stops why) room' =
-    (outer : List (Turn ℤ)) → Carries outer here.net → Painted ink (body_story records (table_of rows b live) left chain outer (rest_of b here)) room chain (Refused why) room'
-BodyComes records rows b live chain left here ink room (Calls on call row ink') room' = CallsOn records rows b live chain left here ink room on call row ink' room'
+unfoldable pub BodyComes : (records : ℕ) (rows : List ℕ) (b : List ℤ) (live : ℕ) (chain : Chain) (left : ℕ) (here : Here) → Ink → List ℕ → Result Body Refusal → List ℕ → Type 0
+BodyComes records rows b live chain left here ink room (Ok (Ends ink')) room' =
+    (outer : List (Turn ℤ)) → Carries outer here.net → Painted ink (body_story records (table_of rows b live) left chain outer (rest_of b here)) room [] (Ok ink') room'
+BodyComes records rows b live chain left here ink room (Err why) room' =
+    (outer : List (Turn ℤ)) → Carries outer here.net → Painted ink (body_story records (table_of rows b live) left chain outer (rest_of b here)) room chain (Err why) room'
+BodyComes records rows b live chain left here ink room (Ok (Calls on call row ink')) room' = CallsOn records rows b live chain left here ink room on call row ink' room'
 
 -- calls are counted up, and a call that is opened is one of them
-unfoldable pub Grows : Ink → Body → Type 0
-Grows ink (Ends ink') = ink.counts.calls ≤ ink'.counts.calls
-Grows ink (Calls on call row ink') = ink.counts.calls < ink'.counts.calls
-Grows ink (Stops why) = Unit {0}
+unfoldable pub Grows : Ink → Result Body Refusal → Type 0
+Grows ink (Ok (Ends ink')) = ink.counts.calls ≤ ink'.counts.calls
+Grows ink (Ok (Calls on call row ink')) = ink.counts.calls < ink'.counts.calls
+Grows ink (Err why) = Unit {0}

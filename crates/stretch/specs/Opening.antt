@@ -10,12 +10,13 @@ use Rattle.definition.specs.Records.{stacked_to}
 use Rattle.counts.specs.declared.Counts.{Counts}
 use Rattle.library.specs.Memory.{table_of}
 use Rattle.opening.specs.declared.Call.{Call}
-use Rattle.opening.specs.declared.Opened.{Opened}
-use Rattle.opening.specs.declared.Opened.TheVariants.{Refused, Descends}
 use Rattle.opening.specs.Opening.{Stops, Descent}
+use Rattle.std.specs.Prelude.{Err, Ok, Result}
+use Rattle.opening.specs.declared.Entered.{Entered}
+use Rattle.definition.specs.declared.Refusal.{Refusal}
 
-unfoldable pub OpensWith : (records : ℕ) (rows : List ℕ) (live : ℕ) (chain : Chain) (left : ℕ) (call : Call) (c : Counts) → Opened → Type 0
-OpensWith records rows live chain left call c (Refused why) =
+unfoldable pub OpensWith : (records : ℕ) (rows : List ℕ) (live : ℕ) (chain : Chain) (left : ℕ) (call : Call) (c : Counts) → Result Entered Refusal → Type 0
+OpensWith records rows live chain left call c (Err why) =
     (b : List ℤ) (ts : List (Turn ℤ)) → call.askew ≡ off_axes ts → (go : Definition → List Event)
     → Stops c (map (stacked_to records) (through (passage_of left (table_of rows b live) chain call.symbol ts) call.place chain go)) why chain
-OpensWith records rows live chain left call c (Descends row more) = Descent rows live chain left call c row more × (length chain < records)
+OpensWith records rows live chain left call c (Ok (record { row = row; counts = more })) = Descent rows live chain left call c row more × (length chain < records)

@@ -12,8 +12,9 @@ ghost use Rattle.chain.specs.Chain.{run_length, open_calls};
 ghost use Rattle.stretch.specs.Opening.{OpensWith};
 ghost use Rattle.stretch.specs.Bodies.{Rests, Poised, BodyComes, Grows};
 
-use opening::{Call, Opened};
-use shapes::{Drawn, Ink};
+use definition::{Refusal, Rule};
+use opening::{Call, Entered};
+use shapes::Ink;
 
 // Where an open body goes on: its words from `at` to `end`, the layer that is set in it, and what the open calls do together.
 #[derive(Clone, Copy)]
@@ -24,12 +25,11 @@ pub struct Here {
     pub net: turns::Net,
 }
 
-// What a stretch of a body comes to: its end; a call that is opened, with where the body goes on after it and the row of its symbol; or a refusal.
+// What a stretch of a body comes to, if it is not refused: its end; or a call that is opened, with where the body goes on after it and the row of its symbol.
 #[derive(Clone, Copy)]
 pub enum Body {
     Ends(Ink),
     Calls(Here, Call, usize, Ink),
-    Stops(definition::Refusal),
 }
 
 // A command has at most 2,049 numbers (RULES 12, refusal 9: 1,024 points, and a width), and two words in front.
@@ -47,7 +47,7 @@ pub fn draw_shape(
     layer: u32,
     place: usize,
     ink: Ink,
-) -> Drawn
+) -> Result<Ink, Refusal>
     requires { ShapedAt words.now letter end × Near (2 ^ 61) net × Reached ink }
     ensures { ShapeDraws words.now letter end net layer place ink room.old result room.new }
 {
@@ -79,7 +79,7 @@ pub fn open_call(
     records: usize,
     call: Call,
     counts: counts::Counts,
-) -> Opened
+) -> Result<Entered, Refusal>
     requires { Sorted rows.now live × (left ≤ deepest) × (length drawing.now ≡ run_length) }
     ensures { OpensWith records rows.now live (open_calls drawing.now (deepest - left)) left call counts result }
 {
@@ -88,10 +88,11 @@ pub fn open_call(
     }
     let place = call.place;
     let nothing = counts::no_counts();
-    match opening::open_call(rows, live, drawing, left, call, nothing) {
-        Opened::Refused(refusal) => Opened::Refused(refusal),
-        Opened::Descends(_, _) => Opened::Refused(definition::Refusal { number: 21, place }),
-    }
+    opening::open_call(rows, live, drawing, left, call, nothing)?;
+    Err(Refusal {
+        rule: Rule::TooFewRecords,
+        place,
+    })
 }
 
 // A layer's packed name.
@@ -113,7 +114,7 @@ pub fn draw_body(
     records: usize,
     here: Here,
     before: Ink,
-) -> Body
+) -> Result<Body, Refusal>
     requires { Poised rows.now bodies.now live drawing.now left before × Near ((deepest - left) * 2 ^ 36) here.net × Rests bodies.now here }
     ensures body_comes { BodyComes records rows.now bodies.now live (open_calls drawing.now (deepest - left)) left here before room.old result room.new }
     ensures grows { Grows before result }
@@ -134,23 +135,20 @@ pub fn draw_body(
             layer = name_at(bodies, from + 2);
         } else if kind == b'C' {
             let call = opening::read_call(&bodies[from..next], next - from, net, place);
-            match open_call(rows, live, drawing, left, records, call, ink.counts) {
-                Opened::Refused(refusal) => {
-                    return Body::Stops(refusal);
-                }
-                Opened::Descends(row, counts) => {
-                    let pen = ink.pen;
-                    let on = Here {
-                        at,
-                        end,
-                        layer,
-                        net,
-                    };
-                    return Body::Calls(on, call, row, Ink { counts, pen });
-                }
-            }
+            let entered = open_call(rows, live, drawing, left, records, call, ink.counts)?;
+            let on = Here {
+                at,
+                end,
+                layer,
+                net,
+            };
+            let counted = Ink {
+                counts: entered.counts,
+                pen: ink.pen,
+            };
+            return Ok(Body::Calls(on, call, entered.row, counted));
         } else {
-            match draw_shape(
+            ink = draw_shape(
                 &bodies[from..next],
                 room,
                 kind,
@@ -159,15 +157,8 @@ pub fn draw_body(
                 layer,
                 place,
                 ink,
-            ) {
-                Drawn::Done(shown) => {
-                    ink = shown;
-                }
-                Drawn::Refused(refusal) => {
-                    return Body::Stops(refusal);
-                }
-            }
+            )?;
         }
     }
-    Body::Ends(ink)
+    Ok(Body::Ends(ink))
 }

@@ -15,7 +15,7 @@ use Rattle.grammar.specs.Notation.{Letter}
 use Rattle.grammar.proofs.Markings.{marking_is}
 use Rattle.definition.specs.Limits.{most_definitions}
 use Rattle.definition.specs.Words.{Placed, at, those}
-use Rattle.definition.specs.Rules.{too_many_definitions, too_few_words, refuse}
+use Rattle.definition.specs.Rules.{TooManyDefinitions, TooFewWords, refuse}
 use Rattle.definition.specs.Commands.{Number, Command, delete, commands}
 use Rattle.definition.specs.Standing.{outside}
 use Rattle.definition.specs.Table.{Step, Definition, Table, enter, forget}
@@ -31,8 +31,6 @@ use Rattle.pieces.specs.Pieces.{start as text_start}
 use Rattle.pieces.specs.declared.Spot.{Spot}
 use Rattle.rules.specs.Letters.{letter_d, letter_l}
 use Rattle.rules.specs.Written.{Written}
-use Rattle.commands.specs.declared.Read.{Read}
-use Rattle.commands.specs.declared.Read.TheVariants.{Nothing}
 use Rattle.commands.specs.Words.{DecodedOne, ReadsCommand}
 use Rattle.counts.specs.declared.Counts.{Counts}
 use Rattle.counts.specs.Counting.{tally, zero_counts}
@@ -44,8 +42,6 @@ use Rattle.library.specs.Holds.{Holds}
 use Rattle.keeping.specs.Keeping.{most_words, Begins, Defines, DefinesAt}
 use Rattle.keeping.specs.declared.Start.{Start}
 use Rattle.keeping.specs.declared.Stock.{Stock}
-use Rattle.keeping.specs.declared.Defined.{Defined}
-use Rattle.keeping.specs.declared.Defined.TheVariants.{Taken, Overfull, Short}
 use Rattle.passing.specs.Passed.{Passed, outputs, start_in, Deletes}
 use Rattle.passing.proofs.Letters.{is_layer, is_delete}
 use Rattle.passing.proofs.Reading.{Met, run_kept, read_none, third_word, none_met}
@@ -55,7 +51,11 @@ use Rattle.columns.specs.Columns.{More, Enters, Afresh}
 use Rattle.columns.specs.Columns.{Stands as StandsIn}
 use Rattle.columns.proofs.Moved.{entered-more, entered-stands, afresh-entered, afresh-cut, afresh_none}
 use Rattle.summary.specs.Summed.{kept_of, end_of, table_left, TableHeld, KeepsAll, KeepsText}
-use Rattle.summary.specs.declared.Summed.TheVariants.{Live, Refused}
+use Rattle.std.specs.Prelude.{Err, None, Ok, Option, Result}
+use Rattle.commands.specs.declared.Decoded.{Decoded}
+use Rattle.keeping.specs.declared.Taken.{Taken}
+use Rattle.definition.specs.declared.Rule.{Rule}
+use Rattle.definition.specs.declared.Rule.TheVariants.{TooManyDefinitions, TooFewWords}
 
 -- ---- what keeps the table
 
@@ -92,15 +92,15 @@ module _ (w : ℕ) (c : Tally) (t : Table) where
     unfolding table_after
     starts_with h = held-story w t (define d) ds ∙ ap (λ (es : List Event). es ++ map (held_to w) (story (enter d t) ds)) h
 
-    end_overfull : most_definitions < length (enter d t) → end_from w c t (define d ∷ ds) ≡ stopped (refuse too_many_definitions d.place) []
+    end_overfull : most_definitions < length (enter d t) → end_from w c t (define d ∷ ds) ≡ stopped (refuse TooManyDefinitions d.place) []
     unfolding ending counted go_on
-    end_overfull h = ap (ending c) (starts_with {e = refused (refuse too_many_definitions d.place) []} (held-define w t d ∙ rw (lt-ltb most_definitions (length (enter d t)) h) refl))
+    end_overfull h = ap (ending c) (starts_with {e = refused (refuse TooManyDefinitions d.place) []} (held-define w t d ∙ rw (lt-ltb most_definitions (length (enter d t)) h) refl))
 
     module _ (few : length (enter d t) ≤ most_definitions) where
-      end_short : w < words_in (enter d t) → end_from w c t (define d ∷ ds) ≡ stopped (refuse too_few_words d.place) []
+      end_short : w < words_in (enter d t) → end_from w c t (define d ∷ ds) ≡ stopped (refuse TooFewWords d.place) []
       unfolding ending counted go_on
       end_short h =
-          ap (ending c) (starts_with {e = refused (refuse too_few_words d.place) []} (held-define w t d ∙ rw (le-ltb most_definitions (length (enter d t)) few, lt-ltb w (words_in (enter d t)) h) refl))
+          ap (ending c) (starts_with {e = refused (refuse TooFewWords d.place) []} (held-define w t d ∙ rw (le-ltb most_definitions (length (enter d t)) few, lt-ltb w (words_in (enter d t)) h) refl))
 
       end_define : {c' : Tally} → words_in (enter d t) ≤ w → counted c (entered d t) ≡ finished c' → end_from w c t (define d ∷ ds) ≡ end_from w c' (enter d t) ds
       unfolding ending go_on
@@ -166,7 +166,7 @@ module _ {t : List ℕ} {w : ℕ} {words₀ : List ℤ} {names : List ℕ} {coun
   told_of P h p = subst P (marking_is u.passed.marked ∙ sym (marking_is p.marked)) h
 
   -- no command is left
-  pub along_out : (r : Read) (words' : List ℤ) → ReadsCommand t spot 1 1 words r words' → r ≡ Nothing → KeepsText t w names count (Live stock.live) rows b figures calls layers
+  pub along_out : (r : Option Decoded) (words' : List ℤ) → ReadsCommand t spot 1 1 words r words' → r ≡ None → KeepsText t w names count (Ok stock.live) rows b figures calls layers
   unfolding KeepsText deeds
   along_out r words' x e =
       let none : to_do s ≡ [] = ap (deeds s.standing) (none_met t spot s.told (read_none t spot 1 1 words r words' x e)) in
@@ -258,7 +258,7 @@ module _ {t : List ℕ} {w : ℕ} {words₀ : List ℤ} {names : List ℕ} {coun
       pub along_begins : Begins t rows b stock to start
       along_begins = may_define s m e start q
 
-      module _ {rows' : List ℕ} {b' : List ℤ} {d : Defined} (defines : DefinesAt t rows b stock to start counts d rows' b') where
+      module _ {rows' : List ℕ} {b' : List ℤ} {d : Result Taken Rule} (defines : DefinesAt t rows b stock to start counts d rows' b') where
         pub size_then : length b' ≡ w
         size_then = defines.size ∙ u.bodies_kept
 
@@ -274,7 +274,7 @@ module _ {t : List ℕ} {w : ℕ} {words₀ : List ℤ} {names : List ℕ} {coun
         same-symbol : start.symbol ≡ new.symbol
         same-symbol = ap (λ (y : Start). y.symbol) q
 
-        module _ {stock' : Stock} {c' : Counts} {to' : Spot} (f : d ≡ Taken stock' c' to') where
+        module _ {stock' : Stock} {c' : Counts} {to' : Spot} (f : d ≡ Ok (record { stock = stock'; counts = c'; to = to' })) where
           pub along_on : length t - to'.at < length t - spot.at
           along_on = let k = takes s m e start q defines f in omega (arith, k.ahead, k.fit.within, r.ahead)
 
@@ -308,13 +308,13 @@ module _ {t : List ℕ} {w : ℕ} {words₀ : List ℤ} {names : List ℕ} {coun
                     ∙ u.end_left);
               }
 
-        pub along_overfull : d ≡ Overfull → KeepsText t w names count (Refused (record { number = 10; place = place })) rows' b' figures calls layers
+        pub along_overfull : d ≡ (Err TooManyDefinitions) → KeepsText t w names count (Err (record { number = 10; place = place })) rows' b' figures calls layers
         unfolding Defines KeepsText
         along_overfull f =
             told_of (λ (m : List Letter). end_of w m ≡ stopped (record { number = 10; place = place }) [])
             (sym u.end_left ∙ (ap (end_from w (tally counts) s.table) kept-left ∙ end_overfull w (tally counts) s.table new (kept_of later) (comes s m e start q defines f)))
 
-        pub along-short : d ≡ Short → KeepsText t w names count (Refused (record { number = 25; place = place })) rows' b' figures calls layers
+        pub along-short : d ≡ (Err TooFewWords) → KeepsText t w names count (Err (record { number = 25; place = place })) rows' b' figures calls layers
         unfolding Defines KeepsText
         along-short f =
             let k = comes s m e start q defines f in

@@ -13,14 +13,12 @@ use lib.IntN.{ℤ}
 use lib.ListN.{length}
 use Rattle.grammar.specs.Notation.{Letter}
 use Rattle.grammar.specs.Viable.{Grammatical, Marked, Judged}
-use Rattle.grammar.specs.declared.Verdict.{Verdict}
-use Rattle.grammar.specs.declared.Verdict.TheVariants.{InGrammar, StuckAt}
 use Rattle.grammar.proofs.Markings.{one_marking}
 use Rattle.definition.specs.declared.Refusal.{Refusal}
 use Rattle.definition.specs.declared.Summary.{Summary}
 use Rattle.definition.specs.Limits.{most_bytes}
 use Rattle.definition.specs.Words.{Placed, those, first}
-use Rattle.definition.specs.Rules.{Rule, number_too_large, zero_factor, scaled_too_large, degenerate_command, no_layer, too_many_parts, too_many_layers, number_of, refuse}
+use Rattle.definition.specs.Rules.{Rule, NumberTooLarge, ZeroFactor, ScaledTooLarge, DegenerateCommand, NoLayer, TooManyParts, TooManyLayers, number_of, refuse}
 use Rattle.definition.specs.Commands.{Number, Command, commands}
 use Rattle.definition.specs.Standing.{Standing, outside, after, scaled}
 use Rattle.definition.specs.Faults.{beyond, distances, numbers_of, zero_scale, degenerate, layerless, has_too_many, at_numbers, at_command, faults, all_faults, first_fault}
@@ -28,16 +26,12 @@ use Rattle.definition.specs.Rounded.{rounded}
 use Rattle.definition.specs.Summary.{layer_names, too_many_from, sooner, first_fault_or_name, empty_summary, summary_from, summary_of, Summarises, too_long, not_cif, read}
 use Rattle.laws.proofs.Lists.Range.{All, all-++}
 use Rattle.laws.proofs.Commands.Sizes.{all_map}
-use Rattle.checking.specs.declared.Fault.{Fault}
-use Rattle.checking.specs.declared.Fault.TheVariants.{Clear, Refused}
 use Rattle.reading.specs.Refusal.{fault_said, by_verdict}
 use Rattle.passing.specs.Passed.{Passed}
 use Rattle.reader.specs.Screened.{Screened, over, within}
 use Rattle.marks.specs.Noted.{Noted, Gathers}
-use Rattle.marks.specs.declared.Gathered.{Gathered}
-use Rattle.marks.specs.declared.Gathered.TheVariants.{Named, Over}
 use Rattle.summary.specs.Summed.{Foremost, NamedPassed, Starts}
-use Rattle.summary.specs.declared.Begun.TheVariants as begun
+use Rattle.std.specs.Prelude.{Err, Ok, Result}
 
 -- ---- no refusal of a command has a number below 3
 
@@ -61,11 +55,11 @@ high_command n h false p = tt
 high : (σ : Standing) (d : Placed Command) → All High (faults σ d)
 unfolding faults
 high σ d =
-    all-++ High _ _ (high_numbers number_too_large (omega arith) beyond (numbers_of d.what))
-    (all-++ High _ _ (high_command zero_factor (omega arith) (zero_scale d.what) d.place)
-    (all-++ High _ _ (high_numbers scaled_too_large (omega arith) (λ z. beyond (scaled σ z)) (distances d.what))
-    (all-++ High _ _ (high_command degenerate_command (omega arith) (degenerate σ d.what) d.place)
-    (all-++ High _ _ (high_command no_layer (omega arith) (layerless σ d.what) d.place) (high_command too_many_parts (omega arith) (has_too_many d.what) d.place)))))
+    all-++ High _ _ (high_numbers NumberTooLarge (omega arith) beyond (numbers_of d.what))
+    (all-++ High _ _ (high_command ZeroFactor (omega arith) (zero_scale d.what) d.place)
+    (all-++ High _ _ (high_numbers ScaledTooLarge (omega arith) (λ z. beyond (scaled σ z)) (distances d.what))
+    (all-++ High _ _ (high_command DegenerateCommand (omega arith) (degenerate σ d.what) d.place)
+    (all-++ High _ _ (high_command NoLayer (omega arith) (layerless σ d.what) d.place) (high_command TooManyParts (omega arith) (has_too_many d.what) d.place)))))
 
 high_all : (σ : Standing) (cs : List (Placed Command)) → All High (all_faults σ cs)
 unfolding all_faults All
@@ -83,16 +77,16 @@ from_three cs e = high_first (all_faults (outside []) cs) (high_all (outside [])
 
 -- ---- the first in the text
 
-pub foremost_none : {t : List ℕ} (names : List ℕ) {n : ℕ} (before : Refusal) {g : Gathered} → ((m : List Letter) → Marked t m → Gathers (commands 0 m) g names) → g ≡ Named n → Foremost t before before
+pub foremost_none : {t : List ℕ} (names : List ℕ) {n : ℕ} (before : Refusal) {g : Result ℕ ℕ} → ((m : List Letter) → Marked t m → Gathers (commands 0 m) g names) → g ≡ Ok n → Foremost t before before
 unfolding Gathers sooner
-foremost_none names before f e m k = ap (sooner (some before)) (subst (λ (g : Gathered). Gathers (commands 0 m) g names) e (f m k)).1
+foremost_none names before f e m k = ap (sooner (some before)) (subst (λ (g : Result ℕ ℕ). Gathers (commands 0 m) g names) e (f m k)).1
 
-module _ {t : List ℕ} (names : List ℕ) {p : ℕ} (before : Refusal) {g : Gathered} (f : (m : List Letter) → Marked t m → Gathers (commands 0 m) g names) (e : g ≡ Over p) where
-  over_at : (m : List Letter) → Marked t m → too_many_from [] (commands 0 m) ≡ some (refuse too_many_layers p)
+module _ {t : List ℕ} (names : List ℕ) {p : ℕ} (before : Refusal) {g : Result ℕ ℕ} (f : (m : List Letter) → Marked t m → Gathers (commands 0 m) g names) (e : g ≡ Err p) where
+  over_at : (m : List Letter) → Marked t m → too_many_from [] (commands 0 m) ≡ some (refuse TooManyLayers p)
   unfolding Gathers
-  over_at m k = subst (λ (g : Gathered). Gathers (commands 0 m) g names) e (f m k)
+  over_at m k = subst (λ (g : Result ℕ ℕ). Gathers (commands 0 m) g names) e (f m k)
 
-  pub foremost-name : p < before.place → Foremost t before (refuse too_many_layers p)
+  pub foremost-name : p < before.place → Foremost t before (refuse TooManyLayers p)
   unfolding sooner
   foremost-name h m k = ap (sooner (some before)) (over_at m k) ∙ rw (lt-ltb p before.place h) refl
 
@@ -102,10 +96,10 @@ module _ {t : List ℕ} (names : List ℕ) {p : ℕ} (before : Refusal) {g : Gat
 
 -- ---- 1 to 9 and 19
 
-never : {k : ℕ} {why : Refusal} → Clear k ≡ Refused why → ⊥
+never : {k : ℕ} {why : Refusal} → Ok k ≡ Err why → ⊥
 never e = let z : ◌≡◌ {A = ℕ} 0 1 = cc in omega arith
 
-same-refusal : {a b : Refusal} → Refused a ≡ Refused b → a ≡ b
+same-refusal : {a b : Refusal} → Err a ≡ Err b → a ≡ b
 same-refusal e = cc
 
 stopped_by : {t : List ℕ} {m : List Letter} {why : Refusal} → length t ≤ most_bytes → Marked t m → first_fault_or_name (commands 0 m) ≡ some why
@@ -115,10 +109,10 @@ stopped_by {t} {m} {why} h k e words symbol =
     subst (Summarises t words symbol) (ap (λ (f : Option Refusal). summary_from t f (commands 0 m) words symbol) e) (read {m = m} h k)
 
 -- what is said against a text of the grammar
-fault_of : {t : List ℕ} {why : Refusal} (g : Grammatical t) → by_verdict t InGrammar (Refused why) → first_fault (commands 0 g.0) ≡ some why
+fault_of : {t : List ℕ} {why : Refusal} (g : Grammatical t) → by_verdict t (Ok tt) (Err why) → first_fault (commands 0 g.0) ≡ some why
 fault_of {t} {why} g f = go (first_fault (commands 0 g.0)) (f g.0 g.1)
   where
-    go : (o : Option Refusal) → Refused why ≡ fault_said o (rounded (commands 0 g.0)) → o ≡ some why
+    go : (o : Option Refusal) → Err why ≡ fault_said o (rounded (commands 0 g.0)) → o ≡ some why
     go none x = absurd (never (sym x))
     go (some r) x = ap some (sym (same-refusal x))
 
@@ -127,46 +121,46 @@ pub record OfCommands (t : List ℕ) (why : Refusal) : Type 0 where  -- one of 3
   pub grammatical : Grammatical t
   pub is : first_fault (commands 0 grammatical.0) ≡ some why
 
-module _ {t : List ℕ} {d : Fault} {why : Refusal} (x : Screened t d) (e : d ≡ Refused why) where
+module _ {t : List ℕ} {d : Result ℕ Refusal} {why : Refusal} (x : Screened t d) (e : d ≡ Err why) where
   pub by_number : 3 ≤ why.number → OfCommands t why
   by_number = go x e
     where
-      judged : length t ≤ most_bytes → (v : Verdict) → Judged t v → by_verdict t v (Refused why) → 3 ≤ why.number → OfCommands t why
-      judged s InGrammar g f h = record { short = s; grammatical = g; is = fault_of g f }
-      judged s (StuckAt n) g f h = absurd (let z = ap (λ (r : Refusal). r.number) (same-refusal f) in omega (arith, z, h))
+      judged : length t ≤ most_bytes → (v : Result Unit ℕ) → Judged t v → by_verdict t v (Err why) → 3 ≤ why.number → OfCommands t why
+      judged s (Ok tt) g f h = record { short = s; grammatical = g; is = fault_of g f }
+      judged s (Err n) g f h = absurd (let z = ap (λ (r : Refusal). r.number) (same-refusal f) in omega (arith, z, h))
 
-      go : {d : Fault} → Screened t d → d ≡ Refused why → 3 ≤ why.number → OfCommands t why
+      go : {d : Result ℕ Refusal} → Screened t d → d ≡ Err why → 3 ≤ why.number → OfCommands t why
       go (over h) q k = absurd (let z = ap (λ (r : Refusal). r.number) (same-refusal q) in omega (arith, z, k))
       go (within h f) q k = judged h f.verdict f.judged (subst (by_verdict t f.verdict) q f.is) k
 
-  pub before-commands : why.number < 3 → (names : List ℕ) → Starts t (begun.Stopped why) names
+  pub before-commands : why.number < 3 → (names : List ℕ) → Starts t (Err why) names
   unfolding Starts
   before-commands h names = go x e
     where
-      judged : length t ≤ most_bytes → (v : Verdict) → Judged t v → by_verdict t v (Refused why) → (words symbol : ℕ) → Summarises t words symbol (empty_summary t why)
-      judged s InGrammar g f words symbol = absurd (let z = from_three (commands 0 g.0) (fault_of g f) in omega (arith, z, h))
-      judged s (StuckAt n) g f words symbol = subst (λ (r : Refusal). Summarises t words symbol (empty_summary t r)) (sym (same-refusal f)) (not_cif s g.0 g.1)
+      judged : length t ≤ most_bytes → (v : Result Unit ℕ) → Judged t v → by_verdict t v (Err why) → (words symbol : ℕ) → Summarises t words symbol (empty_summary t why)
+      judged s (Ok tt) g f words symbol = absurd (let z = from_three (commands 0 g.0) (fault_of g f) in omega (arith, z, h))
+      judged s (Err n) g f words symbol = subst (λ (r : Refusal). Summarises t words symbol (empty_summary t r)) (sym (same-refusal f)) (not_cif s g.0 g.1)
 
-      go : {d : Fault} → Screened t d → d ≡ Refused why → (words symbol : ℕ) → Summarises t words symbol (empty_summary t why)
+      go : {d : Result ℕ Refusal} → Screened t d → d ≡ Err why → (words symbol : ℕ) → Summarises t words symbol (empty_summary t why)
       go (over s) q words symbol = subst (λ (r : Refusal). Summarises t words symbol (empty_summary t r)) (same-refusal q) (too_long s)
       go (within s f) q words symbol = judged s f.verdict f.judged (subst (by_verdict t f.verdict) q f.is) words symbol
 
-pub by_commands : {t : List ℕ} {before r : Refusal} (names : List ℕ) → OfCommands t before → Foremost t before r → Starts t (begun.Stopped r) names
+pub by_commands : {t : List ℕ} {before r : Refusal} (names : List ℕ) → OfCommands t before → Foremost t before r → Starts t (Err r) names
 unfolding Starts first_fault_or_name
 by_commands names o f = stopped_by o.short o.grammatical.1 (ap (λ (x : Option Refusal). sooner x (too_many_from [] (commands 0 o.grammatical.0))) o.is ∙ f o.grammatical.0 o.grammatical.1)
 
 -- ---- a text that 3 to 9 let pass
 
-module _ {t : List ℕ} (p : Passed t) (names : List ℕ) {g : Gathered} (f : (m : List Letter) → Marked t m → Gathers (commands 0 m) g names) where
-  pub passed-named : {n : ℕ} → g ≡ Named n → Starts t (begun.Named n) names
+module _ {t : List ℕ} (p : Passed t) (names : List ℕ) {g : Result ℕ ℕ} (f : (m : List Letter) → Marked t m → Gathers (commands 0 m) g names) where
+  pub passed-named : {n : ℕ} → g ≡ Ok n → Starts t (Ok n) names
   unfolding Starts Gathers
   passed-named {n} e =
-      let x = subst (λ (g : Gathered). Gathers (commands 0 p.letters) g names) e (f p.letters p.marked) in
+      let x = subst (λ (g : Result ℕ ℕ). Gathers (commands 0 p.letters) g names) e (f p.letters p.marked) in
       record { passed = p; noted = x.0; clear = x.1 }
 
-  pub passed_over : {q : ℕ} → g ≡ Over q → Starts t (begun.Stopped (refuse too_many_layers q)) names
+  pub passed_over : {q : ℕ} → g ≡ Err q → Starts t (Err (refuse TooManyLayers q)) names
   unfolding Starts Gathers first_fault_or_name sooner
   passed_over {q} e =
       stopped_by p.short p.marked
       (ap (λ (x : Option Refusal). sooner x (too_many_from [] (commands 0 p.letters))) p.clear
-      ∙ subst (λ (g : Gathered). Gathers (commands 0 p.letters) g names) e (f p.letters p.marked))
+      ∙ subst (λ (g : Result ℕ ℕ). Gathers (commands 0 p.letters) g names) e (f p.letters p.marked))

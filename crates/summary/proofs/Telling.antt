@@ -16,7 +16,7 @@ use Rattle.definition.specs.declared.Refusal.{Refusal}
 use Rattle.definition.specs.declared.Summary.{Summary}
 use Rattle.definition.specs.Limits.{deepest, most_layers}
 use Rattle.definition.specs.Words.{Placed, any, those, first}
-use Rattle.definition.specs.Rules.{Rule, undefined_symbol, number_of}
+use Rattle.definition.specs.Rules.{Rule, UndefinedSymbol, number_of}
 use Rattle.definition.specs.Commands.{commands}
 use Rattle.definition.specs.Table.{Step, Definition, Table, find}
 use Rattle.definition.specs.Counts.{End, stopped}
@@ -31,21 +31,15 @@ use Rattle.laws.proofs.Story.LeanReplies.{lean-shapes, lean-calls, lean-layers, 
 use Rattle.names.specs.Names.{name_of, unpacked, packed, packed_by}
 use Rattle.library.specs.Memory.{symbol_at, body_at, definition_at, table_of}
 use Rattle.library.specs.Rows.{Finds}
-use Rattle.library.specs.declared.Found.{Found}
-use Rattle.library.specs.declared.Found.TheVariants.{Live, Nothing}
 use Rattle.library.proofs.Holding.{held-table}
 use Rattle.library.proofs.Looking.{found, not_found}
 use Rattle.passing.specs.Passed.{Passed}
 use Rattle.marks.specs.Noted.{Noted}
 use Rattle.columns.specs.declared.Own.{Own}
 use Rattle.heights.specs.declared.Reply as declared
-use Rattle.heights.specs.declared.Reply.TheVariants.{Bars, Stands}
 use Rattle.heights.specs.Replies.{ReplyOf, SymbolReplies}
 use Rattle.summary.specs.Summed.{end_of, table_left, FirstName, SetIn, OwnIs, Given, TableHeld, KeepsAll, KeepsText, NamedPassed, Starts, Askable, TellsReply, Tells, TellsText}
-use Rattle.summary.specs.declared.Summed.{Summed}
-use Rattle.summary.specs.declared.Summed.TheVariants.{Live as Left, Refused}
-use Rattle.summary.specs.declared.Begun.{Begun}
-use Rattle.summary.specs.declared.Begun.TheVariants.{Stopped, Named}
+use Rattle.std.specs.Prelude.{Err, None, Ok, Option, Result, Some}
 
 -- ---- the lowest mark is one of the names
 
@@ -115,17 +109,17 @@ module _ {names : List ℕ} {count : ℕ} {ns : Names} (ls : Names) {set : ℕ} 
 
 -- ---- a reply and the own numbers
 
-bars_not : {r : declared.Reply} {n h set : ℕ} → r ≡ Bars n → r ≡ Stands h set → ⊥
+bars_not : {r : declared.Reply} {n h set : ℕ} → r ≡ Err n → r ≡ Ok (record { height = h; layers = set }) → ⊥
 bars_not e f = let z : ◌≡◌ {A = ℕ} 0 1 = cc in omega arith
 
-same_set : {r : declared.Reply} {h k set other : ℕ} → r ≡ Stands h other → r ≡ Stands k set → set ≡ other
+same_set : {r : declared.Reply} {h k set other : ℕ} → r ≡ Ok (record { height = h; layers = other }) → r ≡ Ok (record { height = k; layers = set }) → set ≡ other
 same_set e f = cc
 
-is_bars : (ns : Names) (rule : Rule) (r : declared.Reply) → ReplyOf ns (bars rule) r → r ≡ Bars (number_of rule)
+is_bars : (ns : Names) (rule : Rule) (r : declared.Reply) → ReplyOf ns (bars rule) r → r ≡ Err (number_of rule)
 unfolding ReplyOf
 is_bars ns rule r f = f
 
-is_stands : (ns : Names) (h : ℕ) (ls : Names) (r : declared.Reply) → ReplyOf ns (stands h ls) r → r ≡ Stands h (set_of_layers ns ls)
+is_stands : (ns : Names) (h : ℕ) (ls : Names) (r : declared.Reply) → ReplyOf ns (stands h ls) r → r ≡ Ok (record { height = h; layers = (set_of_layers ns ls) })
 unfolding ReplyOf
 is_stands ns h ls r f = f
 
@@ -133,7 +127,7 @@ module _ {ns : Names} {own : Own} {ss : List (Placed Step)} (o : OwnIs ns own ss
   own-layers : ones own.layers ≡ length (appearing ns (own_layers ss))
   own-layers = ap ones o.layers ∙ set-ones ns (own_layers ss)
 
-  pub told-bars : (told : Reply) {reply : declared.Reply} {number many : ℕ} → ReplyOf ns told reply → reply ≡ Bars number → many ≡ ones own.layers → {r : Summary}
+  pub told-bars : (told : Reply) {reply : declared.Reply} {number many : ℕ} → ReplyOf ns told reply → reply ≡ Err number → many ≡ ones own.layers → {r : Summary}
       → r ≡ record { number = 0; place = 0; line = 0; column = 0; gives = number; drawn = 0; first = 0; height = 0; shapes = own.shapes; calls = own.calls; layers = many }
       → r ≡ in_symbol ns told ss
   unfolding ReplyOf in_symbol
@@ -142,7 +136,7 @@ module _ {ns : Names} {own : Own} {ss : List (Placed Step)} (o : OwnIs ns own ss
       q ∙ rw (same, o.shapes, o.calls, m ∙ own-layers) refl
   told-bars (stands h ls) f e m q = absurd (bars_not e f)
 
-  pub told-stands : (told : Reply) {reply : declared.Reply} {height set name many drawn : ℕ} → ReplyOf ns told reply → reply ≡ Stands height set → many ≡ ones own.layers → drawn ≡ ones set
+  pub told-stands : (told : Reply) {reply : declared.Reply} {height set name many drawn : ℕ} → ReplyOf ns told reply → reply ≡ Ok (record { height = height; layers = set }) → many ≡ ones own.layers → drawn ≡ ones set
       → ((ls : Names) → set ≡ set_of_layers ns ls → name ≡ packed_name (first (appearing ns ls))) → {r : Summary}
       → r ≡ record { number = 0; place = 0; line = 0; column = 0; gives = 0; drawn = drawn; first = name; height = height; shapes = own.shapes; calls = own.calls; layers = many }
       → r ≡ in_symbol ns told ss
@@ -163,11 +157,11 @@ no_own : (ns : Names) → OwnIs ns (record { shapes = 0; calls = 0; layers = 0 }
 unfolding own_shapes own_calls own_layers those flat_map
 no_own ns = record { shapes = refl; calls = refl; layers = sym (set_none ns) }
 
-by_none : (n : ℕ) (o : Option Definition) (go : Definition → Reply) → o ≡ none → reply_by (passage_to o deepest [] n) go ≡ bars undefined_symbol
+by_none : (n : ℕ) (o : Option Definition) (go : Definition → Reply) → o ≡ none → reply_by (passage_to o deepest [] n) go ≡ bars UndefinedSymbol
 unfolding passage_to reply_by
 by_none n o go e = ap (λ (x : Option Definition). reply_by (passage_to x deepest [] n) go) e
 
-undefined : (t : Table) (n : ℕ) → find n t ≡ none → reply_to deepest t [] 0 n ≡ bars undefined_symbol
+undefined : (t : Table) (n : ℕ) → find n t ≡ none → reply_to deepest t [] 0 n ≡ bars UndefinedSymbol
 unfolding reply_to
 undefined t n e = by_none n (find n t) _ e
 
@@ -180,7 +174,7 @@ module _ {rows : List ℕ} {b : List ℤ} {live : ℕ} {names : List ℕ} {count
   reply_there r s =
       subst (λ (q : Reply). ReplyOf ns q r) (ap (λ (u : Table). reply_to deepest u [] 0 symbol) lean-table ∙ lean_replies t deepest [] 0 symbol) (s ns (λ i l. h.afresh.layers_are i l ns n))
 
-  module _ {f : Found} (x : Finds rows live symbol f) {row : ℕ} (e : f ≡ Live row) where
+  module _ {f : Option ℕ} (x : Finds rows live symbol f) {row : ℕ} (e : f ≡ Some row) where
     pub row_within : row < live
     row_within = (found rows b symbol live f row x e).0
 
@@ -196,12 +190,12 @@ module _ {rows : List ℕ} {b : List ℤ} {live : ℕ} {names : List ℕ} {count
     }
 
   -- no row has the number
-  pub none_there : {f : Found} → Finds rows live symbol f → f ≡ Nothing → {r : Summary} → TellsReply names (Bars 12) (record { shapes = 0; calls = 0; layers = 0 }) r → r ≡ in_symbol ns (reply_to deepest t [] 0 symbol) (body_found (find symbol t))
+  pub none_there : {f : Option ℕ} → Finds rows live symbol f → f ≡ None → {r : Summary} → TellsReply names (Err 12) (record { shapes = 0; calls = 0; layers = 0 }) r → r ≡ in_symbol ns (reply_to deepest t [] 0 symbol) (body_found (find symbol t))
   unfolding body_found ReplyOf
   none_there {f} x e {r} tells =
       let lost : find symbol t ≡ none = not_lean (find symbol t) (sym (lean-find symbol t) ∙ (sym (ap (find symbol) lean-table) ∙ not_found rows b symbol live f x e)) in
       subst (λ (q : Reply). r ≡ in_symbol ns q (body_found (find symbol t))) (sym (undefined t symbol lost))
-      (subst (λ (o : Option Definition). r ≡ in_symbol ns (bars undefined_symbol) (body_found o)) (sym lost) (tells count ns (bars undefined_symbol) [] n refl (no_own ns)))
+      (subst (λ (o : Option Definition). r ≡ in_symbol ns (bars UndefinedSymbol) (body_found o)) (sym lost) (tells count ns (bars UndefinedSymbol) [] n refl (no_own ns)))
     where
       not_lean : (o : Option Definition) → map lean_definition o ≡ none → o ≡ none
       not_lean none e = refl
@@ -213,26 +207,26 @@ pub not_zero : (n : ℕ) → (n ≡ 0 → ⊥) → 0 < n
 not_zero zero h = absurd (h refl)
 not_zero (suc n) h = omega arith
 
-pub set_given : {names : List ℕ} {reply : declared.Reply} {own : Own} {height set : ℕ} → Given names reply own → reply ≡ Stands height set → SetIn names set
+pub set_given : {names : List ℕ} {reply : declared.Reply} {own : Own} {height set : ℕ} → Given names reply own → reply ≡ Ok (record { height = height; layers = set }) → SetIn names set
 set_given {names} {reply} {own} {height} {set} g e = go g.told g.is
   where
     go : (told : Reply) → ReplyOf g.all_names told reply → SetIn names set
     go (bars rule) f = absurd (bars_not (is_bars g.all_names rule reply f) e)
     go (stands h ls) f = record { count = g.count; all_names = g.all_names; layers = ls; noted = g.noted; is = same_set (is_stands g.all_names h ls reply f) e }
 
-pub given_none : {names : List ℕ} {count : ℕ} {ns : Names} → Noted names count ns → Given names (Bars 12) (record { shapes = 0; calls = 0; layers = 0 })
+pub given_none : {names : List ℕ} {count : ℕ} {ns : Names} → Noted names count ns → Given names (Err 12) (record { shapes = 0; calls = 0; layers = 0 })
 unfolding ReplyOf
-given_none {count = count} {ns = ns} n = record { count = count; all_names = ns; told = bars undefined_symbol; body = []; noted = n; is = refl; own_is = no_own ns }
+given_none {count = count} {ns = ns} n = record { count = count; all_names = ns; told = bars UndefinedSymbol; body = []; noted = n; is = refl; own_is = no_own ns }
 
 pub given-row : {names : List ℕ} {count : ℕ} {ns : Names} (told : Reply) {ss : List (Placed Step)} {reply : declared.Reply} {own : Own} → Noted names count ns → ReplyOf ns told reply → OwnIs ns own ss
     → Given names reply own
 given-row {count = count} {ns = ns} told {ss = ss} n f o = record { count = count; all_names = ns; told = told; body = ss; noted = n; is = f; own_is = o }
 
-module _ (t : List ℕ) (w : ℕ) (names : List ℕ) (count : ℕ) {s : Summed} (rows : List ℕ) (b : List ℤ) (figures calls layers : List ℕ) (k : KeepsText t w names count s rows b figures calls layers) where
-  module _ {n : ℕ} (e : s ≡ Left n) where
+module _ (t : List ℕ) (w : ℕ) (names : List ℕ) (count : ℕ) {s : Result ℕ Refusal} (rows : List ℕ) (b : List ℤ) (figures calls layers : List ℕ) (k : KeepsText t w names count s rows b figures calls layers) where
+  module _ {n : ℕ} (e : s ≡ Ok n) where
     live_kept : (p : Passed t) → KeepsAll w p.letters names count n rows b figures calls layers
     unfolding KeepsText
-    live_kept = subst (λ (x : Summed). KeepsText t w names count x rows b figures calls layers) e k
+    live_kept = subst (λ (x : Result ℕ Refusal). KeepsText t w names count x rows b figures calls layers) e k
 
     pub may_ask : NamedPassed t names count → Askable rows b n names figures calls layers
     may_ask q = record { count = count; all_names = _; table = _; noted = q.noted; held = (live_kept q.passed).held }
@@ -244,22 +238,22 @@ module _ (t : List ℕ) (w : ℕ) (names : List ℕ) (count : ℕ) {s : Summed} 
         x count (layer_names (commands 0 p.letters)) (table_left p.letters) noted y.held
         ∙ sym (ap (λ (o : End). summary_in t o (layer_names (commands 0 p.letters)) (table_left p.letters) symbol) y.ends)
 
-  pub text-refused : (symbol : ℕ) {why : Refusal} → s ≡ Refused why → {r : Summary} → r ≡ empty_summary t why → TellsText t w names count symbol r
+  pub text-refused : (symbol : ℕ) {why : Refusal} → s ≡ Err why → {r : Summary} → r ≡ empty_summary t why → TellsText t w names count symbol r
   unfolding summary_in KeepsText
   text-refused symbol {why} e q p noted =
-      let y : end_of w p.letters ≡ stopped why [] = subst (λ (x : Summed). KeepsText t w names count x rows b figures calls layers) e k p in
+      let y : end_of w p.letters ≡ stopped why [] = subst (λ (x : Result ℕ Refusal). KeepsText t w names count x rows b figures calls layers) e k p in
       q ∙ sym (ap (λ (o : End). summary_in t o (layer_names (commands 0 p.letters)) (table_left p.letters) symbol) y)
 
-module _ (t : List ℕ) {g : Begun} (names : List ℕ) (s : Starts t g names) where
-  pub starts-stopped : {why : Refusal} → g ≡ Stopped why → {r : Summary} → r ≡ empty_summary t why → {words symbol : ℕ} → Summarises t words symbol r
+module _ (t : List ℕ) {g : Result ℕ Refusal} (names : List ℕ) (s : Starts t g names) where
+  pub starts-stopped : {why : Refusal} → g ≡ Err why → {r : Summary} → r ≡ empty_summary t why → {words symbol : ℕ} → Summarises t words symbol r
   unfolding Starts
-  starts-stopped e q {words} {symbol} = subst (Summarises t words symbol) (sym q) (subst (λ (x : Begun). Starts t x names) e s words symbol)
+  starts-stopped e q {words} {symbol} = subst (Summarises t words symbol) (sym q) (subst (λ (x : Result ℕ Refusal). Starts t x names) e s words symbol)
 
-  pub starts-named : {count : ℕ} → g ≡ Named count → NamedPassed t names count
+  pub starts-named : {count : ℕ} → g ≡ Ok count → NamedPassed t names count
   unfolding Starts
-  starts-named e = subst (λ (x : Begun). Starts t x names) e s
+  starts-named e = subst (λ (x : Result ℕ Refusal). Starts t x names) e s
 
-  pub starts-told : {count : ℕ} → g ≡ Named count → {r : Summary} {words symbol : ℕ} → TellsText t words names count symbol r → Summarises t words symbol r
+  pub starts-told : {count : ℕ} → g ≡ Ok count → {r : Summary} {words symbol : ℕ} → TellsText t words names count symbol r → Summarises t words symbol r
   unfolding summary_of summary_from first_fault_or_name sooner
   starts-told e {r} {words} {symbol} x =
       let q = starts-named e in

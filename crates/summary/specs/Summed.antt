@@ -27,10 +27,7 @@ use Rattle.columns.specs.Columns.{Afresh}
 use Rattle.columns.specs.declared.Own.{Own}
 use Rattle.heights.specs.declared.Reply as declared
 use Rattle.heights.specs.Replies.{ReplyOf}
-use Rattle.summary.specs.declared.Summed.{Summed}
-use Rattle.summary.specs.declared.Summed.TheVariants.{Live, Refused}
-use Rattle.summary.specs.declared.Begun.{Begun}
-use Rattle.summary.specs.declared.Begun.TheVariants.{Stopped, Named}
+use Rattle.std.specs.Prelude.{Err, Ok, Result}
 
 abbrev pub kept_of : List Deed → List Deed  -- what keeps the table
 kept_of ds = those kept? ds
@@ -56,9 +53,9 @@ pub record KeepsAll (words : ℕ) (m : List Letter) (names : List ℕ) (count li
   pub ends : end_of words m ≡ finished totals
   pub held : TableHeld rows b live names count figures calls layers (table_left m)
 
-unfoldable pub KeepsText : (t : List ℕ) (words : ℕ) (names : List ℕ) (count : ℕ) → Summed → (rows : List ℕ) (b : List ℤ) (figures calls layers : List ℕ) → Type 0
-KeepsText t words names count (Live n) rows b figures calls layers = (p : Passed t) → KeepsAll words p.letters names count n rows b figures calls layers
-KeepsText t words names count (Refused why) rows b figures calls layers = (p : Passed t) → end_of words p.letters ≡ stopped why []
+unfoldable pub KeepsText : (t : List ℕ) (words : ℕ) (names : List ℕ) (count : ℕ) → Result ℕ Refusal → (rows : List ℕ) (b : List ℤ) (figures calls layers : List ℕ) → Type 0
+KeepsText t words names count (Ok n) rows b figures calls layers = (p : Passed t) → KeepsAll words p.letters names count n rows b figures calls layers
+KeepsText t words names count (Err why) rows b figures calls layers = (p : Passed t) → end_of words p.letters ≡ stopped why []
 
 -- of refusals 3 to 9 and 19 of a text of the grammar the first in text order: the contract of `foremost`
 abbrev pub Foremost : List ℕ → Refusal → Refusal → Type 0
@@ -70,9 +67,9 @@ pub record NamedPassed (t : List ℕ) (names : List ℕ) (count : ℕ) : Type 0 
   pub noted : Noted names count (layer_names (commands 0 passed.letters))
   pub clear : too_many_from [] (commands 0 passed.letters) ≡ none
 
-unfoldable pub Starts : List ℕ → Begun → List ℕ → Type 0
-Starts t (Stopped why) names = (words symbol : ℕ) → Summarises t words symbol (empty_summary t why)
-Starts t (Named count) names = NamedPassed t names count
+unfoldable pub Starts : List ℕ → Result ℕ Refusal → List ℕ → Type 0
+Starts t (Err why) names = (words symbol : ℕ) → Summarises t words symbol (empty_summary t why)
+Starts t (Ok count) names = NamedPassed t names count
 
 -- ---- a symbol
 

@@ -2,11 +2,11 @@
 // left at the end of the text.
 #![tactic(auto)]
 
-ghost use Rattle.std.specs.Prelude.{◌≡◌, ◌+◌, ◌<◌, ◌≤◌, length};
+ghost use Rattle.std.specs.Prelude.{ltb, ◌≡◌, ◌+◌, ◌<◌, ◌≤◌, length};
 ghost use Rattle.std.specs.Int.Count.{ones, count_trailing_zeros};
 ghost use Rattle.grammar.specs.Viable.{Grammatical};
-ghost use Rattle.grammar.specs.Steps.{KindsLent, NextLent};
 ghost use Rattle.definition.specs.Limits.{most_layers};
+ghost use Rattle.definition.specs.Rules.{number_of};
 ghost use Rattle.definition.specs.Summary.{empty_summary, Summarises, Summarised};
 ghost use Rattle.moves.specs.Moves.{most_values};
 ghost use Rattle.library.specs.Memory.{row_numbers, most};
@@ -15,40 +15,19 @@ ghost use Rattle.passing.specs.Passed.{Passed};
 ghost use Rattle.marks.specs.Noted.{Noted};
 ghost use Rattle.summary.specs.Summed.{KeepsText, Foremost, Starts, FirstName, SetIn, Given, TellsReply, Askable, Tells, NamedPassed, TellsText};
 
-use checking::Fault;
 use columns::Own;
-use definition::{Refusal, Summary};
-use heights::Reply;
-use keeping::{Defined, Stock};
-use marks::Gathered;
+use definition::{Refusal, Rule, Summary};
+use heights::Standing;
+use keeping::Stock;
 
 // A command has at most 2,049 numbers, and two words in front.
 const COMMAND_WORDS: usize = 2051;
-// Refusals 1 and 2 come before all that commands can be refused for.
-const FIRST_OF_COMMANDS: usize = 3;
 
-const TOO_MANY_LAYERS: usize = 19;
-
-// What came of a text's definitions: so many are live at its end; or one was refused (10 and 25).
-#[derive(Clone, Copy)]
-enum Summed {
-    Live(usize),
-    Refused(Refusal),
-}
-
-// What is known of a text before its definitions are looked at: it is refused (1 to 9 and 19), or how many layer names it has.
-#[derive(Clone, Copy)]
-enum Begun {
-    Stopped(Refusal),
-    Named(usize),
-}
-
-// The commands of a text from its start on: definitions are entered, with their columns, and removed. A definition that is one too many or needs more words
+// The commands of a text from its start on: definitions are entered, with their columns, and removed; how many are live at its end. A definition that is one too many or needs more words
 // than were lent ends the pass, as it ends the drawing.
 fn keep_text(
     text: &[u8],
-    kinds: &[u8; 256],
-    next: &[u16; grammar::tables::ENTRY_COUNT],
+    recogniser: &grammar::Recogniser,
     rows: &mut [usize; library::ROW_NUMBERS],
     bodies: &mut [i32],
     words: &mut [i32],
@@ -57,8 +36,7 @@ fn keep_text(
     figures: &mut [u64; library::MOST],
     calls: &mut [u64; library::MOST],
     layers: &mut [u64; library::MOST],
-) -> Summed
-    requires kinds_lent { KindsLent kinds.now × NextLent next.now }
+) -> Result<usize, Refusal>
     requires passed { Passed text.now × (length rows.old ≡ row_numbers) × (length bodies.old ≤ most_words) }
     requires most_values_in_bounds { (most_values + 2 ≤ length words.old) × (count ≤ most_layers) }
     requires figures_len { (length figures.old ≡ most) × (length calls.old ≡ most) × (length layers.old ≡ most) }
@@ -72,44 +50,38 @@ fn keep_text(
     };
     let mut counts = counts::no_counts();
     loop {
-        match commands::read_command(text, kinds, next, words, spot, 1, 1) {
-            commands::Read::Nothing => {
-                return Summed::Live(stock.live);
+        match commands::read_command(text, recogniser, words, spot, 1, 1) {
+            None => {
+                return Ok(stock.live);
             }
-            commands::Read::Decoded(kind, place, _, to) => {
+            Some(c) => {
+                let kind = c.kind;
+                let place = c.place;
+                let to = c.to;
                 spot = to;
                 if kind == b'D' {
                     let symbol = shapes::size_at(words, 2);
                     stock = passing::delete(rows, stock, symbol);
                 } else if kind == b'S' {
                     let start = passing::start_in(words, place);
-                    match keeping::define(
-                        text, kinds, next, rows, bodies, stock, start, to, counts,
-                    ) {
-                        Defined::Taken(more, after, behind) => {
-                            columns::enter(
-                                bodies,
-                                rows,
-                                stock.live,
-                                more.live,
-                                start.symbol,
-                                names,
-                                count,
-                                figures,
-                                calls,
-                                layers,
-                            );
-                            spot = behind;
-                            stock = more;
-                            counts = after;
-                        }
-                        Defined::Overfull => {
-                            return Summed::Refused(Refusal { number: 10, place });
-                        }
-                        Defined::Short => {
-                            return Summed::Refused(Refusal { number: 25, place });
-                        }
-                    }
+                    let taken = keeping::define(
+                        text, recogniser, rows, bodies, stock, start, to, counts,
+                    ).map_err(|rule| Refusal { rule, place })?;
+                    columns::enter(
+                        bodies,
+                        rows,
+                        stock.live,
+                        taken.stock.live,
+                        start.symbol,
+                        names,
+                        count,
+                        figures,
+                        calls,
+                        layers,
+                    );
+                    spot = taken.to;
+                    stock = taken.stock;
+                    counts = taken.counts;
                 }
             }
         }
@@ -122,7 +94,7 @@ fn no_summary(text: &[u8], refusal: Refusal) -> Summary
 {
     let position = position::position_of(text, refusal.place);
     Summary {
-        number: refusal.number,
+        number: definition::number_of(refusal.rule),
         place: refusal.place,
         line: position.line,
         column: position.column,
@@ -142,11 +114,11 @@ fn foremost(text: &[u8], names: &mut [usize; definition::MOST_LAYERS], refusal: 
     ensures { Foremost text.now refusal result }
 {
     match marks::gather(text, names) {
-        Gathered::Named(_) => refusal,
-        Gathered::Over(place) => {
+        Ok(_) => refusal,
+        Err(place) => {
             if place < refusal.place {
                 return Refusal {
-                    number: TOO_MANY_LAYERS,
+                    rule: Rule::TooManyLayers,
                     place,
                 };
             }
@@ -155,25 +127,29 @@ fn foremost(text: &[u8], names: &mut [usize; definition::MOST_LAYERS], refusal: 
     }
 }
 
-// Refusals 1 to 9 and 19, and the layer names of a text that they let pass.
-fn begin(text: &[u8], names: &mut [usize; definition::MOST_LAYERS]) -> Begun
+// Refusals 1 and 2 come before all that commands can be refused for.
+fn precedes_commands(rule: Rule) -> bool
+    ensures { result ≡ ltb (number_of rule) 3 }
+{
+    rule == Rule::TextTooLong || rule == Rule::NotInGrammar
+}
+
+// Refusals 1 to 9 and 19, and the layer names of a text that they let pass: how many they are.
+fn begin(text: &[u8], names: &mut [usize; definition::MOST_LAYERS]) -> Result<usize, Refusal>
     requires { length names.old ≡ most_layers }
     ensures { Starts text.now result names.new }
 {
     match reader::first_fault(text) {
-        Fault::Refused(refusal) => {
-            if refusal.number < FIRST_OF_COMMANDS {
-                return Begun::Stopped(refusal);
+        Err(refusal) => {
+            if precedes_commands(refusal.rule) {
+                return Err(refusal);
             }
-            Begun::Stopped(foremost(text, names, refusal))
+            Err(foremost(text, names, refusal))
         }
-        Fault::Clear(_) => match marks::gather(text, names) {
-            Gathered::Named(count) => Begun::Named(count),
-            Gathered::Over(place) => Begun::Stopped(Refusal {
-                number: TOO_MANY_LAYERS,
-                place,
-            }),
-        },
+        Ok(_) => marks::gather(text, names).map_err(|place| Refusal {
+            rule: Rule::TooManyLayers,
+            place,
+        }),
     }
 }
 
@@ -203,7 +179,11 @@ fn first_name(names: &[usize; definition::MOST_LAYERS], set: u64) -> usize
 }
 
 // What is told of a symbol, by what a call of it gives and by its own numbers.
-fn tell_reply(names: &[usize; definition::MOST_LAYERS], reply: Reply, own: Own) -> Summary
+fn tell_reply(
+    names: &[usize; definition::MOST_LAYERS],
+    reply: Result<Standing, Rule>,
+    own: Own,
+) -> Summary
     requires { Given names.now reply own }
     ensures { TellsReply names.now reply own result }
 {
@@ -211,12 +191,12 @@ fn tell_reply(names: &[usize; definition::MOST_LAYERS], reply: Reply, own: Own) 
     let calls = own.calls as usize;
     let layers = ones_of(own.layers) as usize;
     match reply {
-        Reply::Bars(number) => Summary {
+        Err(rule) => Summary {
             number: 0,
             place: 0,
             line: 0,
             column: 0,
-            gives: number,
+            gives: definition::number_of(rule),
             drawn: 0,
             first: 0,
             height: 0,
@@ -224,9 +204,9 @@ fn tell_reply(names: &[usize; definition::MOST_LAYERS], reply: Reply, own: Own) 
             calls,
             layers,
         },
-        Reply::Stands(height, set) => {
-            let first = first_name(names, set);
-            let drawn = ones_of(set) as usize;
+        Ok(standing) => {
+            let first = first_name(names, standing.layers);
+            let drawn = ones_of(standing.layers) as usize;
             Summary {
                 number: 0,
                 place: 0,
@@ -235,7 +215,7 @@ fn tell_reply(names: &[usize; definition::MOST_LAYERS], reply: Reply, own: Own) 
                 gives: 0,
                 drawn,
                 first,
-                height,
+                height: standing.height,
                 shapes,
                 calls,
                 layers,
@@ -259,15 +239,15 @@ fn tell(
     ensures { Tells rows.now bodies.now live names.now figures.now calls.now layers.now symbol result }
 {
     match library::find(rows, live, symbol) {
-        library::Found::Nothing => {
+        None => {
             let none = Own {
                 shapes: 0,
                 calls: 0,
                 layers: 0,
             };
-            tell_reply(names, Reply::Bars(12), none)
+            tell_reply(names, Err(Rule::UndefinedSymbol), none)
         }
-        library::Found::Live(row) => {
+        Some(row) => {
             let own = Own {
                 shapes: figures[row],
                 calls: calls[row],
@@ -282,8 +262,7 @@ fn tell(
 // The table of a text that refusals 1 to 9 and 19 let pass, and a symbol of it; or refusals 10 and 25.
 fn tell_text(
     text: &[u8],
-    kinds: &[u8; 256],
-    next: &[u16; grammar::tables::ENTRY_COUNT],
+    recogniser: &grammar::Recogniser,
     rows: &mut [usize; library::ROW_NUMBERS],
     bodies: &mut [i32],
     words: &mut [i32],
@@ -294,17 +273,16 @@ fn tell_text(
     layers: &mut [u64; library::MOST],
     symbol: usize,
 ) -> Summary
-    requires kinds_lent { KindsLent kinds.now × NextLent next.now }
     requires named_passed { NamedPassed text.now names.now count × (length rows.old ≡ row_numbers) × (length bodies.old ≤ most_words) }
     requires most_values_in_bounds { most_values + 2 ≤ length words.old }
     requires figures_len { (length figures.old ≡ most) × (length calls.old ≡ most) × (length layers.old ≡ most) }
     ensures { TellsText text.now (length bodies.old) names.now count symbol result }
 {
     match keep_text(
-        text, kinds, next, rows, bodies, words, names, count, figures, calls, layers,
+        text, recogniser, rows, bodies, words, names, count, figures, calls, layers,
     ) {
-        Summed::Refused(refusal) => no_summary(text, refusal),
-        Summed::Live(live) => tell(bodies, rows, live, names, figures, calls, layers, symbol),
+        Err(refusal) => no_summary(text, refusal),
+        Ok(live) => tell(bodies, rows, live, names, figures, calls, layers, symbol),
     }
 }
 
@@ -319,8 +297,7 @@ fn tell_passed(
     requires { NamedPassed text.now names.now count }
     ensures { TellsText text.now (length bodies.old) names.now count symbol result }
 {
-    let kinds = grammar::tables::KINDS;
-    let next = grammar::tables::NEXT;
+    let recogniser = grammar::Recogniser::new();
     let mut rows = [0usize; library::ROW_NUMBERS];
     let mut words = [0i32; COMMAND_WORDS];
     let mut figures = [0u64; library::MOST];
@@ -329,8 +306,7 @@ fn tell_passed(
     let lent = passing::at_most(bodies.len());
     tell_text(
         text,
-        &kinds,
-        &next,
+        &recogniser,
         &mut rows,
         &mut bodies[0..lent],
         &mut words,
@@ -349,8 +325,8 @@ fn sum_up(text: &[u8], bodies: &mut [i32], symbol: usize) -> Summary
 {
     let mut names = [0usize; definition::MOST_LAYERS];
     match begin(text, &mut names) {
-        Begun::Stopped(refusal) => no_summary(text, refusal),
-        Begun::Named(count) => tell_passed(text, bodies, &names, count, symbol),
+        Err(refusal) => no_summary(text, refusal),
+        Ok(count) => tell_passed(text, bodies, &names, count, symbol),
     }
 }
 

@@ -10,7 +10,7 @@ use lib.Dec.{lit≤}
 use lib.IntN.{pos}
 use lib.ListN.{length}
 use Rattle.definition.specs.Words.{bytes_of}
-use Rattle.definition.specs.Rules.{text_too_long, refuse}
+use Rattle.definition.specs.Rules.{TextTooLong, refuse}
 use Rattle.definition.specs.Flat.{decimal}
 use Rattle.definition.specs.Answer.{rejected, Answers, too_long}
 use Rattle.definition.specs.Listing.{Lists, over}
@@ -115,7 +115,7 @@ unfolding all_hold rooms
 rooms_hold = each rooms tt
 
 -- 1: whatever the bytes of a longer text are, and for the list program those of one over 32,768
-pub text_too_long_lem : (t : List ℕ) (words room : ℕ) → length t ≡ 16777217 → Answers t words room (rejected (refuse text_too_long 0) [])
+pub text_too_long_lem : (t : List ℕ) (words room : ℕ) → length t ≡ 16777217 → Answers t words room (rejected (refuse TextTooLong 0) [])
 text_too_long_lem t words room h = too_long (omega (arith, h))
 
 pub list_too_long : Lists (times 32769 ";" []) (bytes_of "refused\t1\t0\t1\t1\n")

@@ -11,7 +11,7 @@ use Rattle.grammar.specs.Notation.{Letter}
 use Rattle.grammar.proofs.Markings.{marking_is}
 use Rattle.definition.specs.Limits.{most_definitions}
 use Rattle.definition.specs.Words.{Placed}
-use Rattle.definition.specs.Rules.{too_many_definitions, too_few_words, refuse}
+use Rattle.definition.specs.Rules.{TooManyDefinitions, TooFewWords, refuse}
 use Rattle.definition.specs.Commands.{Command, commands}
 use Rattle.definition.specs.Standing.{outside}
 use Rattle.definition.specs.Table.{Definition, Table, enter}
@@ -73,7 +73,7 @@ enters w c t d {c'} h =
     go (ltb most_definitions (length (enter d t))) (ltb w (words_in (enter d t))) refl refl (sym (ap (ending c) (held-define w t d)) ∙ h)
   where
     go : (a b : Bool) → ltb most_definitions (length (enter d t)) ≡ a → ltb w (words_in (enter d t)) ≡ b
-        → ending c ((if a then refused (refuse too_many_definitions d.place) [] else if b then refused (refuse too_few_words d.place) [] else entered d t) ∷ []) ≡ finished c' → Enters w t d
+        → ending c ((if a then refused (refuse TooManyDefinitions d.place) [] else if b then refused (refuse TooFewWords d.place) [] else entered d t) ∷ []) ≡ finished c' → Enters w t d
     go true b e f x = absurd (first_end c _ x)
     go false true e f x = absurd (first_end c _ x)
     go false false e f x = record { goes_on = unfold stops_at in rw (e, f); happens_so = unfold happens in rw e }

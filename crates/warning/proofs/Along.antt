@@ -25,8 +25,6 @@ use Rattle.pieces.specs.Pieces.{start as text_start}
 use Rattle.pieces.specs.declared.Spot.{Spot}
 use Rattle.rules.specs.Letters.{letter_d, letter_l}
 use Rattle.rules.specs.Written.{Written}
-use Rattle.commands.specs.declared.Read.{Read}
-use Rattle.commands.specs.declared.Read.TheVariants.{Nothing}
 use Rattle.commands.specs.Words.{DecodedOne, ReadsCommand}
 use Rattle.counts.specs.declared.Counts.{Counts}
 use Rattle.counts.specs.Counting.{tally, zero_counts}
@@ -40,20 +38,21 @@ use Rattle.library.proofs.Holding.{held-table}
 use Rattle.keeping.specs.Keeping.{most_words, Kept, Begins, Defines, DefinesAt}
 use Rattle.keeping.specs.declared.Start.{Start}
 use Rattle.keeping.specs.declared.Stock.{Stock}
-use Rattle.keeping.specs.declared.Defined.{Defined}
-use Rattle.keeping.specs.declared.Defined.TheVariants.{Taken, Overfull, Short}
 use Rattle.passing.specs.Passed.{Passed, outputs, start_in, Deletes}
 use Rattle.passing.proofs.Letters.{is_layer, is_delete}
 use Rattle.passing.proofs.Reading.{Met, run_kept, read_none, third_word, none_met}
 use Rattle.passing.proofs.Outer.{is_output, is_idle}
 use Rattle.passing.proofs.Stands.{Stands, nothing_kept, to_do, at_start, deletable, met, deeds_are, past_layer, layer-left, past_delete, delete-left, past_other, open_there, made, define-left, past_define, start-within, may_define, comes, takes}
 use Rattle.dangling.specs.Searched.{Searched}
-use Rattle.dangling.specs.declared.Dangling.{Dangling}
-use Rattle.dangling.specs.declared.Dangling.TheVariants.{Nowhere}
 use Rattle.warning.specs.Warned.{warned_at, stops_at, warned_from, warned_of, redefined_line, dangling_line, Warns}
 use Rattle.warning.proofs.LeanCalls.{lean-dangling}
 use Rattle.warning.proofs.Agrees.{warned-first, one_warned}
 use Rattle.warning.proofs.Dear.{dear, dear_within}
+use Rattle.std.specs.Prelude.{Err, None, Ok, Option, Result}
+use Rattle.commands.specs.declared.Decoded.{Decoded}
+use Rattle.keeping.specs.declared.Taken.{Taken}
+use Rattle.definition.specs.declared.Rule.{Rule}
+use Rattle.definition.specs.declared.Rule.TheVariants.{TooManyDefinitions, TooFewWords}
 
 -- ---- what is warned of a deed
 
@@ -100,7 +99,7 @@ unfolding stops_at
 short-left w t d ds h g = stopped-left w t (define d) ds (rw (le-ltb most_definitions (length (enter d t)) h, lt-ltb w (words_in (enter d t)) g))
 
 -- what a search found is what is due after the DD
-dangling-due : (rows : List ℕ) (b : List ℤ) (stock : Stock) (t : Table) (n : Placed ℕ) (r : Dangling) → Kept rows b stock (forget n.what t) → Searched rows b stock.live r
+dangling-due : (rows : List ℕ) (b : List ℤ) (stock : Stock) (t : Table) (n : Placed ℕ) (r : Option ℕ) → Kept rows b stock (forget n.what t) → Searched rows b stock.live r
     → dangling_line r ≡ warned_at t (remove n)
 unfolding warned_at warnings_at
 dangling-due rows b stock t n r k s =
@@ -124,7 +123,7 @@ redefined-due c c' d t e = go (none? (find d.symbol t)) (ap (λ (x : _). x.redef
 -- ---- between two commands
 
 pub record Along (t : List ℕ) (w : ℕ) (words₀ : List ℤ) (old : List ℕ) (from : ℕ) (rows : List ℕ) (b words : List ℤ) (out : List ℕ) (spot : Spot) (stock : Stock) (counts : Counts)
-    (known : Bool) (found : Dangling) (at : ℕ) : Type 0 where
+    (known : Bool) (found : Option ℕ) (at : ℕ) : Type 0 where
   pub passed : Passed t
   pub stands : Stands t rows b stock spot
   pub fit : Fit t spot
@@ -139,7 +138,7 @@ never : ◌≡◌ {A = Bool} false true → ⊥
 never z = let y : ◌≡◌ {A = ℕ} 0 1 = cc in omega arith
 
 pub along_begin : {t : List ℕ} (rows : List ℕ) (b words : List ℤ) (out : List ℕ) (from : ℕ) → Passed t → length rows ≡ row_numbers → length b ≤ most_words → {c : Counts} → c ≡ zero_counts
-    → Along t (length b) words out from rows b words out text_start nothing_kept c false Nowhere from
+    → Along t (length b) words out from rows b words out text_start nothing_kept c false None from
 along_begin {t} rows b words out from p s h e = record {
   passed = p;
   stands = at_start p rows b s h;
@@ -153,8 +152,8 @@ along_begin {t} rows b words out from p s h e = record {
 }
 
 module _ {t : List ℕ} {w : ℕ} {words₀ : List ℤ} {old : List ℕ} {from : ℕ} {rows : List ℕ} {b words : List ℤ} {out : List ℕ} {spot : Spot} {stock : Stock} {counts : Counts}
-    {known : Bool} {found : Dangling} {at' : ℕ} (u : Along t w words₀ old from rows b words out spot stock counts known found at') where
-  abbrev Next : List ℕ → List ℤ → List ℤ → List ℕ → Spot → Stock → Counts → Bool → Dangling → ℕ → Type 0
+    {known : Bool} {found : Option ℕ} {at' : ℕ} (u : Along t w words₀ old from rows b words out spot stock counts known found at') where
+  abbrev Next : List ℕ → List ℤ → List ℤ → List ℕ → Spot → Stock → Counts → Bool → Option ℕ → ℕ → Type 0
   Next rows' b' words' out' to stock' counts' known' found' next = Along t w words₀ old from rows' b' words' out' to stock' counts' known' found' next
 
   abbrev s : Stands t rows b stock spot
@@ -179,7 +178,7 @@ module _ {t : List ℕ} {w : ℕ} {words₀ : List ℤ} {old : List ℕ} {from :
   along-over : warned_from w s.table (to_do s) ≡ [] → Warns t w old out from at'
   along-over e = record { writes = λ p. same_bytes (one_warned w u.passed p) (over u.going e); near = reached }
 
-  pub along_out : (r : Read) (words' : List ℤ) → ReadsCommand t spot 1 1 words r words' → r ≡ Nothing → Warns t w old out from at'
+  pub along_out : (r : Option Decoded) (words' : List ℤ) → ReadsCommand t spot 1 1 words r words' → r ≡ None → Warns t w old out from at'
   unfolding deeds
   along_out r words' x e =
       along-over (ap (λ (cs : List (Placed Command)). warned_from w s.table (deeds s.standing cs)) (none_met t spot s.told (read_none t spot 1 1 words r words' x e)) ∙ nothing_left w s.table)
@@ -247,7 +246,7 @@ module _ {t : List ℕ} {w : ℕ} {words₀ : List ℤ} {old : List ℕ} {from :
       pub may_search : Sorted rows left.live × Stocked rows b left.live × (length b ≤ most_words)
       may_search = let k = after_it.kept in (k.sorted, k.stocked, k.short)
 
-      pub along_deleted : {found' : Dangling} {out' : List ℕ} {next : ℕ} → Searched rows b left.live found'
+      pub along_deleted : {found' : Option ℕ} {out' : List ℕ} {next : ℕ} → Searched rows b left.live found'
           → Writes out out' at' next (dangling_line found') × (next ≤ at' + 60) → Next rows b words' out' to left counts true found' next
       along_deleted {found'} k (x, far) =
           let d = at place (nat_abs gone.what) in
@@ -278,7 +277,7 @@ module _ {t : List ℕ} {w : ℕ} {words₀ : List ℤ} {old : List ℕ} {from :
       pub along_begins : Begins t rows b stock to start
       along_begins = may_define s m e start q
 
-      module _ {rows' : List ℕ} {b' : List ℤ} {d : Defined} (defines : DefinesAt t rows b stock to start counts d rows' b') where
+      module _ {rows' : List ℕ} {b' : List ℤ} {d : Result Taken Rule} (defines : DefinesAt t rows b stock to start counts d rows' b') where
         pub size_then : length b' ≡ w
         size_then = defines.size ∙ u.bodies_kept
 
@@ -288,10 +287,10 @@ module _ {t : List ℕ} {w : ℕ} {words₀ : List ℤ} {old : List ℕ} {from :
         abbrev later : List Deed
         later = deeds (open_there s m e) m.rest
 
-        pub along_on : {stock' : Stock} {c' : Counts} {to' : Spot} → d ≡ Taken stock' c' to' → (length t - to'.at < length t - spot.at)
+        pub along_on : {stock' : Stock} {c' : Counts} {to' : Spot} → d ≡ Ok (record { stock = stock'; counts = c'; to = to' }) → (length t - to'.at < length t - spot.at)
         along_on f = let k = takes s m e start q defines f in omega (arith, k.ahead, k.fit.within, r.ahead)
 
-        pub along_defined : {stock' : Stock} {c' : Counts} {to' : Spot} {found' : Dangling} {out' : List ℕ} {next : ℕ} → d ≡ Taken stock' c' to'
+        pub along_defined : {stock' : Stock} {c' : Counts} {to' : Spot} {found' : Option ℕ} {out' : List ℕ} {next : ℕ} → d ≡ Ok (record { stock = stock'; counts = c'; to = to' })
             → Writes out out' at' next (redefined_line start.symbol counts.redefinitions c'.redefinitions) × (next ≤ at' + 48)
             → Next rows' b' words' out' to' stock' c' false found' next
         along_defined {stock'} {c'} {to'} f (x, far) =
@@ -321,11 +320,11 @@ module _ {t : List ℕ} {w : ℕ} {words₀ : List ℤ} {old : List ℕ} {from :
                   omega (arith, h, g, v, far);
             }
 
-        pub along_overfull : d ≡ Overfull → Warns t w old out from at'
+        pub along_overfull : d ≡ (Err TooManyDefinitions) → Warns t w old out from at'
         unfolding Defines
         along_overfull f = along-over (ap (warned_from w s.table) (define-left s m e) ∙ overfull_left w s.table new later (comes s m e start q defines f))
 
-        pub along-short : d ≡ Short → Warns t w old out from at'
+        pub along-short : d ≡ (Err TooFewWords) → Warns t w old out from at'
         unfolding Defines
         along-short f =
             let k = comes s m e start q defines f in
@@ -334,6 +333,6 @@ module _ {t : List ℕ} {w : ℕ} {words₀ : List ℤ} {old : List ℕ} {from :
 
 -- ---- a search that is not made again
 
-pub same_found : (rows : List ℕ) (b : List ℤ) (found : Dangling) {before live : ℕ} {known : Bool} → (known ≡ true → Searched rows b before found) → known ≡ true → live ≡ before
+pub same_found : (rows : List ℕ) (b : List ℤ) (found : Option ℕ) {before live : ℕ} {known : Bool} → (known ≡ true → Searched rows b before found) → known ≡ true → live ≡ before
     → Searched rows b live found
 same_found rows b found f k e = subst (λ (n : ℕ). Searched rows b n found) (sym e) (f k)

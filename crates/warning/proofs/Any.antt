@@ -7,8 +7,6 @@ use Prim.Native.Nat.{ℕ, ◌+◌, ◌*◌, ◌≤◌}
 use native.Mathlib.Omega.{arith}
 use lib.ListN.{length}
 use Rattle.grammar.specs.Viable.{Judged}
-use Rattle.grammar.specs.declared.Verdict.{Verdict}
-use Rattle.grammar.specs.declared.Verdict.TheVariants.{InGrammar, StuckAt}
 use Rattle.definition.specs.declared.Refusal.{Refusal}
 use Rattle.definition.specs.Limits.{most_bytes}
 use Rattle.definition.specs.Words.{Placed}
@@ -18,8 +16,6 @@ use Rattle.definition.specs.Drawing.{Event}
 use Rattle.definition.specs.Counts.{Counts}
 use Rattle.definition.specs.Warnings.{warning_lines}
 use Rattle.definition.specs.Answer.{accepted, Answers}
-use Rattle.checking.specs.declared.Fault.{Fault}
-use Rattle.checking.specs.declared.Fault.TheVariants.{Clear, Refused}
 use Rattle.reading.specs.Refusal.{fault_said, by_verdict}
 use Rattle.digits.proofs.Writing.{nothing}
 use Rattle.passing.specs.Passed.{Passed}
@@ -27,23 +23,24 @@ use Rattle.reader.specs.Screened.{Screened, over, within}
 use Rattle.reader.proofs.Promises.{passes}
 use Rattle.warning.specs.Warned.{Warns, WarnedAny, of_passed, of_refused, WarnsAny}
 use Rattle.warning.proofs.Agrees.{one_warned, accepted-passed, accepted-warned}
+use Rattle.std.specs.Prelude.{Err, Ok, Result}
 
-never_refused : {k : ℕ} {why : Refusal} → Clear k ≡ Refused why → ⊥
+never_refused : {k : ℕ} {why : Refusal} → Ok k ≡ Err why → ⊥
 never_refused e = let z : ◌≡◌ {A = ℕ} 0 1 = cc in omega arith
 
-not_judged : {t : List ℕ} (why : Refusal) (v : Verdict) → Judged t v → by_verdict t v (Refused why) → Passed t → ⊥
-not_judged why InGrammar g e p =
+not_judged : {t : List ℕ} (why : Refusal) (v : Result Unit ℕ) → Judged t v → by_verdict t v (Err why) → Passed t → ⊥
+not_judged why (Ok tt) g e p =
     never_refused (sym (e p.letters p.marked ∙ ap (λ (f : Option Refusal). fault_said f (rounded (commands 0 p.letters))) p.clear))
-not_judged why (StuckAt i) g e p = g.0 (p.letters, p.marked)
+not_judged why (Err i) g e p = g.0 (p.letters, p.marked)
 
-not_passed : {t : List ℕ} {d : Fault} {why : Refusal} → Screened t d → d ≡ Refused why → Passed t → ⊥
+not_passed : {t : List ℕ} {d : Result ℕ Refusal} {why : Refusal} → Screened t d → d ≡ Err why → Passed t → ⊥
 not_passed (over h) e p = let s = p.short in omega (arith, h, s)
 not_passed {t} {why = why} (within h f) e p = not_judged why f.verdict f.judged (subst (by_verdict t f.verdict) e f.is) p
 
-pub screened_passed : {t : List ℕ} {d : Fault} {k : ℕ} → Screened t d → d ≡ Clear k → Passed t
+pub screened_passed : {t : List ℕ} {d : Result ℕ Refusal} {k : ℕ} → Screened t d → d ≡ Ok k → Passed t
 screened_passed s e = (passes s e).passed
 
-pub none_warned : {t : List ℕ} {d : Fault} {why : Refusal} (words : ℕ) (room : List ℕ) (from : ℕ) → Screened t d → d ≡ Refused why → WarnsAny t words room room from from
+pub none_warned : {t : List ℕ} {d : Result ℕ Refusal} {why : Refusal} (words : ℕ) (room : List ℕ) (from : ℕ) → Screened t d → d ≡ Err why → WarnsAny t words room room from from
 none_warned words room from s e = record { bytes = []; warned = of_refused (not_passed s e); writes = nothing room from; near = omega arith }
 
 pub all_warned : {t : List ℕ} {words : ℕ} {old new : List ℕ} {from r : ℕ} → Passed t → Warns t words old new from r → WarnsAny t words old new from r

@@ -11,9 +11,8 @@ use Rattle.definition.specs.Warnings.{warning_line}
 use Rattle.digits.specs.Writes.{Writes}
 use Rattle.digits.proofs.Digits.{digits-64}
 use Rattle.digits.proofs.Writing.{both, nothing, same_bytes}
-use Rattle.dangling.specs.declared.Dangling.{Dangling}
-use Rattle.dangling.specs.declared.Dangling.TheVariants.{At, Nowhere}
 use Rattle.warning.specs.Warned.{redefined_line, dangling_line}
+use Rattle.std.specs.Prelude.{None, Option, Some}
 
 abbrev Laid : List ℕ → List ℕ → ℕ → ℕ → List ℕ → ℕ → Type 0
 Laid old new at r bytes most = Writes old new at r bytes × (r ≤ at + most)
@@ -31,11 +30,11 @@ module _ {a b c d : List ℕ} {at i j r n : ℕ} (small : n < 184467440737095516
         omega (arith, e, f, g, k),
   )
 
-  pub dangling-laid : (found : Dangling) → found ≡ At n → Writes a b at i (bytes_of "Warning: dangling references after DD.\t") → Writes b c i j (shortest n) → Writes c d j r (10 ∷ [])
+  pub dangling-laid : (found : Option ℕ) → found ≡ Some n → Writes a b at i (bytes_of "Warning: dangling references after DD.\t") → Writes b c i j (shortest n) → Writes c d j r (10 ∷ [])
       → Laid a d at r (dangling_line found) 60
   unfolding warning_line decimal bytes_of flat_map
   dangling-laid found q x y z = (
-    same_bytes (sym (append-nil _) ∙ ap (λ (w : Dangling). dangling_line w) (sym q)) (both x (both y z)),
+    same_bytes (sym (append-nil _) ∙ ap (λ (w : Option ℕ). dangling_line w) (sym q)) (both x (both y z)),
     let e = x.ends in
         let f = y.ends in
         let g = z.ends in
@@ -46,6 +45,6 @@ module _ {a b c d : List ℕ} {at i j r n : ℕ} (small : n < 184467440737095516
 pub not_redefined : (room : List ℕ) (at n before after : ℕ) → after ≤ before → Laid room room at at (redefined_line n before after) 48
 not_redefined room at n before after h = (rw (le-ltb before after h) (nothing room at), omega arith)
 
-pub none_dangling : (room : List ℕ) (at : ℕ) (found : Dangling) → found ≡ Nowhere → Laid room room at at (dangling_line found) 60
+pub none_dangling : (room : List ℕ) (at : ℕ) (found : Option ℕ) → found ≡ None → Laid room room at at (dangling_line found) 60
 unfolding flat_map
-none_dangling room at found q = (same_bytes (ap (λ (w : Dangling). dangling_line w) (sym q)) (nothing room at), omega arith)
+none_dangling room at found q = (same_bytes (ap (λ (w : Option ℕ). dangling_line w) (sym q)) (nothing room at), omega arith)

@@ -13,7 +13,7 @@ use Rattle.definition.specs.Warnings.{redefined, warnings_at, warning_line}
 use Rattle.digits.specs.Writes.{Writes}
 use Rattle.passing.specs.Passed.{Passed}
 use Rattle.dangling.specs.Searched.{warning_by}
-use Rattle.dangling.specs.declared.Dangling.{Dangling}
+use Rattle.std.specs.Prelude.{Option}
 
 unfoldable pub warned_at : Table → Deed → List ℕ
 warned_at t (define d) = flat_map warning_line (warnings_at (entered d t))
@@ -37,7 +37,7 @@ warned_of w p = warned_from w [] (deeds (outside []) (commands 0 p.letters))
 abbrev pub redefined_line : (symbol before after : ℕ) → List ℕ
 redefined_line n before after = if ltb before after then warning_line (redefined n) else []
 
-abbrev pub dangling_line : Dangling → List ℕ
+abbrev pub dangling_line : Option ℕ → List ℕ
 dangling_line d = flat_map warning_line (warning_by d)
 
 -- the contract of `warn`. A DD has four bytes at least, and its line at most sixty

@@ -3,7 +3,6 @@
 #![tactic(auto)]
 
 ghost use Rattle.std.specs.Prelude.{◌≡◌, true, ◌+◌, ◌^◌, ◌≤◌, length};
-ghost use Rattle.grammar.specs.Steps.{KindsLent, NextLent};
 ghost use Rattle.moves.specs.Moves.{most_values};
 ghost use Rattle.library.specs.Memory.{row_numbers};
 ghost use Rattle.library.specs.Sound.{Stocked};
@@ -14,9 +13,7 @@ ghost use Rattle.dangling.specs.Searched.{Searched};
 ghost use Rattle.digits.specs.Writes.{Writes};
 ghost use Rattle.warning.specs.Warned.{redefined_line, dangling_line, Warns, WarnsAny};
 
-use checking::Fault;
-use dangling::Dangling;
-use keeping::{Defined, Stock};
+use keeping::Stock;
 
 // A command has at most 2,049 numbers, and two words in front.
 const COMMAND_WORDS: usize = 2051;
@@ -37,13 +34,13 @@ fn put_redefined(out: &mut [u8], at: usize, symbol: usize, before: usize, after:
 }
 
 // The second, where a search found a call.
-fn put_dangling(out: &mut [u8], at: usize, found: Dangling) -> usize
+fn put_dangling(out: &mut [u8], at: usize, found: Option<usize>) -> usize
     requires { at ≤ 2 ^ 58 }
     ensures { Writes out.old out.new at result (dangling_line found) × (result ≤ at + 60) }
 {
     match found {
-        Dangling::Nowhere => at,
-        Dangling::At(place) => {
+        None => at,
+        Some(place) => {
             let first = digits::put_word(out, at, b"Warning: dangling references after DD.\t");
             let second = digits::put_digits(out, first, place as u64);
             digits::put(out, second, LINE_FEED)
@@ -59,8 +56,8 @@ fn find_dangling(
     before: usize,
     live: usize,
     known: bool,
-    found: Dangling,
-) -> Dangling
+    found: Option<usize>,
+) -> Option<usize>
     requires sorted { Sorted rows.now live × Stocked rows.now bodies.now live × (length bodies.now ≤ most_words) }
     requires searched { known ≡ true → Searched rows.now bodies.now before found }
     ensures { Searched rows.now bodies.now live result }
@@ -76,15 +73,13 @@ fn find_dangling(
 // The commands of a text from its start on. A definition that is one too many or needs more words than were lent ends the pass, as it ends the drawing.
 fn warn_text(
     text: &[u8],
-    kinds: &[u8; 256],
-    next: &[u16; grammar::tables::ENTRY_COUNT],
+    recogniser: &grammar::Recogniser,
     rows: &mut [usize; library::ROW_NUMBERS],
     bodies: &mut [i32],
     words: &mut [i32],
     out: &mut [u8],
     from: usize,
 ) -> usize
-    requires kinds_lent { KindsLent kinds.now × NextLent next.now }
     requires passed { Passed text.now × (length rows.old ≡ row_numbers) × (length bodies.old ≤ most_words) }
     requires most_values_in_bounds { (most_values + 2 ≤ length words.old) × (from ≤ 2 ^ 57) }
     ensures { Warns text.now (length bodies.old) out.old out.new from result }
@@ -97,14 +92,17 @@ fn warn_text(
     };
     let mut counts = counts::no_counts();
     let mut known = false;
-    let mut found = Dangling::Nowhere;
+    let mut found = None;
     let mut at = from;
     loop {
-        match commands::read_command(text, kinds, next, words, spot, 1, 1) {
-            commands::Read::Nothing => {
+        match commands::read_command(text, recogniser, words, spot, 1, 1) {
+            None => {
                 return at;
             }
-            commands::Read::Decoded(kind, place, _, to) => {
+            Some(c) => {
+                let kind = c.kind;
+                let place = c.place;
+                let to = c.to;
                 spot = to;
                 if kind == b'D' {
                     let symbol = shapes::size_at(words, 2);
@@ -116,20 +114,18 @@ fn warn_text(
                 } else if kind == b'S' {
                     let start = passing::start_in(words, place);
                     match keeping::define(
-                        text, kinds, next, rows, bodies, stock, start, to, counts,
+                        text, recogniser, rows, bodies, stock, start, to, counts,
                     ) {
-                        Defined::Taken(more, after, behind) => {
+                        Ok(taken) => {
                             let had = counts.redefinitions;
-                            at = put_redefined(out, at, start.symbol, had, after.redefinitions);
-                            spot = behind;
-                            stock = more;
-                            counts = after;
+                            let has = taken.counts.redefinitions;
+                            at = put_redefined(out, at, start.symbol, had, has);
+                            spot = taken.to;
+                            stock = taken.stock;
+                            counts = taken.counts;
                             known = false;
                         }
-                        Defined::Overfull => {
-                            return at;
-                        }
-                        Defined::Short => {
+                        Err(_) => {
                             return at;
                         }
                     }
@@ -145,15 +141,13 @@ pub fn warn(text: &[u8], bodies: &mut [i32], out: &mut [u8], from: usize) -> usi
     requires { Passed text.now × (from ≤ 2 ^ 57) }
     ensures { Warns text.now (length bodies.old) out.old out.new from result }
 {
-    let kinds = grammar::tables::KINDS;
-    let next = grammar::tables::NEXT;
+    let recogniser = grammar::Recogniser::new();
     let mut rows = [0usize; library::ROW_NUMBERS];
     let mut words = [0i32; COMMAND_WORDS];
     let lent = passing::at_most(bodies.len());
     warn_text(
         text,
-        &kinds,
-        &next,
+        &recogniser,
         &mut rows,
         &mut bodies[0..lent],
         &mut words,
@@ -168,7 +162,7 @@ pub fn warn_any(text: &[u8], bodies: &mut [i32], out: &mut [u8], from: usize) ->
     ensures { WarnsAny text.now (length bodies.old) out.old out.new from result }
 {
     match reader::first_fault(text) {
-        Fault::Refused(_) => from,
-        Fault::Clear(_) => warn(text, bodies, out, from),
+        Err(_) => from,
+        Ok(_) => warn(text, bodies, out, from),
     }
 }

@@ -16,15 +16,13 @@ use lib.IntN.{ℤ, pos}
 use lib.ListN.{length, replicate, length-replicate}
 use Rattle.grammar.specs.Notation.{Letter}
 use Rattle.grammar.specs.Viable.{Judged}
-use Rattle.grammar.specs.declared.Verdict.{Verdict}
-use Rattle.grammar.specs.declared.Verdict.TheVariants.{InGrammar, StuckAt}
 use Rattle.grammar.proofs.Markings.{one_marking}
 use Rattle.definition.specs.declared.Answer.{Answer}
 use Rattle.definition.specs.declared.Refusal.{Refusal}
 use Rattle.definition.specs.declared.Why.{Why}
 use Rattle.definition.specs.Limits.{most_shapes, deepest}
 use Rattle.definition.specs.Words.{Point, point}
-use Rattle.definition.specs.Rules.{flat_file_too_long, too_many_shapes, no_such_shape, number_of, refuse}
+use Rattle.definition.specs.Rules.{FlatFileTooLong, TooManyShapes, NoSuchShape, number_of, refuse}
 use Rattle.definition.specs.Commands.{commands}
 use Rattle.definition.specs.Faults.{first_fault}
 use Rattle.definition.specs.Rounded.{rounded}
@@ -42,11 +40,8 @@ use Rattle.turns.specs.declared.Pair.{Pair}
 use Rattle.turns.specs.Nets.{as_point, turned, Carries}
 use Rattle.counts.specs.Counting.{tally}
 use Rattle.reading.specs.Refusal.{fault_said, by_verdict}
-use Rattle.checking.specs.declared.Fault.{Fault}
-use Rattle.checking.specs.declared.Fault.TheVariants.{Clear, Refused}
 use Rattle.reader.specs.Screened.{Screened, over, within}
 use Rattle.shapes.specs.declared.Ink.{Ink}
-use Rattle.shapes.specs.declared.Drawn.TheVariants as drawing
 use Rattle.shapes.specs.Painting.{Goes, Answered, Painted}
 use Rattle.passing.specs.Passed.{Passed}
 use Rattle.machine.specs.declared.Frame.{Frame}
@@ -57,6 +52,7 @@ use Rattle.machine.proofs.Settling.{all_is}
 use Rattle.machine.proofs.Underway.{comes_out}
 use Rattle.local.specs.Within.{no_records, Begun, Ended, Runs}
 use Rattle.why.specs.Telling.{why_of, found_by, missing_in, told_of, Zeroed}
+use Rattle.std.specs.Prelude.{Err, Ok, Result}
 
 -- ---- the first run
 
@@ -84,7 +80,7 @@ module _ {t : List ℕ} {words : List ℤ} {room : List ℕ} {r : Answer} {words
       let long : length words ≡ length words' = sym (ap length p.cleared ∙ length-replicate (length words) (pos 0)) in
       (subst (Through t) long (through-when p.outcome p.answers (told same e)), p.cleared ∙ ap (λ (n : ℕ). replicate n (pos 0)) long)
     where
-      told : r.number ≡ (given_back t p.outcome).number → (r.number ≡ 0) ⊎ (r.number ≡ 18) → ((given_back t p.outcome).number ≡ 0) ⊎ ((given_back t p.outcome).number ≡ number_of flat_file_too_long)
+      told : r.number ≡ (given_back t p.outcome).number → (r.number ≡ 0) ⊎ (r.number ≡ 18) → ((given_back t p.outcome).number ≡ 0) ⊎ ((given_back t p.outcome).number ≡ number_of FlatFileTooLong)
       told same (inl z) = inl (sym same ∙ z)
       told same (inr z) = inr (sym same ∙ z)
 
@@ -109,37 +105,37 @@ module _ {t : List ℕ} {words : List ℤ} {room : List ℕ} {r : Answer} {words
 
 module _ {t : List ℕ} {words : List ℤ} (f : Through t (length words)) (z : Zeroed words) {y : Why} (e : y ≡ missing_in t) where
   pub missing_at-0 : {count : ℕ} → count ≡ 0 → PromisedWhy t words count y words
-  missing_at-0 {count} q = record { reason = refuses (refuse no_such_shape 0) []; answers = subst (λ (n : ℕ). WhyAnswers t (length words) n (refuses (refuse no_such_shape 0) [])) (sym q) (zero-told f); given = e; cleared = z }
+  missing_at-0 {count} q = record { reason = refuses (refuse NoSuchShape 0) []; answers = subst (λ (n : ℕ). WhyAnswers t (length words) n (refuses (refuse NoSuchShape 0) [])) (sym q) (zero-told f); given = e; cleared = z }
 
   pub missing_beyond : {count : ℕ} → most_shapes < count → PromisedWhy t words count y words
-  missing_beyond {count} h = record { reason = refuses (refuse no_such_shape 0) []; answers = beyond-told count f h; given = e; cleared = z }
+  missing_beyond {count} h = record { reason = refuses (refuse NoSuchShape 0) []; answers = beyond-told count f h; given = e; cleared = z }
 
 -- as code makes it
-pub missing_made : (t : List ℕ) {a : Answer} {y : Why} → a ≡ failure t (refuse no_such_shape 0) [] → y ≡ why_of a → y ≡ missing_in t
-missing_made t e q = q ∙ ap why_of e ∙ refused_as t (refuse no_such_shape 0) []
+pub missing_made : (t : List ℕ) {a : Answer} {y : Why} → a ≡ failure t (refuse NoSuchShape 0) [] → y ≡ why_of a → y ≡ missing_in t
+missing_made t e q = q ∙ ap why_of e ∙ refused_as t (refuse NoSuchShape 0) []
 
 -- ---- the second run
 
-never_clear : {k : ℕ} {why : Refusal} → Clear k ≡ Refused why → ⊥
+never_clear : {k : ℕ} {why : Refusal} → Ok k ≡ Err why → ⊥
 never_clear e = let z : ◌≡◌ {A = ℕ} 0 1 = cc in omega (arith, z)
 
 -- a text that is drawn through breaks none of 1 to 9
-no_fault : {t : List ℕ} {words : ℕ} {d : Fault} {why : Refusal} → Through t words → Screened t d → d ≡ Refused why → ⊥
+no_fault : {t : List ℕ} {words : ℕ} {d : Result ℕ Refusal} {why : Refusal} → Through t words → Screened t d → d ≡ Err why → ⊥
 no_fault f (over h) is = let within-it = f.passed.within in omega (arith, h, within-it)
 no_fault {t} {words} {d} {why} f (within h r) is = by_verdict_lem r.verdict r.judged (subst (by_verdict t r.verdict) is r.is)
   where
-    by_fault : (x : Option Refusal) (k : ℕ) → x ≡ none → Refused why ≡ fault_said x k → ⊥
+    by_fault : (x : Option Refusal) (k : ℕ) → x ≡ none → Err why ≡ fault_said x k → ⊥
     by_fault none k q e = never_clear (sym e)
     by_fault (some y) k q e = let z : ◌≡◌ {A = ℕ} 0 1 = cc in omega (arith, z)
 
-    by_verdict_lem : (v : Verdict) → Judged t v → by_verdict t v (Refused why) → ⊥
-    by_verdict_lem InGrammar g e =
+    by_verdict_lem : (v : Result Unit ℕ) → Judged t v → by_verdict t v (Err why) → ⊥
+    by_verdict_lem (Ok tt) g e =
         by_fault (first_fault (commands 0 g.0)) (rounded (commands 0 g.0))
         (ap (λ (m : List Letter). first_fault (commands 0 m)) (one_marking g.1 f.passed.marked) ∙ (no_first-fault f.passed.marked).1 f.passed.unbroken) (e g.0 g.1)
-    by_verdict_lem (StuckAt i) g e = g.0 (f.roles, f.passed.marked)
+    by_verdict_lem (Err i) g e = g.0 (f.roles, f.passed.marked)
 
 -- what is told of the shape is what stands at 17
-found_as : (t : List ℕ) (d : Drawn) (n : Net) → Carries d.net n → found_by (failure t (refuse too_many_shapes d.place) d.chain) n ≡ why_told t (because d)
+found_as : (t : List ℕ) (d : Drawn) (n : Net) → Carries d.net n → found_by (failure t (refuse TooManyShapes d.place) d.chain) n ≡ why_told t (because d)
 unfolding failure why_told
 found_as t d n h =
     let tells = tells-net h in
@@ -149,7 +145,7 @@ found_as t d n h =
       line = 0;
       column = 0;
       opened = length d.chain;
-      chain = (found_by (failure t (refuse too_many_shapes d.place) d.chain) n).chain;
+      chain = (found_by (failure t (refuse TooManyShapes d.place) d.chain) n).chain;
       shape = d.place;
       a = (sym tells.first_column i).x;
       b = (sym tells.second_column i).x;
@@ -190,13 +186,13 @@ module _ {t : List ℕ} (h : Host) (f : Through t h.lent) (n : ℕ) (to_go : h.e
   drawn-same : (p : Passed t) → all_of p h ≡ stacked_drawing h.lent h.records (commands 0 f.roles)
   drawn-same p = all_is p h ∙ ap (λ (m : List Letter). stacked_drawing h.lent h.records (commands 0 m)) (one_marking p.marked f.passed.marked)
 
-  told_missing : (p : Passed t) (a : Answer) (net : Net) {ink : Ink} {from to : List ℕ} → Painted (started h.earlier) (all_of p h) from [] (drawing.Done ink) to → (a.number ≡ 17 → ⊥)
+  told_missing : (p : Passed t) (a : Answer) (net : Net) {ink : Ink} {from to : List ℕ} → Painted (started h.earlier) (all_of p h) from [] (Ok ink) to → (a.number ≡ 17 → ⊥)
       → {y : Why} → y ≡ told_of t a net → ToldWhy t h.lent (suc n) y
   unfolding Answered
   told_missing p a net {ink} x not e =
       let g : Goes (started h.earlier) (all_of p h) ink = x.answer in
       record {
-        reason = refuses (refuse no_such_shape 0) [];
+        reason = refuses (refuse NoSuchShape 0) [];
         answers = none_there f n h.earlier h.records to_go many (ap (ending (counts 0 h.earlier 0)) (sym (drawn-same p)) ∙ g.ends);
         given = e ∙ rw (ne_eqb a.number 17 not);
       }
@@ -209,7 +205,7 @@ module _ {t : List ℕ} (h : Host) (f : Through t h.lent) (n : ℕ) (to_go : h.e
       found_there f n h.earlier h.records to_go many (ap (ending (counts 0 h.earlier 0)) (sym (drawn-same p)) ∙ x) in
       let d = found.shape in
       let carries : Carries d.net net = there d (ap (stop_of (counts 0 h.earlier 0)) (drawn-same p) ∙ found.stops_at) in
-      let made : a ≡ failure t (refuse too_many_shapes d.place) d.chain = is ∙ (λ i. failure t (found.refused_so i) (found.chain_is i)) in
+      let made : a ≡ failure t (refuse TooManyShapes d.place) d.chain = is ∙ (λ i. failure t (found.refused_so i) (found.chain_is i)) in
       let number : a.number ≡ 17 = ap (λ (z : Answer). z.number) made in
       record {
         reason = because d;

@@ -5,7 +5,7 @@ use Rattle.std.specs.Prelude.{◌≡◌, List, [], ℕ, ◌≤◌, eqb, ℤ, pos
 use Rattle.definition.specs.declared.Answer.{Answer}
 use Rattle.definition.specs.declared.Why.{Why}
 use Rattle.definition.specs.Words.{point}
-use Rattle.definition.specs.Rules.{no_such_shape, refuse}
+use Rattle.definition.specs.Rules.{NoSuchShape, refuse}
 use Rattle.definition.specs.Why.{Reason, refuses, why_told}
 use Rattle.reasons.proofs.Told.{Through}
 use Rattle.turns.specs.declared.Net.{Net}
@@ -48,7 +48,7 @@ found_by r n = record {
 }
 
 abbrev pub missing_in : List ℕ → Why
-missing_in t = why_told t (refuses (refuse no_such_shape 0) [])
+missing_in t = why_told t (refuses (refuse NoSuchShape 0) [])
 
 abbrev pub told_of : List ℕ → Answer → Net → Why
 told_of t r n = if eqb r.number 17 then found_by r n else missing_in t

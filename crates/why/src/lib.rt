@@ -6,15 +6,8 @@ ghost use Rattle.std.specs.Prelude.{◌≡◌, length};
 ghost use Rattle.definition.specs.Why.{PromisedWhy};
 ghost use Rattle.why.specs.Telling.{why_of, found_by, missing_in, told_of, Drawable, Zeroed};
 
-use definition::{Answer, Refusal, Why};
+use definition::{Answer, Refusal, Rule, Why};
 use machine::State;
-
-// The refusals that both runs know by number: a shape more than allowed, a flat file that is too long, which plays no part here, and no shape with that count.
-const TOO_MANY_SHAPES: usize = 17;
-
-const FLAT_FILE_TOO_LONG: usize = 18;
-
-const NO_SUCH_SHAPE: usize = 26;
 
 // A refusal, told with its calls.
 fn refused(answer: Answer) -> Why
@@ -66,7 +59,7 @@ fn missing(text: &[u8]) -> Why
     ensures { result ≡ missing_in text.now }
 {
     let refusal = Refusal {
-        number: NO_SUCH_SHAPE,
+        rule: Rule::NoSuchShape,
         place: 0,
     };
     let answer = answer::refused_outside(text, refusal, counts::no_counts());
@@ -77,7 +70,7 @@ fn told(text: &[u8], over: State) -> Why
     ensures { result ≡ told_of text.now over.answer over.here.net }
 {
     let answer = over.answer;
-    if answer.number == TOO_MANY_SHAPES {
+    if answer.number == definition::number_of(Rule::TooManyShapes) {
         let here = over.here;
         let net = here.net;
         return found(answer, net);
@@ -113,7 +106,7 @@ pub fn why(text: &[u8], words: &mut [i32], count: usize) -> Why
     if answer.number == 0 {
         return among(text, words, &mut room, count);
     }
-    if answer.number == FLAT_FILE_TOO_LONG {
+    if answer.number == definition::number_of(Rule::FlatFileTooLong) {
         return among(text, words, &mut room, count);
     }
     refused(answer)

@@ -3,7 +3,6 @@ use mathlib.Core.Path.{sym, ap, ◌∙◌}
 use lib.ListN.{get_or}
 use Rattle.grammar.specs.Steps.{mode}
 use Rattle.grammar.specs.declared.Mode.{Mode}
-use Rattle.grammar.specs.declared.Verdict.TheVariants.{InGrammar, StuckAt}
 use Rattle.grammar.proofs.Ahead.{plain_is}
 use Rattle.grammar.proofs.Steps.{stops, ends_in, ends-deep, ends_out, going_on}
 use Rattle.grammar.proofs.Verdicts.{settled}
@@ -11,6 +10,7 @@ use borrow.Author.Rules.{rules}
 use mathlib.Core.Path.{refl}
 use native.Mathlib.Omega.{arith}
 use Rattle.grammar.proofs.recognised.Goals as goal
+use Rattle.std.specs.Prelude.{Err, Ok}
 
 pub loop-i-init : goal.loop-i-init
 loop-i-init c = record { reached = search rules; state = search rules; depth = search rules; ahead = refl }
@@ -25,16 +25,16 @@ pub step-to-requires : goal.step-to-requires
 step-to-requires c = record { kinds_lent = c.requires; q_lt_state_count = (c.loop-i.invariant.state, let h = c.loop-i.invariant.depth in omega arith) }
 
 pub returns-then-s-eq-STUCK : goal.returns-then-s-eq-STUCK
-returns-then-s-eq-STUCK c = settled c.args.text.now (λ i. (c.type_inv.text i).fits) (StuckAt c.loop-i.i) _ (stops c.args.text.now c.loop-i.q c.loop-i.d c.loop-i.i c.loop-i-test.true (ap (λ (p : Mode). p.state) (sym c.step-to.ensures.goes) ∙ c.if-s-eq-STUCK.true)) c.loop-i.invariant.ahead
+returns-then-s-eq-STUCK c = settled c.args.text.now (λ i. (c.type_inv.text i).fits) (Err c.loop-i.i) _ (stops c.args.text.now c.loop-i.q c.loop-i.d c.loop-i.i c.loop-i-test.true (ap (λ (p : Mode). p.state) (sym c.step-to.ensures.goes) ∙ c.if-s-eq-STUCK.true)) c.loop-i.invariant.ahead
 
 pub loop-i-preserved : goal.loop-i-preserved
 loop-i-preserved c = going_on c.args.text.now c.loop-i.q c.loop-i.d c.loop-i.i (λ i. (c.type_inv.text i).fits) c.loop-i.invariant c.loop-i-test.true (mode c.step-to.result.state c.step-to.result.depth) c.step-to.ensures.goes c.if-s-eq-STUCK.false
 
 pub returns-then-d-eq0-2 : goal.returns-then-d-eq0-2
-returns-then-d-eq0-2 c = settled c.args.text.now (λ i. (c.type_inv.text i).fits) InGrammar _ (ends_in c.args.text.now c.loop-i.q c.loop-i.d c.loop-i.i c.loop-i-test.false c.if-q-eq-ACCEPTING.true c.if-d-eq0-2.true) c.loop-i.invariant.ahead
+returns-then-d-eq0-2 c = settled c.args.text.now (λ i. (c.type_inv.text i).fits) (Ok tt) _ (ends_in c.args.text.now c.loop-i.q c.loop-i.d c.loop-i.i c.loop-i-test.false c.if-q-eq-ACCEPTING.true c.if-d-eq0-2.true) c.loop-i.invariant.ahead
 
 pub returns-else-d-eq0-2 : goal.returns-else-d-eq0-2
-returns-else-d-eq0-2 c = settled c.args.text.now (λ i. (c.type_inv.text i).fits) (StuckAt c.loop-i.i) _ (ends-deep c.args.text.now c.loop-i.q c.loop-i.d c.loop-i.i c.loop-i-test.false c.if-q-eq-ACCEPTING.true c.if-d-eq0-2.false) c.loop-i.invariant.ahead
+returns-else-d-eq0-2 c = settled c.args.text.now (λ i. (c.type_inv.text i).fits) (Err c.loop-i.i) _ (ends-deep c.args.text.now c.loop-i.q c.loop-i.d c.loop-i.i c.loop-i-test.false c.if-q-eq-ACCEPTING.true c.if-d-eq0-2.false) c.loop-i.invariant.ahead
 
 pub returns-else-q-eq-ACCEPTING : goal.returns-else-q-eq-ACCEPTING
-returns-else-q-eq-ACCEPTING c = settled c.args.text.now (λ i. (c.type_inv.text i).fits) (StuckAt c.loop-i.i) _ (ends_out c.args.text.now c.loop-i.q c.loop-i.d c.loop-i.i c.loop-i-test.false c.if-q-eq-ACCEPTING.false) c.loop-i.invariant.ahead
+returns-else-q-eq-ACCEPTING c = settled c.args.text.now (λ i. (c.type_inv.text i).fits) (Err c.loop-i.i) _ (ends_out c.args.text.now c.loop-i.q c.loop-i.d c.loop-i.i c.loop-i-test.false c.if-q-eq-ACCEPTING.false) c.loop-i.invariant.ahead

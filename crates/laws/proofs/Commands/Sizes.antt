@@ -8,7 +8,7 @@ use mathlib.Core.Option.{Option, none, some}
 use Prim.Native.Nat.{ℕ, zero, suc}
 use lib.IntN.{ℤ, pos, negsuc, neg_ℤ, nat_abs}
 use Rattle.definition.specs.declared.Refusal.{Refusal}
-use Rattle.definition.specs.Rules.{Rule, number_too_large, zero_factor, scaled_too_large}
+use Rattle.definition.specs.Rules.{Rule, NumberTooLarge, ZeroFactor, ScaledTooLarge}
 use Rattle.definition.specs.Words.{at, Point, those, first}
 use Rattle.definition.specs.Commands.{Shape, Turn, Number, translate, mirror_x, mirror_y, rotate}
 use Rattle.definition.specs.Commands.{Command, draw, layer, call, start, finish, delete, nothing}
@@ -90,10 +90,10 @@ unfolding faults step_of All FitStep scaled_shape distances numbers_of parts_of 
 fit-step s p (draw k) e =
     let n = numbers_of (draw k) in
     let d = distances (draw k) in
-    let e₁ = nil-right (at_numbers number_too_large beyond n) _ e in
-    let e₂ = nil-right (at_command zero_factor (zero_scale (draw k)) p) _ e₁ in
-    let six = at_numbers_lem scaled_too_large (λ z. beyond (scaled s z)) d (nil-left (at_numbers scaled_too_large (λ z. beyond (scaled s z)) d) _ e₂) in
-    let three = at_numbers_lem number_too_large beyond n (nil-left (at_numbers number_too_large beyond n) _ e) in
+    let e₁ = nil-right (at_numbers NumberTooLarge beyond n) _ e in
+    let e₂ = nil-right (at_command ZeroFactor (zero_scale (draw k)) p) _ e₁ in
+    let six = at_numbers_lem ScaledTooLarge (λ z. beyond (scaled s z)) d (nil-left (at_numbers ScaledTooLarge (λ z. beyond (scaled s z)) d) _ e₂) in
+    let three = at_numbers_lem NumberTooLarge beyond n (nil-left (at_numbers NumberTooLarge beyond n) _ e) in
     let sb = k.sizes ++ both k.points in
     let sbd = k.sizes ++ (both k.points ++ both k.directions) in (
       (

@@ -14,7 +14,7 @@ use Rattle.grammar.proofs.Verdicts.{Bytes}
 use Rattle.definition.specs.Limits.{deepest}
 use Rattle.definition.specs.Words.{Placed}
 use Rattle.definition.specs.declared.Refusal.{Refusal}
-use Rattle.definition.specs.Rules.{Rule, text_too_long, not_in_grammar, flat_file_too_long, refuse}
+use Rattle.definition.specs.Rules.{Rule, TextTooLong, NotInGrammar, FlatFileTooLong, refuse}
 use Rattle.definition.specs.Commands.{Command, commands}
 use Rattle.definition.specs.Standing.{outside}
 use Rattle.definition.specs.Drawing.{Chain, Event, deeds}
@@ -51,7 +51,7 @@ pub record Located (t : List ℕ) (r : Refusal) (chain : Chain) : Type 0 where
   pub is : r ≡ refuse rule r.place
   pub first-number : 1 ≤ r.number
   pub reached : r.place ≤ length t
-  pub inside : (rule ≡ text_too_long → ⊥) → (rule ≡ not_in_grammar → ⊥) → (rule ≡ flat_file_too_long → ⊥) → r.place < length t
+  pub inside : (rule ≡ TextTooLong → ⊥) → (rule ≡ NotInGrammar → ⊥) → (rule ≡ FlatFileTooLong → ⊥) → r.place < length t
   pub calls-inside : All (λ (c : Placed ℕ). c.place < length t) chain
   pub few-calls : length chain ≤ deepest
   pub calls_only : (UnderCalls rule → ⊥) → chain ≡ []
@@ -65,13 +65,13 @@ stopped-within {t} {m} k words e =
 
 record Reaches (t : List ℕ) (rule : Rule) (p : ℕ) (chain : Chain) : Type 0 where
   reached : p ≤ length t
-  inside : (rule ≡ text_too_long → ⊥) → (rule ≡ not_in_grammar → ⊥) → (rule ≡ flat_file_too_long → ⊥) → p < length t
+  inside : (rule ≡ TextTooLong → ⊥) → (rule ≡ NotInGrammar → ⊥) → (rule ≡ FlatFileTooLong → ⊥) → p < length t
   calls-inside : All (λ (c : Placed ℕ). c.place < length t) chain
   few-calls : length chain ≤ deepest
   calls_only : (UnderCalls rule → ⊥) → chain ≡ []
 
 outside-calls : {t : List ℕ} {rule : Rule} {p : ℕ} → p ≤ length t
-    → ((rule ≡ text_too_long → ⊥) → (rule ≡ not_in_grammar → ⊥) → (rule ≡ flat_file_too_long → ⊥) → p < length t) → Reaches t rule p []
+    → ((rule ≡ TextTooLong → ⊥) → (rule ≡ NotInGrammar → ⊥) → (rule ≡ FlatFileTooLong → ⊥) → p < length t) → Reaches t rule p []
 unfolding All
 outside-calls h i = record { reached = h; inside = i; calls-inside = tt; few-calls = omega arith; calls_only = λ n. refl }
 

@@ -12,7 +12,7 @@ use Rattle.grammar.specs.Notation.{Letter}
 use Rattle.grammar.specs.Viable.{Marked, Grammatical, LongestViable}
 use Rattle.definition.specs.Limits.{most_bytes}
 use Rattle.definition.specs.Words.{Placed}
-use Rattle.definition.specs.Rules.{Rule, text_too_long, not_in_grammar, x_out_of_range, y_out_of_range, flat_file_too_long, refuse}
+use Rattle.definition.specs.Rules.{Rule, TextTooLong, NotInGrammar, XOutOfRange, YOutOfRange, FlatFileTooLong, refuse}
 use lib.IntN.{ℤ}
 use Rattle.definition.specs.Commands.{Shape, Turn, Command, commands}
 use Rattle.definition.specs.Table.{Table}
@@ -73,62 +73,62 @@ at_itself : (r : Rule) → Between r r r
 at_itself r = record { least = omega arith; most = omega arith }
 
 module _ {t : List ℕ} {words room : ℕ} where
-  way_long : {p : ℕ} {chain : Chain} → Way t words room text_too_long p chain → (p ≡ 0) × (most_bytes < length t)
+  way_long : {p : ℕ} {chain : Chain} → Way t words room TextTooLong p chain → (p ≡ 0) × (most_bytes < length t)
   way_long w = go w refl
     where
-      go : {r : Rule} {p : ℕ} {chain : Chain} → Way t words room r p chain → text_too_long ≡ r → (p ≡ 0) × (most_bytes < length t)
+      go : {r : Rule} {p : ℕ} {chain : Chain} → Way t words room r p chain → TextTooLong ≡ r → (p ≡ 0) × (most_bytes < length t)
       go (by_length h) e = (refl, h)
       go (by_grammar h g l) e = absurd (omega (arith, ap rank e))
-      go (by_command h k b) e = apart (at_itself text_too_long) (subst ByCommand (sym e) (rule_ranked b.breaks)) (omega arith)
-      go (by_drawing q s) e = apart (at_itself text_too_long) (subst ByDrawing (sym e) (drawing_ranked words q s)) (omega arith)
+      go (by_command h k b) e = apart (at_itself TextTooLong) (subst ByCommand (sym e) (rule_ranked b.breaks)) (omega arith)
+      go (by_drawing q s) e = apart (at_itself TextTooLong) (subst ByDrawing (sym e) (drawing_ranked words q s)) (omega arith)
       go (by_flat_file q f l) e = absurd (omega (arith, ap rank e))
 
-  way_strange : {p : ℕ} {chain : Chain} → Way t words room not_in_grammar p chain → (length t ≤ most_bytes) × (Grammatical t → ⊥) × LongestViable t p
+  way_strange : {p : ℕ} {chain : Chain} → Way t words room NotInGrammar p chain → (length t ≤ most_bytes) × (Grammatical t → ⊥) × LongestViable t p
   way_strange w = go w refl
     where
-      go : {r : Rule} {p : ℕ} {chain : Chain} → Way t words room r p chain → not_in_grammar ≡ r → (length t ≤ most_bytes) × (Grammatical t → ⊥) × LongestViable t p
+      go : {r : Rule} {p : ℕ} {chain : Chain} → Way t words room r p chain → NotInGrammar ≡ r → (length t ≤ most_bytes) × (Grammatical t → ⊥) × LongestViable t p
       go (by_length h) e = absurd (omega (arith, ap rank e))
       go (by_grammar h g l) e = (h, g, l)
-      go (by_command h k b) e = apart (at_itself not_in_grammar) (subst ByCommand (sym e) (rule_ranked b.breaks)) (omega arith)
-      go (by_drawing q s) e = apart (at_itself not_in_grammar) (subst ByDrawing (sym e) (drawing_ranked words q s)) (omega arith)
+      go (by_command h k b) e = apart (at_itself NotInGrammar) (subst ByCommand (sym e) (rule_ranked b.breaks)) (omega arith)
+      go (by_drawing q s) e = apart (at_itself NotInGrammar) (subst ByDrawing (sym e) (drawing_ranked words q s)) (omega arith)
       go (by_flat_file q f l) e = absurd (omega (arith, ap rank e))
 
   way_command : {r : Rule} {p : ℕ} {chain : Chain} → ByCommand r → Way t words room r p chain → CommandsBreak t r p
-  way_command i (by_length h) = apart (at_itself text_too_long) i (omega arith)
-  way_command i (by_grammar h g l) = apart (at_itself not_in_grammar) i (omega arith)
+  way_command i (by_length h) = apart (at_itself TextTooLong) i (omega arith)
+  way_command i (by_grammar h g l) = apart (at_itself NotInGrammar) i (omega arith)
   way_command i (by_command {m} h k f) = record { roles = m; within = h; marked = k; broken = f }
   way_command i (by_drawing q s) = apart i (drawing_ranked words q s) (omega arith)
-  way_command i (by_flat_file q f l) = apart i (at_itself flat_file_too_long) (omega arith)
+  way_command i (by_flat_file q f l) = apart i (at_itself FlatFileTooLong) (omega arith)
 
   way_drawing : {r : Rule} {p : ℕ} {chain : Chain} → ByDrawing r → Way t words room r p chain → DrawingStopped t words r p chain
-  way_drawing i (by_length h) = apart (at_itself text_too_long) i (omega arith)
-  way_drawing i (by_grammar h g l) = apart (at_itself not_in_grammar) i (omega arith)
+  way_drawing i (by_length h) = apart (at_itself TextTooLong) i (omega arith)
+  way_drawing i (by_grammar h g l) = apart (at_itself NotInGrammar) i (omega arith)
   way_drawing i (by_command h k f) = apart (rule_ranked f.breaks) i (omega arith)
   way_drawing i (by_drawing {m} q s) = record { roles = m; passed = q; stops = (stopping words m).0 s }
-  way_drawing i (by_flat_file q f l) = apart i (at_itself flat_file_too_long) (omega arith)
+  way_drawing i (by_flat_file q f l) = apart i (at_itself FlatFileTooLong) (omega arith)
 
-  way_file : {p : ℕ} {chain : Chain} → Way t words room flat_file_too_long p chain → (p ≡ 0) × FileTooLong t words room
+  way_file : {p : ℕ} {chain : Chain} → Way t words room FlatFileTooLong p chain → (p ≡ 0) × FileTooLong t words room
   way_file w = go w refl
     where
-      go : {r : Rule} {p : ℕ} {chain : Chain} → Way t words room r p chain → flat_file_too_long ≡ r → (p ≡ 0) × FileTooLong t words room
+      go : {r : Rule} {p : ℕ} {chain : Chain} → Way t words room r p chain → FlatFileTooLong ≡ r → (p ≡ 0) × FileTooLong t words room
       go (by_length h) e = absurd (omega (arith, ap rank e))
       go (by_grammar h g l) e = absurd (omega (arith, ap rank e))
-      go (by_command h k b) e = apart (subst ByCommand (sym e) (rule_ranked b.breaks)) (at_itself flat_file_too_long) (omega arith)
-      go (by_drawing q s) e = apart (subst ByDrawing (sym e) (drawing_ranked words q s)) (at_itself flat_file_too_long) (omega arith)
+      go (by_command h k b) e = apart (subst ByCommand (sym e) (rule_ranked b.breaks)) (at_itself FlatFileTooLong) (omega arith)
+      go (by_drawing q s) e = apart (subst ByDrawing (sym e) (drawing_ranked words q s)) (at_itself FlatFileTooLong) (omega arith)
       go (by_flat_file {m} {c} q f l) e = (refl, record { roles = m; passed = q; finished_with = c; finishes = f; too_long = l })
 
 -- ---- the table
 
 -- RULES 12: 1, text over 16,777,216 bytes; at 0
-pub refused_by_length : {t : List ℕ} {words room p : ℕ} → Refused t words room text_too_long p ↔ ((p ≡ 0) × (most_bytes < length t))
+pub refused_by_length : {t : List ℕ} {words room p : ℕ} → Refused t words room TextTooLong p ↔ ((p ≡ 0) × (most_bytes < length t))
 refused_by_length {t} {words} {room} {p} = (
-  λ r. way_long ((refusal text_too_long p r.0).0 r.1),
-  λ h. ([], subst (λ (q : ℕ). Answers t words room (rejected (refuse text_too_long q) [])) (sym h.0) ((refusal text_too_long 0 []).1 (by_length h.1))),
+  λ r. way_long ((refusal TextTooLong p r.0).0 r.1),
+  λ h. ([], subst (λ (q : ℕ). Answers t words room (rejected (refuse TextTooLong q) [])) (sym h.0) ((refusal TextTooLong 0 []).1 (by_length h.1))),
 )
 
 -- RULES 12: 2, not in the grammar; at the length of the longest prefix that some continuation completes to a grammatical text
-pub refused_by_grammar : {t : List ℕ} {words room p : ℕ} → Refused t words room not_in_grammar p ↔ ((length t ≤ most_bytes) × (Grammatical t → ⊥) × LongestViable t p)
-refused_by_grammar {t} {words} {room} {p} = (λ r. way_strange ((refusal not_in_grammar p r.0).0 r.1), λ h. ([], (refusal not_in_grammar p []).1 (by_grammar h.0 h.1 h.2)))
+pub refused_by_grammar : {t : List ℕ} {words room p : ℕ} → Refused t words room NotInGrammar p ↔ ((length t ≤ most_bytes) × (Grammatical t → ⊥) × LongestViable t p)
+refused_by_grammar {t} {words} {room} {p} = (λ r. way_strange ((refusal NotInGrammar p r.0).0 r.1), λ h. ([], (refusal NotInGrammar p []).1 (by_grammar h.0 h.1 h.2)))
 
 -- RULES 12: then 3 to 9 for all commands in text order, within a command by number, within a number by place
 pub refused_by_command : {t : List ℕ} {words room : ℕ} {r : Rule} {p : ℕ} → ByCommand r → Refused t words room r p ↔ CommandsBreak t r p
@@ -195,23 +195,23 @@ module _ {t : List ℕ} {words p : ℕ} {chain : Chain} (Far : List (Turn ℤ) �
     };
   }
 
-pub refused_by_x : {t : List ℕ} {words room p : ℕ} {chain : Chain} → Answers t words room (rejected (refuse x_out_of_range p) chain) ↔ OutOfRange FarInX t words p chain
+pub refused_by_x : {t : List ℕ} {words room p : ℕ} {chain : Chain} → Answers t words room (rejected (refuse XOutOfRange p) chain) ↔ OutOfRange FarInX t words p chain
 refused_by_x = (
-  λ a. range_stop FarInX x_out_of_range (λ c m f. x_only f) ((refused_by_drawing {r = x_out_of_range} (record { least = omega arith; most = omega arith })).0 a),
-  λ o. (refused_by_drawing {r = x_out_of_range} (record { least = omega arith; most = omega arith })).1 (stop_ranged FarInX x_out_of_range (λ c u net l k x. x-foremost x) o),
+  λ a. range_stop FarInX XOutOfRange (λ c m f. x_only f) ((refused_by_drawing {r = XOutOfRange} (record { least = omega arith; most = omega arith })).0 a),
+  λ o. (refused_by_drawing {r = XOutOfRange} (record { least = omega arith; most = omega arith })).1 (stop_ranged FarInX XOutOfRange (λ c u net l k x. x-foremost x) o),
 )
 
-pub refused_by_y : {t : List ℕ} {words room p : ℕ} {chain : Chain} → Answers t words room (rejected (refuse y_out_of_range p) chain) ↔ OutOfRange FarInY t words p chain
+pub refused_by_y : {t : List ℕ} {words room p : ℕ} {chain : Chain} → Answers t words room (rejected (refuse YOutOfRange p) chain) ↔ OutOfRange FarInY t words p chain
 refused_by_y = (
-  λ a. range_stop FarInY y_out_of_range (λ c m f. y_only f) ((refused_by_drawing {r = y_out_of_range} (record { least = omega arith; most = omega arith })).0 a),
-  λ o. (refused_by_drawing {r = y_out_of_range} (record { least = omega arith; most = omega arith })).1 (stop_ranged FarInY y_out_of_range (λ c u net l k y. y-foremost y) o),
+  λ a. range_stop FarInY YOutOfRange (λ c m f. y_only f) ((refused_by_drawing {r = YOutOfRange} (record { least = omega arith; most = omega arith })).0 a),
+  λ o. (refused_by_drawing {r = YOutOfRange} (record { least = omega arith; most = omega arith })).1 (stop_ranged FarInY YOutOfRange (λ c u net l k y. y-foremost y) o),
 )
 
 -- RULES 12: then 18, flat file longer than the room or than 16,777,216; at 0
-pub refused_by_flat_file : {t : List ℕ} {words room p : ℕ} → Refused t words room flat_file_too_long p ↔ ((p ≡ 0) × FileTooLong t words room)
+pub refused_by_flat_file : {t : List ℕ} {words room p : ℕ} → Refused t words room FlatFileTooLong p ↔ ((p ≡ 0) × FileTooLong t words room)
 refused_by_flat_file {t} {words} {room} {p} = (
-  λ r. way_file ((refusal flat_file_too_long p r.0).0 r.1),
-  λ h. ([], subst (λ (q : ℕ). Answers t words room (rejected (refuse flat_file_too_long q) [])) (sym h.0) ((refusal flat_file_too_long 0 []).1 (by_flat_file h.1.passed h.1.finishes h.1.too_long))),
+  λ r. way_file ((refusal FlatFileTooLong p r.0).0 r.1),
+  λ h. ([], subst (λ (q : ℕ). Answers t words room (rejected (refuse FlatFileTooLong q) [])) (sym h.0) ((refusal FlatFileTooLong 0 []).1 (by_flat_file h.1.passed h.1.finishes h.1.too_long))),
 )
 
 -- RULES 12: accepted otherwise: nothing broken, the drawing finishes with these counts, and the flat file fits

@@ -14,7 +14,7 @@ use Rattle.grammar.proofs.Markings.{one_marking}
 use Rattle.definition.specs.declared.Refusal.{Refusal}
 use Rattle.definition.specs.Limits.{most_bytes}
 use Rattle.definition.specs.Words.{Placed}
-use Rattle.definition.specs.Rules.{too_few_words, refuse}
+use Rattle.definition.specs.Rules.{TooFewWords, refuse}
 use Rattle.definition.specs.Commands.{Command, commands}
 use Rattle.definition.specs.Faults.{first_fault}
 use Rattle.definition.specs.Standing.{outside}
@@ -39,21 +39,21 @@ pub record TooFewLent (t : List ℕ) (words p : ℕ) : Type 0 where
 
 -- RULES 8: 25, exactly when the live bodies after some DF need more words than were lent, at the DS; with no calls open
 pub refused_by_words : {t : List ℕ} {words room p : ℕ} {chain : Chain}
-    → Answers t words room (rejected (refuse too_few_words p) chain) ↔ ((chain ≡ []) × TooFewLent t words p)
-refused_by_words {t} {words} {room} {p} {chain} = (there, λ h. subst (λ (x : Chain). Answers t words room (rejected (refuse too_few_words p) x)) (sym h.0) (back h.1))
+    → Answers t words room (rejected (refuse TooFewWords p) chain) ↔ ((chain ≡ []) × TooFewLent t words p)
+refused_by_words {t} {words} {room} {p} {chain} = (there, λ h. subst (λ (x : Chain). Answers t words room (rejected (refuse TooFewWords p) x)) (sym h.0) (back h.1))
   where
-    there : Answers t words room (rejected (refuse too_few_words p) chain) → (chain ≡ []) × TooFewLent t words p
+    there : Answers t words room (rejected (refuse TooFewWords p) chain) → (chain ≡ []) × TooFewLent t words p
     there a =
-        let s = (refused_by_drawing {r = too_few_words} (record { least = omega arith; most = omega arith })).0 a in
+        let s = (refused_by_drawing {r = TooFewWords} (record { least = omega arith; most = omega arith })).0 a in
         let ds = deeds (outside []) (commands 0 s.roles) in
-        let f = (stopped_by_words words (counts 0 0 0) [] ds p chain).0 ((drawing_stops words [] ds too_few_words p chain).1 s.stops) in
+        let f = (stopped_by_words words (counts 0 0 0) [] ds p chain).0 ((drawing_stops words [] ds TooFewWords p chain).1 s.stops) in
         (f.2, record { roles = s.roles; passed = s.passed; lacking = f.0; place_is = f.1 })
 
-    back : TooFewLent t words p → Answers t words room (rejected (refuse too_few_words p) [])
+    back : TooFewLent t words p → Answers t words room (rejected (refuse TooFewWords p) [])
     back l =
-        (refusal too_few_words p []).1
+        (refusal TooFewWords p []).1
         (by_drawing l.passed
-        (too_few-stops words (counts 0 0 0) (drawing_of (commands 0 l.roles)) l.lacking ∙ ap (λ (q : ℕ). stopped (refuse too_few_words q) []) l.place_is))
+        (too_few-stops words (counts 0 0 0) (drawing_of (commands 0 l.roles)) l.lacking ∙ ap (λ (q : ℕ). stopped (refuse TooFewWords q) []) l.place_is))
 
 -- then fewer were lent than the text needs, and so fewer than it has bytes
 pub fewer_than_needed : {t : List ℕ} {words p : ℕ} (l : TooFewLent t words p) → words < words_needed (drawing_of (commands 0 l.roles))
@@ -63,7 +63,7 @@ pub fewer_than_bytes : {t : List ℕ} {words p : ℕ} → TooFewLent t words p �
 fewer_than_bytes l = omega (arith, fewer_than_needed l, words_within l.passed.marked)
 
 -- with as many words as the text has bytes 25 never occurs
-pub never-25 : {t : List ℕ} {words room p : ℕ} {chain : Chain} → length t ≤ words → Answers t words room (rejected (refuse too_few_words p) chain) → ⊥
+pub never-25 : {t : List ℕ} {words room p : ℕ} {chain : Chain} → length t ≤ words → Answers t words room (rejected (refuse TooFewWords p) chain) → ⊥
 never-25 h a = omega (arith, h, fewer_than_bytes (refused_by_words.0 a).1)
 
 -- and how many are lent beyond that does not matter
@@ -75,7 +75,7 @@ enough_drawing k words words' h g = held-within k words h ∙ sym (held-within k
 
 pub data WithWords (t : List ℕ) (words room : ℕ) (o : Outcome) : Type 0 where
   the_same : Answers t (length t) room o → WithWords t words room o
-  refused-25 : (p : ℕ) → o ≡ rejected (refuse too_few_words p) [] → TooFewLent t words p → WithWords t words room o
+  refused-25 : (p : ℕ) → o ≡ rejected (refuse TooFewWords p) [] → TooFewLent t words p → WithWords t words room o
 
 module _ {t : List ℕ} (words room : ℕ) {m : List Letter} (h : length t ≤ most_bytes) (k : Marked t m) where
   by_end : first_fault (commands 0 m) ≡ none → {x : End} → EndsHeld words (counts 0 0 0) (drawing_of (commands 0 m)) x
@@ -109,25 +109,25 @@ as_without_words {t} {words} {room} (read h k) = as_read words room h k
 
 -- 25 exactly when fewer are lent than the live bodies need as far as the reading comes
 pub words_decide : {t : List ℕ} {m : List Letter} (words room : ℕ) → Passed t m
-    → ((p : ℕ) × Answers t words room (rejected (refuse too_few_words p) [])) ↔ (words < words_needed (until_stop (counts 0 0 0) (drawing_of (commands 0 m))))
+    → ((p : ℕ) × Answers t words room (rejected (refuse TooFewWords p) [])) ↔ (words < words_needed (until_stop (counts 0 0 0) (drawing_of (commands 0 m))))
 words_decide {t} {m} words room q = (there, back)
   where
-    there : (p : ℕ) × Answers t words room (rejected (refuse too_few_words p) []) → words < words_needed (until_stop (counts 0 0 0) (drawing_of (commands 0 m)))
+    there : (p : ℕ) × Answers t words room (rejected (refuse TooFewWords p) []) → words < words_needed (until_stop (counts 0 0 0) (drawing_of (commands 0 m)))
     there (p, a) =
         let l = (refused_by_words.0 a).1 in
         subst (λ (x : List Letter). words < words_needed (until_stop (counts 0 0 0) (drawing_of (commands 0 x)))) (one_marking l.passed.marked q.marked)
         ((too_few_exactly words (counts 0 0 0) (drawing_of (commands 0 l.roles))).0 l.lacking)
 
-    back : words < words_needed (until_stop (counts 0 0 0) (drawing_of (commands 0 m))) → (p : ℕ) × Answers t words room (rejected (refuse too_few_words p) [])
+    back : words < words_needed (until_stop (counts 0 0 0) (drawing_of (commands 0 m))) → (p : ℕ) × Answers t words room (rejected (refuse TooFewWords p) [])
     back h =
         let f = (too_few_exactly words (counts 0 0 0) (drawing_of (commands 0 m))).1 h in
         (f.definition.place, refused_by_words.1 (refl, record { roles = m; passed = q; lacking = f; place_is = refl }))
 
 -- a text whose drawing finishes needs what its whole drawing needs
 pub words_decide_all : {t : List ℕ} {m : List Letter} (words room : ℕ) → Passed t m → {c : Counts} → ending (counts 0 0 0) (drawing_of (commands 0 m)) ≡ finished c
-    → ((p : ℕ) × Answers t words room (rejected (refuse too_few_words p) [])) ↔ (words < words_needed (drawing_of (commands 0 m)))
+    → ((p : ℕ) × Answers t words room (rejected (refuse TooFewWords p) [])) ↔ (words < words_needed (drawing_of (commands 0 m)))
 words_decide_all {t} {m} words room q {c} e =
-    subst (λ (es : List Event). ((p : ℕ) × Answers t words room (rejected (refuse too_few_words p) [])) ↔ (words < words_needed es))
+    subst (λ (es : List Event). ((p : ℕ) × Answers t words room (rejected (refuse TooFewWords p) [])) ↔ (words < words_needed es))
     (until_all (counts 0 0 0) (drawing_of (commands 0 m)) c e) (words_decide words room q)
 
 -- a text is accepted exactly when it is with as many words as it has bytes, and the words lent are as many as it needs

@@ -12,7 +12,7 @@ use Rattle.grammar.specs.Notation.{Letter, dec, has, stop, skip}
 use Rattle.grammar.specs.Tables.{letter}
 use Rattle.definition.specs.declared.Refusal.{Refusal}
 use Rattle.definition.specs.Limits.{most_points}
-use Rattle.definition.specs.Rules.{Rule, number_too_large, scaled_too_large}
+use Rattle.definition.specs.Rules.{Rule, NumberTooLarge, ScaledTooLarge}
 use Rattle.definition.specs.Words.{Placed, at, Point, any, those, same}
 use Rattle.definition.specs.Commands.{Shape, Number, Command, draw, layer, command_at, commands}
 use Rattle.definition.specs.Standing.{outside, after, given, scaled, scaled_shape}
@@ -67,10 +67,10 @@ faults-draw n l w g h =
     let a = values w.sizes in
     let b = both (map given w.points) in
     let near : InRange (a ++ b) = range-++ a b (range_left a _ h) (range_left b (both (map given w.directions)) (range_right a _ h)) in
-    let three : at_numbers number_too_large beyond (numbers_of (draw w)) ≡ [] =
-    none_listed number_too_large beyond (numbers_of (draw w)) (ap (λ (zs : List ℤ). any beyond zs) (numbers-drawn w) ∙ none_beyond (numbers_of_shape (valued w)) h) in
-    let six : at_numbers scaled_too_large (λ z. beyond (scaled (outside l) z)) (distances (draw w)) ≡ [] =
-    none_listed scaled_too_large (λ z. beyond (scaled (outside l) z)) (distances (draw w))
+    let three : at_numbers NumberTooLarge beyond (numbers_of (draw w)) ≡ [] =
+    none_listed NumberTooLarge beyond (numbers_of (draw w)) (ap (λ (zs : List ℤ). any beyond zs) (numbers-drawn w) ∙ none_beyond (numbers_of_shape (valued w)) h) in
+    let six : at_numbers ScaledTooLarge (λ z. beyond (scaled (outside l) z)) (distances (draw w)) ≡ [] =
+    none_listed ScaledTooLarge (λ z. beyond (scaled (outside l) z)) (distances (draw w))
     (any_same (λ z. beyond (scaled (outside l) z)) beyond (λ z. ap beyond (scaled-outside l z)) (values (distances (draw w)))
     ∙ ap (λ (zs : List ℤ). any beyond zs) (distances-drawn w) ∙ none_beyond (a ++ b) near) in
     let seven : empty_shape (scaled_shape (outside l) w) ≡ false = ap (λ (k : Shape ℤ). empty_shape k) (read-outside l w) ∙ g.full in

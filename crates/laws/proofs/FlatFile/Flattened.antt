@@ -16,7 +16,7 @@ use Rattle.grammar.specs.Viable.{Marked}
 use Rattle.definition.specs.declared.Refusal.{Refusal}
 use Rattle.definition.specs.Limits.{most_bytes, most_calls, most_shapes}
 use Rattle.definition.specs.Words.{Placed, first}
-use Rattle.definition.specs.Rules.{too_many_calls, too_many_shapes, flat_file_too_long, refuse}
+use Rattle.definition.specs.Rules.{TooManyCalls, TooManyShapes, FlatFileTooLong, refuse}
 use Rattle.definition.specs.Commands.{Shape, Command, commands}
 use Rattle.definition.specs.Standing.{outside}
 use Rattle.definition.specs.Faults.{first_fault}
@@ -52,7 +52,7 @@ shapes-counted c (drew d ∷ es) c' h e = go (ltb c.shapes most_shapes) refl (sh
   where
     go : (b : Bool) → ltb c.shapes most_shapes ≡ b
         → (c.shapes + 1 ≤ most_shapes → ending (counts c.calls (c.shapes + 1) c.redefinitions) es ≡ finished c' → Counted (counts c.calls (c.shapes + 1) c.redefinitions) es c')
-        → go_on (if b then finished (counts c.calls (c.shapes + 1) c.redefinitions) else stopped (refuse too_many_shapes d.place) d.chain) (λ x. ending x es) ≡ finished c'
+        → go_on (if b then finished (counts c.calls (c.shapes + 1) c.redefinitions) else stopped (refuse TooManyShapes d.place) d.chain) (λ x. ending x es) ≡ finished c'
         → Counted c (drew d ∷ es) c'
     go true t f g =
         let r = f (omega (arith, ltb-true c.shapes most_shapes t)) g in
@@ -63,7 +63,7 @@ shapes-counted c (called p chain d ∷ es) c' h e = go (ltb c.calls most_calls) 
   where
     go : (b : Bool)
         → (ending (counts (c.calls + 1) c.shapes c.redefinitions) es ≡ finished c' → Counted (counts (c.calls + 1) c.shapes c.redefinitions) es c')
-        → go_on (if b then finished (counts (c.calls + 1) c.shapes c.redefinitions) else stopped (refuse too_many_calls p) chain) (λ x. ending x es) ≡ finished c'
+        → go_on (if b then finished (counts (c.calls + 1) c.shapes c.redefinitions) else stopped (refuse TooManyCalls p) chain) (λ x. ending x es) ≡ finished c'
         → Counted c (called p chain d ∷ es) c'
     go true f g = let r = f g in record { is = unfold shapes_of in r.is; limit = r.limit }
     go false f g = absurd (stopped≢finished g)
@@ -90,7 +90,7 @@ accepted_by m words room cs c es e = by_fault (first_fault (commands 0 m)) refl 
     story_of = drawing_of (commands 0 m)
 
     by_fit : (b : Bool) (x : Counts) → ending (counts 0 0 0) story_of ≡ finished x → (leb (length (flat (shapes_of story_of))) room && leb (length (flat (shapes_of story_of))) most_bytes) ≡ b
-        → first_fault (commands 0 m) ≡ none → (if b then accepted (commands 0 m) x story_of else rejected (refuse flat_file_too_long 0) []) ≡ accepted cs c es → Accepted m room c es
+        → first_fault (commands 0 m) ≡ none → (if b then accepted (commands 0 m) x story_of else rejected (refuse FlatFileTooLong 0) []) ≡ accepted cs c es → Accepted m room c es
     by_fit true x q f n h =
         let ex : x ≡ c = cc in
         let ee : story_of ≡ es = cc in

@@ -13,7 +13,7 @@ use lib.ListN.{length}
 use Rattle.grammar.specs.Notation.{Letter, Match}
 use Rattle.grammar.specs.Productions.{cif_file}
 use Rattle.definition.specs.Limits.{largest, most_points}
-use Rattle.definition.specs.Rules.{Rule, number_too_large, zero_factor, scaled_too_large, degenerate_command, no_layer, too_many_parts}
+use Rattle.definition.specs.Rules.{Rule, NumberTooLarge, ZeroFactor, ScaledTooLarge, DegenerateCommand, NoLayer, TooManyParts}
 use Rattle.definition.specs.Words.{at, Point, any}
 use Rattle.definition.specs.Commands.{Kind, box, flash, wire, polygon, Shape, Turn, Number, translate, mirror_x, mirror_y, rotate}
 use Rattle.definition.specs.Commands.{Command, draw, layer, call, start, finish, delete, nothing, commands}
@@ -145,14 +145,14 @@ stands s nothing x y = x
 good_step : (s : Standing) (p : ℕ) (c : Command) → Stands s → Made c → faults s (at p c) ≡ [] → All (Kept.StepP Good) (step_of s c)
 unfolding step_of All Made Kept.StepP FitStep faults degenerate layerless has_too_many parts_of any
 good_step s p (draw w) x y e =
-    let e₁ = nil-right (at_numbers number_too_large beyond (numbers_of (draw w))) _ e in
-    let e₂ = nil-right (at_command zero_factor (zero_scale (draw w)) p) _ e₁ in
-    let e₄ = nil-right (at_numbers scaled_too_large (λ z. beyond (scaled s z)) (distances (draw w))) _ e₂ in
-    let e₅ = nil-right (at_command degenerate_command (degenerate s (draw w)) p) _ e₄ in
-    let e₆ = nil-right (at_command no_layer (layerless s (draw w)) p) _ e₅ in
-    let seven : degenerate s (draw w) ≡ false = not_at degenerate_command p _ (nil-left (at_command degenerate_command (degenerate s (draw w)) p) _ e₄) in
-    let eight : layerless s (draw w) ≡ false = not_at no_layer p _ (nil-left (at_command no_layer (layerless s (draw w)) p) _ e₅) in
-    let nine : has_too_many (draw w) ≡ false = not_at too_many_parts p _ e₆ in (
+    let e₁ = nil-right (at_numbers NumberTooLarge beyond (numbers_of (draw w))) _ e in
+    let e₂ = nil-right (at_command ZeroFactor (zero_scale (draw w)) p) _ e₁ in
+    let e₄ = nil-right (at_numbers ScaledTooLarge (λ z. beyond (scaled s z)) (distances (draw w))) _ e₂ in
+    let e₅ = nil-right (at_command DegenerateCommand (degenerate s (draw w)) p) _ e₄ in
+    let e₆ = nil-right (at_command NoLayer (layerless s (draw w)) p) _ e₅ in
+    let seven : degenerate s (draw w) ≡ false = not_at DegenerateCommand p _ (nil-left (at_command DegenerateCommand (degenerate s (draw w)) p) _ e₄) in
+    let eight : layerless s (draw w) ≡ false = not_at NoLayer p _ (nil-left (at_command NoLayer (layerless s (draw w)) p) _ e₅) in
+    let nine : has_too_many (draw w) ≡ false = not_at TooManyParts p _ e₆ in (
       record {
         formed = formed_scaled s w y;
         fit = (fit-step s p (draw w) e).0;

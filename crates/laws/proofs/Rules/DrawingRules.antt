@@ -14,7 +14,7 @@ use lib.ListN.{length}
 use Rattle.definition.specs.declared.Refusal.{Refusal}
 use Rattle.definition.specs.Limits.{most_definitions, deepest, most_calls, most_shapes}
 use Rattle.definition.specs.Words.{none?}
-use Rattle.definition.specs.Rules.{Rule, too_many_definitions, too_few_words, off_the_axes, undefined_symbol, being_drawn, too_deep, too_many_calls, x_out_of_range, y_out_of_range, too_many_shapes, refuse}
+use Rattle.definition.specs.Rules.{Rule, TooManyDefinitions, TooFewWords, OffTheAxes, UndefinedSymbol, BeingDrawn, TooDeep, TooManyCalls, XOutOfRange, YOutOfRange, TooManyShapes, refuse}
 use Rattle.definition.specs.Commands.{Shape, Turn}
 use Rattle.definition.specs.Turns.{moved}
 use Rattle.definition.specs.Table.{Definition, Table, find, enter}
@@ -31,25 +31,25 @@ use Rattle.laws.proofs.Story.Decides.{off_axes_decides, undefined_decides, being
 -- open calls `chain` and their transformations `net`
 pub data Broken (words : ℕ) (c : Counts) (t : Table) (chain : Chain) (net : List (Turn ℤ)) : Act → Rule → Type 0 where
   -- 513 live definitions
-  live : {d : Definition} → most_definitions < length (enter d t) → Broken words c t chain net (entering d) too_many_definitions
+  live : {d : Definition} → most_definitions < length (enter d t) → Broken words c t chain net (entering d) TooManyDefinitions
   -- the live bodies need more words than were lent
-  few_words : {d : Definition} → words < words_in (enter d t) → Broken words c t chain net (entering d) too_few_words
+  few_words : {d : Definition} → words < words_in (enter d t) → Broken words c t chain net (entering d) TooFewWords
   -- drawn call with an R off the axes
-  off_axes_lem : {n : ℕ} {ts : List (Turn ℤ)} → Among Askew ts → Broken words c t chain net (calling n ts) off_the_axes
+  off_axes_lem : {n : ℕ} {ts : List (Turn ℤ)} → Among Askew ts → Broken words c t chain net (calling n ts) OffTheAxes
   -- drawn call of an undefined symbol
-  undefined : {n : ℕ} {ts : List (Turn ℤ)} → (Defined t n → ⊥) → Broken words c t chain net (calling n ts) undefined_symbol
+  undefined : {n : ℕ} {ts : List (Turn ℤ)} → (Defined t n → ⊥) → Broken words c t chain net (calling n ts) UndefinedSymbol
   -- drawn call of a symbol already being drawn
-  being_drawn_lem : {n : ℕ} {ts : List (Turn ℤ)} → BeingDrawn chain n → Broken words c t chain net (calling n ts) being_drawn
+  being_drawn_lem : {n : ℕ} {ts : List (Turn ℤ)} → BeingDrawn chain n → Broken words c t chain net (calling n ts) BeingDrawn
   -- depth 33: an executable call has depth 1
-  deep : {n : ℕ} {ts : List (Turn ℤ)} → deepest < length chain + 1 → Broken words c t chain net (calling n ts) too_deep
+  deep : {n : ℕ} {ts : List (Turn ℤ)} → deepest < length chain + 1 → Broken words c t chain net (calling n ts) TooDeep
   -- call 1,048,577
-  many-calls : {n : ℕ} {ts : List (Turn ℤ)} → most_calls < c.calls + 1 → Broken words c t chain net (calling n ts) too_many_calls
+  many-calls : {n : ℕ} {ts : List (Turn ℤ)} → most_calls < c.calls + 1 → Broken words c t chain net (calling n ts) TooManyCalls
   -- a final point whose x is beyond 16,777,215
-  far_x : {l : List ℕ} {k : Shape ℤ} → FinallyBeyondX net k → Broken words c t chain net (drawing l k) x_out_of_range
+  far_x : {l : List ℕ} {k : Shape ℤ} → FinallyBeyondX net k → Broken words c t chain net (drawing l k) XOutOfRange
   -- a final point whose y is; that 16 comes before it the order says
-  far_y : {l : List ℕ} {k : Shape ℤ} → FinallyBeyondY net k → Broken words c t chain net (drawing l k) y_out_of_range
+  far_y : {l : List ℕ} {k : Shape ℤ} → FinallyBeyondY net k → Broken words c t chain net (drawing l k) YOutOfRange
   -- shape 1,048,577
-  many-shapes : {l : List ℕ} {k : Shape ℤ} → most_shapes < c.shapes + 1 → Broken words c t chain net (drawing l k) too_many_shapes
+  many-shapes : {l : List ℕ} {k : Shape ℤ} → most_shapes < c.shapes + 1 → Broken words c t chain net (drawing l k) TooManyShapes
 
 abbrev pub Breaks : (words : ℕ) → Counts → Moment → Rule → Type 0
 Breaks words c m r = Broken words c m.table m.chain m.net m.act r
@@ -98,9 +98,9 @@ pub data Met (words : ℕ) (c : Counts) (m : Moment) : End → Type 0 where
 
 module _ (words : ℕ) (c : Counts) (t : Table) (chain : Chain) (net : List (Turn ℤ)) (p : ℕ) where
   -- a call breaks no rule below a rank where the facts of those rules fail; so a shape, and a definition
-  call-rule : (n : ℕ) (ts : List (Turn ℤ)) (top : ℕ) → (rank off_the_axes < top → Among Askew ts → ⊥)
-      → (rank undefined_symbol < top → (Defined t n → ⊥) → ⊥) → (rank being_drawn < top → BeingDrawn chain n → ⊥)
-      → (rank too_deep < top → deepest < length chain + 1 → ⊥) → (rank too_many_calls < top → most_calls < c.calls + 1 → ⊥)
+  call-rule : (n : ℕ) (ts : List (Turn ℤ)) (top : ℕ) → (rank OffTheAxes < top → Among Askew ts → ⊥)
+      → (rank UndefinedSymbol < top → (Defined t n → ⊥) → ⊥) → (rank BeingDrawn < top → BeingDrawn chain n → ⊥)
+      → (rank TooDeep < top → deepest < length chain + 1 → ⊥) → (rank TooManyCalls < top → most_calls < c.calls + 1 → ⊥)
       → (k : Rule) → rank k < top → Broken words c t chain net (calling n ts) k → ⊥
   call-rule n ts top a b d e f k h (off_axes_lem x) = a h x
   call-rule n ts top a b d e f k h (undefined x) = b h x
@@ -115,12 +115,12 @@ module _ (words : ℕ) (c : Counts) (t : Table) (chain : Chain) (net : List (Tur
     -- a call that breaks no rule from 11 to 14
     made : {b : Bool} → (Among Askew ts → ⊥) → ((Defined t n → ⊥) → ⊥) → (BeingDrawn chain n → ⊥)
         → (deepest < length chain + 1 → ⊥) → Decides (c.calls < most_calls) b
-        → Met words c itself (if b then finished (counts (c.calls + 1) c.shapes c.redefinitions) else stopped (refuse too_many_calls p) chain)
+        → Met words c itself (if b then finished (counts (c.calls + 1) c.shapes c.redefinitions) else stopped (refuse TooManyCalls p) chain)
     unfolding tally_of
     made x y z u (holds v) = goes_on (λ k. call-rule n ts (suc (rank k)) (λ h. x) (λ h. y) (λ h. z) (λ h. u) (omega arith) k (omega arith))
     made x y z u (fails v) =
         let many : most_calls < c.calls + 1 = omega arith in
-        stops (record { breaks = many-calls many; none_earlier = call-rule n ts (rank too_many_calls) (λ h. x) (λ h. y) (λ h. z) (λ h. u) (omega arith) })
+        stops (record { breaks = many-calls many; none_earlier = call-rule n ts (rank TooManyCalls) (λ h. x) (λ h. y) (λ h. z) (λ h. u) (omega arith) })
 
     call_met : Met words c itself (counted c (event_of words t chain net p (calling n ts)))
     unfolding event_of passage_of passage_to call_event counted
@@ -128,35 +128,35 @@ module _ (words : ℕ) (c : Counts) (t : Table) (chain : Chain) (net : List (Tur
       where
         found_met : {a b : Bool} → (Among Askew ts → ⊥) → ((Defined t n → ⊥) → ⊥) → (d : Definition) → Decides (BeingDrawn chain n) a
             → Decides (deepest < length chain + 1) b
-            → Met words c itself (counted c (call_event (if a then barred being_drawn else if b then barred too_deep else leads d) p chain))
+            → Met words c itself (counted c (call_event (if a then barred BeingDrawn else if b then barred TooDeep else leads d) p chain))
         found_met x y d (holds z) u =
-            stops (record { breaks = being_drawn_lem z; none_earlier = call-rule n ts (rank being_drawn) (λ h. x) (λ h. y) (omega arith) (omega arith) (omega arith) })
+            stops (record { breaks = being_drawn_lem z; none_earlier = call-rule n ts (rank BeingDrawn) (λ h. x) (λ h. y) (omega arith) (omega arith) (omega arith) })
         found_met x y d (fails z) (holds u) =
-            stops (record { breaks = deep u; none_earlier = call-rule n ts (rank too_deep) (λ h. x) (λ h. y) (λ h. z) (omega arith) (omega arith) })
+            stops (record { breaks = deep u; none_earlier = call-rule n ts (rank TooDeep) (λ h. x) (λ h. y) (λ h. z) (omega arith) (omega arith) })
         found_met x y d (fails z) (fails u) = made x y z u (ltb_decides c.calls most_calls)
 
         go : {a : Bool} → Decides (Among Askew ts) a → (found : Option Definition) → Decides (Defined t n → ⊥) (none? found)
-            → Met words c itself (counted c (call_event (if a then barred off_the_axes else passage_to found (deepest - length chain) chain n) p chain))
+            → Met words c itself (counted c (call_event (if a then barred OffTheAxes else passage_to found (deepest - length chain) chain n) p chain))
         go (holds x) found y =
-            stops (record { breaks = off_axes_lem x; none_earlier = call-rule n ts (rank off_the_axes) (omega arith) (omega arith) (omega arith) (omega arith) (omega arith) })
+            stops (record { breaks = off_axes_lem x; none_earlier = call-rule n ts (rank OffTheAxes) (omega arith) (omega arith) (omega arith) (omega arith) (omega arith) })
         go (fails x) none (holds y) =
-            stops (record { breaks = undefined y; none_earlier = call-rule n ts (rank undefined_symbol) (λ h. x) (omega arith) (omega arith) (omega arith) (omega arith) })
+            stops (record { breaks = undefined y; none_earlier = call-rule n ts (rank UndefinedSymbol) (λ h. x) (omega arith) (omega arith) (omega arith) (omega arith) })
         go (fails x) (some d) (fails y) = found_met x y d (being_drawn_decides n chain) (depth_decides (length chain))
 
   module _ (l : List ℕ) (k : Shape ℤ) where
-    shape-rule : (top : ℕ) → (rank x_out_of_range < top → FinallyBeyondX net k → ⊥) → (rank y_out_of_range < top → FinallyBeyondY net k → ⊥)
-        → (rank too_many_shapes < top → most_shapes < c.shapes + 1 → ⊥) → (i : Rule) → rank i < top → Broken words c t chain net (drawing l k) i → ⊥
+    shape-rule : (top : ℕ) → (rank XOutOfRange < top → FinallyBeyondX net k → ⊥) → (rank YOutOfRange < top → FinallyBeyondY net k → ⊥)
+        → (rank TooManyShapes < top → most_shapes < c.shapes + 1 → ⊥) → (i : Rule) → rank i < top → Broken words c t chain net (drawing l k) i → ⊥
     shape-rule top a b d i h (far_x x) = a h x
     shape-rule top a b d i h (far_y x) = b h x
     shape-rule top a b d i h (many-shapes x) = d h x
 
     inside : {b : Bool} → (FinallyBeyondX net k → ⊥) → (FinallyBeyondY net k → ⊥) → Decides (c.shapes < most_shapes) b
-        → Met words c (moment t chain net p (drawing l k)) (if b then finished (counts c.calls (c.shapes + 1) c.redefinitions) else stopped (refuse too_many_shapes p) chain)
+        → Met words c (moment t chain net p (drawing l k)) (if b then finished (counts c.calls (c.shapes + 1) c.redefinitions) else stopped (refuse TooManyShapes p) chain)
     unfolding tally_of
     inside x y (holds z) = goes_on (λ i. shape-rule (suc (rank i)) (λ h. x) (λ h. y) (omega arith) i (omega arith))
     inside x y (fails z) =
         let many : most_shapes < c.shapes + 1 = omega arith in
-        stops (record { breaks = many-shapes many; none_earlier = shape-rule (rank too_many_shapes) (λ h. x) (λ h. y) (omega arith) })
+        stops (record { breaks = many-shapes many; none_earlier = shape-rule (rank TooManyShapes) (λ h. x) (λ h. y) (omega arith) })
 
     shape_met : Met words c (moment t chain net p (drawing l k)) (counted c (event_of words t chain net p (drawing l k)))
     unfolding event_of drawn_shape counted
@@ -164,14 +164,14 @@ module _ (words : ℕ) (c : Counts) (t : Table) (chain : Chain) (net : List (Tur
       where
         go : {a b : Bool} → Decides (FinallyBeyondX net k) a → Decides (FinallyBeyondY net k) b
             → Met words c (moment t chain net p (drawing l k))
-            (counted c (if a then refused (refuse x_out_of_range p) chain else if b then refused (refuse y_out_of_range p) chain
+            (counted c (if a then refused (refuse XOutOfRange p) chain else if b then refused (refuse YOutOfRange p) chain
             else drew (record { place = p; chain = chain; net = net; layer_of = l; itself = moved net k })))
-        go (holds x) y = stops (record { breaks = far_x x; none_earlier = shape-rule (rank x_out_of_range) (omega arith) (omega arith) (omega arith) })
-        go (fails x) (holds y) = stops (record { breaks = far_y y; none_earlier = shape-rule (rank y_out_of_range) (λ h. x) (omega arith) (omega arith) })
+        go (holds x) y = stops (record { breaks = far_x x; none_earlier = shape-rule (rank XOutOfRange) (omega arith) (omega arith) (omega arith) })
+        go (fails x) (holds y) = stops (record { breaks = far_y y; none_earlier = shape-rule (rank YOutOfRange) (λ h. x) (omega arith) (omega arith) })
         go (fails x) (fails y) = inside x y (ltb_decides c.shapes most_shapes)
 
-  enter-rule : (d : Definition) (top : ℕ) → (rank too_many_definitions < top → most_definitions < length (enter d t) → ⊥)
-      → (rank too_few_words < top → words < words_in (enter d t) → ⊥) → (k : Rule) → rank k < top → Broken words c t chain net (entering d) k → ⊥
+  enter-rule : (d : Definition) (top : ℕ) → (rank TooManyDefinitions < top → most_definitions < length (enter d t) → ⊥)
+      → (rank TooFewWords < top → words < words_in (enter d t) → ⊥) → (k : Rule) → rank k < top → Broken words c t chain net (entering d) k → ⊥
   enter-rule d top a b k h (live x) = a h x
   enter-rule d top a b k h (few_words x) = b h x
 
@@ -181,9 +181,9 @@ module _ (words : ℕ) (c : Counts) (t : Table) (chain : Chain) (net : List (Tur
     where
       go : {a b : Bool} → Decides (most_definitions < length (enter d t)) a → Decides (words < words_in (enter d t)) b
           → Met words c (moment t chain net p (entering d))
-          (counted c (if a then refused (refuse too_many_definitions p) chain else if b then refused (refuse too_few_words p) chain else entered d t))
-      go (holds x) y = stops (record { breaks = live x; none_earlier = enter-rule d (rank too_many_definitions) (omega arith) (omega arith) })
-      go (fails x) (holds y) = stops (record { breaks = few_words y; none_earlier = enter-rule d (rank too_few_words) (λ h. x) (omega arith) })
+          (counted c (if a then refused (refuse TooManyDefinitions p) chain else if b then refused (refuse TooFewWords p) chain else entered d t))
+      go (holds x) y = stops (record { breaks = live x; none_earlier = enter-rule d (rank TooManyDefinitions) (omega arith) (omega arith) })
+      go (fails x) (holds y) = stops (record { breaks = few_words y; none_earlier = enter-rule d (rank TooFewWords) (λ h. x) (omega arith) })
       go (fails x) (fails y) = goes_on (λ k. enter-rule d (suc (rank k)) (λ h. x) (λ h. y) k (omega arith))
 
   remove_met : (n : ℕ) → Met words c (moment t chain net p (removing n)) (counted c (event_of words t chain net p (removing n)))
@@ -214,17 +214,17 @@ FarInY net k = (FinallyBeyondX net k → ⊥) × FinallyBeyondY net k
 
 module _ {words : ℕ} {c : Counts} where
   pub x-foremost : {t : Table} {chain : Chain} {net : List (Turn ℤ)} {p : ℕ} {l : List ℕ} {k : Shape ℤ} → FarInX net k
-      → Foremost words c (moment t chain net p (drawing l k)) x_out_of_range
+      → Foremost words c (moment t chain net p (drawing l k)) XOutOfRange
   x-foremost {t} {chain} {net} {p} {l} {k} x =
-      record { breaks = far_x x; none_earlier = shape-rule words c t chain net p l k (rank x_out_of_range) (omega arith) (omega arith) (omega arith) }
+      record { breaks = far_x x; none_earlier = shape-rule words c t chain net p l k (rank XOutOfRange) (omega arith) (omega arith) (omega arith) }
 
   pub y-foremost : {t : Table} {chain : Chain} {net : List (Turn ℤ)} {p : ℕ} {l : List ℕ} {k : Shape ℤ} → FarInY net k
-      → Foremost words c (moment t chain net p (drawing l k)) y_out_of_range
+      → Foremost words c (moment t chain net p (drawing l k)) YOutOfRange
   y-foremost {t} {chain} {net} {p} {l} {k} y =
-      record { breaks = far_y y.1; none_earlier = shape-rule words c t chain net p l k (rank y_out_of_range) (λ h. y.0) (omega arith) (omega arith) }
+      record { breaks = far_y y.1; none_earlier = shape-rule words c t chain net p l k (rank YOutOfRange) (λ h. y.0) (omega arith) (omega arith) }
 
   -- a rule that a call or a definition breaks is neither
-  x_broken : {t : Table} {chain : Chain} {net : List (Turn ℤ)} {p : ℕ} {a : Act} {r : Rule} → Broken words c t chain net a r → r ≡ x_out_of_range → ShapeFar FarInX (moment t chain net p a)
+  x_broken : {t : Table} {chain : Chain} {net : List (Turn ℤ)} {p : ℕ} {a : Act} {r : Rule} → Broken words c t chain net a r → r ≡ XOutOfRange → ShapeFar FarInX (moment t chain net p a)
   x_broken (live x) e = absurd (omega (arith, ap rank e))
   x_broken (few_words x) e = absurd (omega (arith, ap rank e))
   x_broken (off_axes_lem x) e = absurd (omega (arith, ap rank e))
@@ -236,8 +236,8 @@ module _ {words : ℕ} {c : Counts} where
   x_broken (far_y x) e = absurd (omega (arith, ap rank e))
   x_broken (many-shapes x) e = absurd (omega (arith, ap rank e))
 
-  y_broken : {t : Table} {chain : Chain} {net : List (Turn ℤ)} {p : ℕ} {a : Act} {r : Rule} → Broken words c t chain net a r → r ≡ y_out_of_range
-      → (Broken words c t chain net a x_out_of_range → ⊥) → ShapeFar FarInY (moment t chain net p a)
+  y_broken : {t : Table} {chain : Chain} {net : List (Turn ℤ)} {p : ℕ} {a : Act} {r : Rule} → Broken words c t chain net a r → r ≡ YOutOfRange
+      → (Broken words c t chain net a XOutOfRange → ⊥) → ShapeFar FarInY (moment t chain net p a)
   y_broken (live x) e g = absurd (omega (arith, ap rank e))
   y_broken (few_words x) e g = absurd (omega (arith, ap rank e))
   y_broken (off_axes_lem x) e g = absurd (omega (arith, ap rank e))
@@ -249,11 +249,11 @@ module _ {words : ℕ} {c : Counts} where
   y_broken (far_y {l} {k} y) e g = record { layer = l; itself = k; is = refl; far = (λ x. g (far_x x), y) }
   y_broken (many-shapes x) e g = absurd (omega (arith, ap rank e))
 
-  pub x_only : {m : Moment} → Foremost words c m x_out_of_range → ShapeFar FarInX m
+  pub x_only : {m : Moment} → Foremost words c m XOutOfRange → ShapeFar FarInX m
   x_only {m} f = x_broken {p = m.place} f.breaks refl
 
-  pub y_only : {m : Moment} → Foremost words c m y_out_of_range → ShapeFar FarInY m
-  y_only {m} f = y_broken {p = m.place} f.breaks refl (f.none_earlier x_out_of_range (omega arith))
+  pub y_only : {m : Moment} → Foremost words c m YOutOfRange → ShapeFar FarInY m
+  y_only {m} f = y_broken {p = m.place} f.breaks refl (f.none_earlier XOutOfRange (omega arith))
 
 -- ---- a list of moments
 

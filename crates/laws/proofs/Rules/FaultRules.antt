@@ -19,7 +19,7 @@ use Rattle.grammar.specs.Notation.{Letter}
 use Rattle.grammar.specs.Viable.{Marked}
 use Rattle.definition.specs.declared.Refusal.{Refusal}
 use Rattle.definition.specs.Limits.{largest, most_points, most_turns}
-use Rattle.definition.specs.Rules.{Rule, number_too_large, zero_factor, scaled_too_large, degenerate_command, no_layer, too_many_parts, refuse, order}
+use Rattle.definition.specs.Rules.{Rule, NumberTooLarge, ZeroFactor, ScaledTooLarge, DegenerateCommand, NoLayer, TooManyParts, refuse, order}
 use Rattle.definition.specs.Words.{Placed, at, Point, any, those, first}
 use Rattle.definition.specs.Commands.{Number, Kind, box, flash, wire, polygon, Shape, Turn, translate, mirror_x, mirror_y, rotate}
 use Rattle.definition.specs.Commands.{Command, draw, layer, call, start, finish, delete, nothing, commands}
@@ -51,21 +51,21 @@ pub record Nowhere (q : Point Number) : Type 0 where
 -- RULES 12: the command c breaks, where s stands, the rule of this row at this place
 pub data Breaks (s : Standing) (c : Placed Command) : Rule → (place : ℕ) → Type 0 where
   -- a number beyond 16,777,215; its minus sign or first digit
-  number-beyond : (d : Number) → d ∈ numbers_of c.what → largest < nat_abs d.what → Breaks s c number_too_large d.place
+  number-beyond : (d : Number) → d ∈ numbers_of c.what → largest < nat_abs d.what → Breaks s c NumberTooLarge d.place
   -- a or b is 0; the DS
-  zero_factor_lem : (symbol a b : Number) → c.what ≡ start symbol a b → (nat_abs a.what ≡ 0) ⊎ (nat_abs b.what ≡ 0) → Breaks s c zero_factor c.place
+  zero_factor_lem : (symbol a b : Number) → c.what ≡ start symbol a b → (nat_abs a.what ≡ 0) ⊎ (nat_abs b.what ≡ 0) → Breaks s c ZeroFactor c.place
   -- scaled distance beyond 16,777,215; that number
-  scaled-beyond : (d : Number) → d ∈ distances c.what → largest < Scaled s d → Breaks s c scaled_too_large d.place
+  scaled-beyond : (d : Number) → d ∈ distances c.what → largest < Scaled s d → Breaks s c ScaledTooLarge d.place
   -- zero length, width or diameter; direction (0, 0) of a box or an R; polygon under 3 points; the command
-  zero-size : (k : Shape Number) (d : Number) → c.what ≡ draw k → d ∈ k.sizes → Scaled s d ≡ 0 → Breaks s c degenerate_command c.place
-  zero_direction : (k : Shape Number) (q : Point Number) → c.what ≡ draw k → q ∈ k.directions → Nowhere q → Breaks s c degenerate_command c.place
-  zero_turn : (symbol : Number) (ts : List (Turn Number)) (q : Point Number) → c.what ≡ call symbol ts → rotate q ∈ ts → Nowhere q → Breaks s c degenerate_command c.place
-  few-points : (k : Shape Number) → c.what ≡ draw k → k.kind ≡ polygon → length k.points < 3 → Breaks s c degenerate_command c.place
+  zero-size : (k : Shape Number) (d : Number) → c.what ≡ draw k → d ∈ k.sizes → Scaled s d ≡ 0 → Breaks s c DegenerateCommand c.place
+  zero_direction : (k : Shape Number) (q : Point Number) → c.what ≡ draw k → q ∈ k.directions → Nowhere q → Breaks s c DegenerateCommand c.place
+  zero_turn : (symbol : Number) (ts : List (Turn Number)) (q : Point Number) → c.what ≡ call symbol ts → rotate q ∈ ts → Nowhere q → Breaks s c DegenerateCommand c.place
+  few-points : (k : Shape Number) → c.what ≡ draw k → k.kind ≡ polygon → length k.points < 3 → Breaks s c DegenerateCommand c.place
   -- shape with no layer set; the command
-  no_layer_lem : (k : Shape Number) → c.what ≡ draw k → s.layer_set ≡ [] → Breaks s c no_layer c.place
+  no_layer_lem : (k : Shape Number) → c.what ≡ draw k → s.layer_set ≡ [] → Breaks s c NoLayer c.place
   -- over 1,024 points or 32 transformations; the command
-  many-points : (k : Shape Number) → c.what ≡ draw k → most_points < length k.points → Breaks s c too_many_parts c.place
-  many-turns : (symbol : Number) (ts : List (Turn Number)) → c.what ≡ call symbol ts → most_turns < length ts → Breaks s c too_many_parts c.place
+  many-points : (k : Shape Number) → c.what ≡ draw k → most_points < length k.points → Breaks s c TooManyParts c.place
+  many-turns : (symbol : Number) (ts : List (Turn Number)) → c.what ≡ call symbol ts → most_turns < length ts → Breaks s c TooManyParts c.place
 
 -- what stands behind commands
 abbrev pub standing : Standing → List (Placed Command) → Standing
@@ -220,15 +220,15 @@ empty_list (a ∷ l) e = absurd (omega arith)
 -- ---- a refusal stands for a rule broken
 
 module _ (s : Standing) (p : ℕ) where
-  zero_scale_broken : (w : Command) → zero_scale w ≡ true → Breaks s (at p w) zero_factor p
+  zero_scale_broken : (w : Command) → zero_scale w ≡ true → Breaks s (at p w) ZeroFactor p
   unfolding zero_scale parts_of any
   zero_scale_broken (start n a b) e = go (or_true (zero? a.what) (zero? b.what || false) e)
     where
-      go : (zero? a.what ≡ true) ⊎ ((zero? b.what || false) ≡ true) → Breaks s (at p (start n a b)) zero_factor p
+      go : (zero? a.what ≡ true) ⊎ ((zero? b.what || false) ≡ true) → Breaks s (at p (start n a b)) ZeroFactor p
       go (inl h) = zero_factor_lem n a b refl (inl (eqb-true (nat_abs a.what) 0 h))
       go (inr h) = last (or_true (zero? b.what) false h)
         where
-          last : (zero? b.what ≡ true) ⊎ (false ≡ true) → Breaks s (at p (start n a b)) zero_factor p
+          last : (zero? b.what ≡ true) ⊎ (false ≡ true) → Breaks s (at p (start n a b)) ZeroFactor p
           last (inl i) = zero_factor_lem n a b refl (inr (eqb-true (nat_abs b.what) 0 i))
           last (inr i) = false≢true i
   zero_scale_broken (draw k) e = false≢true e
@@ -243,33 +243,33 @@ module _ (s : Standing) (p : ℕ) where
       let h = and-true (zero? q.x.what) (zero? q.y.what) e in
       record { no_x = eqb-true (nat_abs q.x.what) 0 h.0; no_y = eqb-true (nat_abs q.y.what) 0 h.1 }
 
-  few_broken : (k : Shape Number) → (k.kind ≡ polygon) ⊎ (0 < length k.points) → length k.points < least k.kind → Breaks s (at p (draw k)) degenerate_command p
+  few_broken : (k : Shape Number) → (k.kind ≡ polygon) ⊎ (0 < length k.points) → length k.points < least k.kind → Breaks s (at p (draw k)) DegenerateCommand p
   unfolding least
   few_broken k (inl g) h = few-points k refl g (subst (λ (x : Kind). length k.points < least x) g h)
   few_broken k (inr g) h = go k.kind refl h
     where
-      go : (x : Kind) → k.kind ≡ x → length k.points < least x → Breaks s (at p (draw k)) degenerate_command p
+      go : (x : Kind) → k.kind ≡ x → length k.points < least x → Breaks s (at p (draw k)) DegenerateCommand p
       go polygon e i = few-points k refl e i
       go box e i = absurd (omega arith)
       go flash e i = absurd (omega arith)
       go wire e i = absurd (omega arith)
 
-  empty_broken : (k : Shape Number) → (k.kind ≡ polygon) ⊎ (0 < length k.points) → empty_shape (scaled_shape s k) ≡ true → Breaks s (at p (draw k)) degenerate_command p
+  empty_broken : (k : Shape Number) → (k.kind ≡ polygon) ⊎ (0 < length k.points) → empty_shape (scaled_shape s k) ≡ true → Breaks s (at p (draw k)) DegenerateCommand p
   unfolding empty_shape scaled_shape
   empty_broken k f e = either (or_true _ _ e)
     where
-      sized : (d : Number) × (d ∈ k.sizes) × (zero? (scaled s d.what) ≡ true) → Breaks s (at p (draw k)) degenerate_command p
+      sized : (d : Number) × (d ∈ k.sizes) × (zero? (scaled s d.what) ≡ true) → Breaks s (at p (draw k)) DegenerateCommand p
       sized r = zero-size k r.0 refl r.1 (sym (abs_scaled s r.0.what) ∙ eqb-true (nat_abs (scaled s r.0.what)) 0 r.2)
 
-      aimed : (q : Point Number) × (q ∈ k.directions) × (nowhere (given q) ≡ true) → Breaks s (at p (draw k)) degenerate_command p
+      aimed : (q : Point Number) × (q ∈ k.directions) × (nowhere (given q) ≡ true) → Breaks s (at p (draw k)) DegenerateCommand p
       aimed r = zero_direction k r.0 refl r.1 (nowhere_at r.0 r.2)
 
-      number : (any zero? (map (λ d. scaled s d.what) k.sizes) ≡ true) ⊎ (any nowhere (map given k.directions) ≡ true) → Breaks s (at p (draw k)) degenerate_command p
+      number : (any zero? (map (λ d. scaled s d.what) k.sizes) ≡ true) ⊎ (any nowhere (map given k.directions) ≡ true) → Breaks s (at p (draw k)) DegenerateCommand p
       number (inl h) = sized (any_found (λ d. zero? (scaled s d.what)) k.sizes (sym (any_map zero? (λ (d : Number). scaled s d.what) k.sizes) ∙ h))
       number (inr h) = aimed (any_found (λ q. nowhere (given q)) k.directions (sym (any_map nowhere given k.directions) ∙ h))
 
       either : ((any zero? (map (λ d. scaled s d.what) k.sizes) || any nowhere (map given k.directions)) ≡ true)
-          ⊎ (ltb (length (map (scaled_point s) k.points)) (least k.kind) ≡ true) → Breaks s (at p (draw k)) degenerate_command p
+          ⊎ (ltb (length (map (scaled_point s) k.points)) (least k.kind) ≡ true) → Breaks s (at p (draw k)) DegenerateCommand p
       either (inl h) = number (or_true _ _ h)
       either (inr h) = few_broken k f (subst (λ (n : ℕ). n < least k.kind) (length-map (scaled_point s) k.points) (ltb-true _ _ h))
 
@@ -278,41 +278,41 @@ module _ (s : Standing) (p : ℕ) where
   unfolding Pathed
   drawn_pathed f e = subst Pathed e f
 
-  degenerate_broken : (w : Command) → Pathed w → degenerate s w ≡ true → Breaks s (at p w) degenerate_command p
+  degenerate_broken : (w : Command) → Pathed w → degenerate s w ≡ true → Breaks s (at p w) DegenerateCommand p
   unfolding degenerate
   degenerate_broken w f e = go (or_true _ _ e)
     where
-      emptied : (k : Shape Number) × (k ∈ (parts_of w).shapes) × (empty_shape (scaled_shape s k) ≡ true) → Breaks s (at p w) degenerate_command p
+      emptied : (k : Shape Number) × (k ∈ (parts_of w).shapes) × (empty_shape (scaled_shape s k) ≡ true) → Breaks s (at p w) DegenerateCommand p
       emptied r =
           let d = shape-drawn w r.1 in
-          subst (λ (x : Command). Breaks s (at p x) degenerate_command p) (sym d) (empty_broken r.0 (drawn_pathed f d) r.2)
+          subst (λ (x : Command). Breaks s (at p x) DegenerateCommand p) (sym d) (empty_broken r.0 (drawn_pathed f d) r.2)
 
-      aimed : (t : Turn Number) → t ∈ (parts_of w).turns → (q : Point Number) × (q ∈ bearings t) × (nowhere (given q) ≡ true) → ((parts_of w).turns ≡ []) ⊎ ((n : Number) × (w ≡ call n (parts_of w).turns)) → Breaks s (at p w) degenerate_command p
+      aimed : (t : Turn Number) → t ∈ (parts_of w).turns → (q : Point Number) × (q ∈ bearings t) × (nowhere (given q) ≡ true) → ((parts_of w).turns ≡ []) ⊎ ((n : Number) × (w ≡ call n (parts_of w).turns)) → Breaks s (at p w) DegenerateCommand p
       aimed t m r (inl h) = absurd (Memᴰ.not-nil (subst (Memᴰ t) h m))
       aimed t m r (inr h) = zero_turn h.0 (parts_of w).turns r.0 h.1 (Memᴰ.cast (sym (bearing_turned t r.1)) m) (nowhere_at r.0 r.2)
 
-      turned : (t : Turn Number) × (t ∈ (parts_of w).turns) × (any (λ d. nowhere (given d)) (bearings t) ≡ true) → Breaks s (at p w) degenerate_command p
+      turned : (t : Turn Number) × (t ∈ (parts_of w).turns) × (any (λ d. nowhere (given d)) (bearings t) ≡ true) → Breaks s (at p w) DegenerateCommand p
       turned r = aimed r.0 r.1 (any_found _ _ r.2) (turns-called w)
 
-      go : (any (λ k. empty_shape (scaled_shape s k)) (parts_of w).shapes ≡ true) ⊎ (any (λ t. any (λ d. nowhere (given d)) (bearings t)) (parts_of w).turns ≡ true) → Breaks s (at p w) degenerate_command p
+      go : (any (λ k. empty_shape (scaled_shape s k)) (parts_of w).shapes ≡ true) ⊎ (any (λ t. any (λ d. nowhere (given d)) (bearings t)) (parts_of w).turns ≡ true) → Breaks s (at p w) DegenerateCommand p
       go (inl h) = emptied (any_found _ _ h)
       go (inr h) = turned (any_found _ _ h)
 
-  layerless_broken : (w : Command) → layerless s w ≡ true → Breaks s (at p w) no_layer p
+  layerless_broken : (w : Command) → layerless s w ≡ true → Breaks s (at p w) NoLayer p
   unfolding layerless
   layerless_broken w e =
       let r = any_found (λ (k : Shape Number). eqb (length s.layer_set) 0) (parts_of w).shapes e in
       no_layer_lem r.0 (shape-drawn w r.1) (empty_list s.layer_set (eqb-true (length s.layer_set) 0 r.2))
 
-  too_many_broken : (w : Command) → has_too_many w ≡ true → Breaks s (at p w) too_many_parts p
+  too_many_broken : (w : Command) → has_too_many w ≡ true → Breaks s (at p w) TooManyParts p
   unfolding has_too_many
   too_many_broken w e = go (or_true _ _ e)
     where
-      long : most_turns < length (parts_of w).turns → ((parts_of w).turns ≡ []) ⊎ ((n : Number) × (w ≡ call n (parts_of w).turns)) → Breaks s (at p w) too_many_parts p
+      long : most_turns < length (parts_of w).turns → ((parts_of w).turns ≡ []) ⊎ ((n : Number) × (w ≡ call n (parts_of w).turns)) → Breaks s (at p w) TooManyParts p
       long h (inl i) = absurd (omega (arith, ap length i))
       long h (inr i) = many-turns i.0 (parts_of w).turns i.1 h
 
-      go : (any (λ (k : Shape Number). ltb most_points (length k.points)) (parts_of w).shapes ≡ true) ⊎ (ltb most_turns (length (parts_of w).turns) ≡ true) → Breaks s (at p w) too_many_parts p
+      go : (any (λ (k : Shape Number). ltb most_points (length k.points)) (parts_of w).shapes ≡ true) ⊎ (ltb most_turns (length (parts_of w).turns) ≡ true) → Breaks s (at p w) TooManyParts p
       go (inl h) =
           let r = any_found (λ (k : Shape Number). ltb most_points (length k.points)) (parts_of w).shapes h in
           many-points r.0 (shape-drawn w r.1) (ltb-true most_points (length r.0.points) r.2)
@@ -333,13 +333,13 @@ module _ (s : Standing) (c : Placed Command) where
   broken : Pathed c.what → {r : Refusal} → r ∈ faults s c → Broken r
   unfolding faults beyond
   broken f {r} m =
-      parted (at_numbers number_too_large beyond (numbers_of c.what)) (at_number number_too_large beyond _ (λ d i e. number-beyond d i (ltb-true largest (nat_abs d.what) e)))
-      (parted (at_command zero_factor (zero_scale c.what) c.place) (at_command_lem zero_factor _ (zero_scale_broken s c.place c.what))
-      (parted (at_numbers scaled_too_large (λ d. beyond (scaled s d)) (distances c.what))
-      (at_number scaled_too_large (λ d. beyond (scaled s d)) _ (λ d i e. scaled-beyond d i (subst (λ (n : ℕ). largest < n) (abs_scaled s d.what) (ltb-true largest (nat_abs (scaled s d.what)) e))))
-      (parted (at_command degenerate_command (degenerate s c.what) c.place) (at_command_lem degenerate_command _ (degenerate_broken s c.place c.what f))
-      (parted (at_command no_layer (layerless s c.what) c.place) (at_command_lem no_layer _ (layerless_broken s c.place c.what))
-      (at_command_lem too_many_parts _ (too_many_broken s c.place c.what)))))) m
+      parted (at_numbers NumberTooLarge beyond (numbers_of c.what)) (at_number NumberTooLarge beyond _ (λ d i e. number-beyond d i (ltb-true largest (nat_abs d.what) e)))
+      (parted (at_command ZeroFactor (zero_scale c.what) c.place) (at_command_lem ZeroFactor _ (zero_scale_broken s c.place c.what))
+      (parted (at_numbers ScaledTooLarge (λ d. beyond (scaled s d)) (distances c.what))
+      (at_number ScaledTooLarge (λ d. beyond (scaled s d)) _ (λ d i e. scaled-beyond d i (subst (λ (n : ℕ). largest < n) (abs_scaled s d.what) (ltb-true largest (nat_abs (scaled s d.what)) e))))
+      (parted (at_command DegenerateCommand (degenerate s c.what) c.place) (at_command_lem DegenerateCommand _ (degenerate_broken s c.place c.what f))
+      (parted (at_command NoLayer (layerless s c.what) c.place) (at_command_lem NoLayer _ (layerless_broken s c.place c.what))
+      (at_command_lem TooManyParts _ (too_many_broken s c.place c.what)))))) m
     where
       at_number : (n : Rule) (t : ℤ → Bool) (ds : List Number) → ((d : Number) → d ∈ ds → t d.what ≡ true → Breaks s c n d.place) → r ∈ at_numbers n t ds → Broken r
       at_number n t ds g i = let h = refused-number n t ds i in subst Broken (sym h.same) (n, refl, g h.number h.among h.fails)
@@ -351,22 +351,22 @@ module _ (s : Standing) (c : Placed Command) where
 
   -- the refusals by each rule
   abbrev threes : List Refusal
-  threes = at_numbers number_too_large beyond (numbers_of c.what)
+  threes = at_numbers NumberTooLarge beyond (numbers_of c.what)
 
   abbrev fours : List Refusal
-  fours = at_command zero_factor (zero_scale c.what) c.place
+  fours = at_command ZeroFactor (zero_scale c.what) c.place
 
   abbrev sixes : List Refusal
-  sixes = at_numbers scaled_too_large (λ d. beyond (scaled s d)) (distances c.what)
+  sixes = at_numbers ScaledTooLarge (λ d. beyond (scaled s d)) (distances c.what)
 
   abbrev sevens : List Refusal
-  sevens = at_command degenerate_command (degenerate s c.what) c.place
+  sevens = at_command DegenerateCommand (degenerate s c.what) c.place
 
   abbrev eights : List Refusal
-  eights = at_command no_layer (layerless s c.what) c.place
+  eights = at_command NoLayer (layerless s c.what) c.place
 
   abbrev nines : List Refusal
-  nines = at_command too_many_parts (has_too_many c.what) c.place
+  nines = at_command TooManyParts (has_too_many c.what) c.place
 
   among_threes : {r : Refusal} → r ∈ threes → r ∈ faults s c
   unfolding faults
@@ -385,16 +385,16 @@ module _ (s : Standing) (c : Placed Command) where
   unfolding faults
   behind_sixes m = Memᴰ.append_right threes (Memᴰ.append_right fours (Memᴰ.append_right sixes m))
 
-  among_sevens : degenerate s c.what ≡ true → refuse degenerate_command c.place ∈ faults s c
-  among_sevens e = behind_sixes (Memᴰ.append_left _ (command-refused degenerate_command c.place (degenerate s c.what) e))
+  among_sevens : degenerate s c.what ≡ true → refuse DegenerateCommand c.place ∈ faults s c
+  among_sevens e = behind_sixes (Memᴰ.append_left _ (command-refused DegenerateCommand c.place (degenerate s c.what) e))
 
-  among_eights : layerless s c.what ≡ true → refuse no_layer c.place ∈ faults s c
-  among_eights e = behind_sixes (Memᴰ.append_right sevens (Memᴰ.append_left _ (command-refused no_layer c.place (layerless s c.what) e)))
+  among_eights : layerless s c.what ≡ true → refuse NoLayer c.place ∈ faults s c
+  among_eights e = behind_sixes (Memᴰ.append_right sevens (Memᴰ.append_left _ (command-refused NoLayer c.place (layerless s c.what) e)))
 
-  among_nines : has_too_many c.what ≡ true → refuse too_many_parts c.place ∈ faults s c
-  among_nines e = behind_sixes (Memᴰ.append_right sevens (Memᴰ.append_right eights (command-refused too_many_parts c.place (has_too_many c.what) e)))
+  among_nines : has_too_many c.what ≡ true → refuse TooManyParts c.place ∈ faults s c
+  among_nines e = behind_sixes (Memᴰ.append_right sevens (Memᴰ.append_right eights (command-refused TooManyParts c.place (has_too_many c.what) e)))
 
-  empty-degenerate : (k : Shape Number) → c.what ≡ draw k → empty_shape (scaled_shape s k) ≡ true → refuse degenerate_command c.place ∈ faults s c
+  empty-degenerate : (k : Shape Number) → c.what ≡ draw k → empty_shape (scaled_shape s k) ≡ true → refuse DegenerateCommand c.place ∈ faults s c
   unfolding degenerate parts_of any
   empty-degenerate k e h = among_sevens (subst (λ (w : Command). degenerate s w ≡ true) (sym e) (or_one _ _ (inl (or_one _ _ (inl h)))))
 
@@ -413,13 +413,13 @@ module _ (s : Standing) (c : Placed Command) where
 
   listed : {n : Rule} {p : ℕ} → Breaks s c n p → refuse n p ∈ faults s c
   unfolding beyond zero_scale degenerate layerless has_too_many parts_of bearings any scaled_shape
-  listed (number-beyond d m h) = among_threes (number-refused number_too_large beyond m (lt-ltb largest (nat_abs d.what) h))
-  listed (zero_factor_lem n a b e h) = among_fours (command-refused zero_factor c.place (zero_scale c.what) (subst (λ (w : Command). zero_scale w ≡ true) (sym e) (go h)))
+  listed (number-beyond d m h) = among_threes (number-refused NumberTooLarge beyond m (lt-ltb largest (nat_abs d.what) h))
+  listed (zero_factor_lem n a b e h) = among_fours (command-refused ZeroFactor c.place (zero_scale c.what) (subst (λ (w : Command). zero_scale w ≡ true) (sym e) (go h)))
     where
       go : (nat_abs a.what ≡ 0) ⊎ (nat_abs b.what ≡ 0) → (zero? a.what || (zero? b.what || false)) ≡ true
       go (inl i) = or_one (zero? a.what) _ (inl (eq-eqb (nat_abs a.what) 0 i))
       go (inr i) = or_one (zero? a.what) _ (inr (or_one (zero? b.what) false (inl (eq-eqb (nat_abs b.what) 0 i))))
-  listed (scaled-beyond d m h) = among_sixes (number-refused scaled_too_large (λ x. beyond (scaled s x)) m (lt-ltb largest (nat_abs (scaled s d.what)) (subst (λ (n : ℕ). largest < n) (sym (abs_scaled s d.what)) h)))
+  listed (scaled-beyond d m h) = among_sixes (number-refused ScaledTooLarge (λ x. beyond (scaled s x)) m (lt-ltb largest (nat_abs (scaled s d.what)) (subst (λ (n : ℕ). largest < n) (sym (abs_scaled s d.what)) h)))
   listed (zero-size k d e m h) =
       empty-degenerate k e (zero-empty k (inl (any_map zero? (λ (x : Number). scaled s x.what) k.sizes ∙ any_has (λ x. zero? (scaled s x.what)) m (eq-eqb _ 0 (abs_scaled s d.what ∙ h)))))
   listed (zero_direction k q e m h) = empty-degenerate k e (zero-empty k (inr (any_map nowhere given k.directions ∙ any_has (λ x. nowhere (given x)) m (nowhere-test q h))))
@@ -529,11 +529,11 @@ module _ (s : Standing) where
   faults-least : (c : Placed Command) (high : ℕ) → Stands high c → Least (faults s c)
   unfolding faults
   faults-least c high h =
-      (joined {k = 0} (threes s c) _ (omega arith) (rising_refusals Small number_too_large beyond small-within h.numbers_rise)
-      (joined (fours s c) _ (omega arith) (one_refusal zero_factor c.place (zero_scale c.what))
-      (joined (sixes s c) _ (omega arith) (rising_refusals Null scaled_too_large (λ d. beyond (scaled s d)) null_within h.distances_rise)
-      (joined (sevens s c) _ (omega arith) (one_refusal degenerate_command c.place (degenerate s c.what))
-      (joined (eights s c) _ (omega arith) (one_refusal no_layer c.place (layerless s c.what)) (behind (nines s c) (omega arith) (one_refusal too_many_parts c.place (has_too_many c.what)))))))
+      (joined {k = 0} (threes s c) _ (omega arith) (rising_refusals Small NumberTooLarge beyond small-within h.numbers_rise)
+      (joined (fours s c) _ (omega arith) (one_refusal ZeroFactor c.place (zero_scale c.what))
+      (joined (sixes s c) _ (omega arith) (rising_refusals Null ScaledTooLarge (λ d. beyond (scaled s d)) null_within h.distances_rise)
+      (joined (sevens s c) _ (omega arith) (one_refusal DegenerateCommand c.place (degenerate s c.what))
+      (joined (eights s c) _ (omega arith) (one_refusal NoLayer c.place (layerless s c.what)) (behind (nines s c) (omega arith) (one_refusal TooManyParts c.place (has_too_many c.what)))))))
       ).in_order
 
 -- ---- the first rule broken

@@ -16,7 +16,7 @@ use Rattle.grammar.specs.Viable.{Marked, Grammatical, LongestViable}
 use Rattle.definition.specs.declared.Refusal.{Refusal}
 use Rattle.definition.specs.Limits.{most_bytes}
 use Rattle.definition.specs.Words.{Placed}
-use Rattle.definition.specs.Rules.{Rule, text_too_long, not_in_grammar, flat_file_too_long, refuse}
+use Rattle.definition.specs.Rules.{Rule, TextTooLong, NotInGrammar, FlatFileTooLong, refuse}
 use Rattle.definition.specs.Commands.{Command, commands}
 use Rattle.definition.specs.Faults.{first_fault}
 use Rattle.definition.specs.Standing.{outside}
@@ -47,11 +47,11 @@ TooLong n room = (room < n) ⊎ (most_bytes < n)
 
 -- the ways to a refusal, in the order of RULES 12: 1; then 2; then 3 to 9; then 10 to 17, 20 and 25; then 18
 pub data Way (t : List ℕ) (words room : ℕ) : Rule → (place : ℕ) → Chain → Type 0 where
-  by_length : most_bytes < length t → Way t words room text_too_long 0 []
-  by_grammar : {n : ℕ} → length t ≤ most_bytes → (Grammatical t → ⊥) → LongestViable t n → Way t words room not_in_grammar n []
+  by_length : most_bytes < length t → Way t words room TextTooLong 0 []
+  by_grammar : {n : ℕ} → length t ≤ most_bytes → (Grammatical t → ⊥) → LongestViable t n → Way t words room NotInGrammar n []
   by_command : {m : List Letter} {r : Rule} {p : ℕ} → length t ≤ most_bytes → Marked t m → FirstBreak (commands 0 m) r p → Way t words room r p []
   by_drawing : {m : List Letter} {r : Rule} {p : ℕ} {chain : Chain} → Passed t m → end_of words m ≡ stopped (refuse r p) chain → Way t words room r p chain
-  by_flat_file : {m : List Letter} {c : Counts} → Passed t m → end_of words m ≡ finished c → TooLong (flat_length m) room → Way t words room flat_file_too_long 0 []
+  by_flat_file : {m : List Letter} {c : Counts} → Passed t m → end_of words m ≡ finished c → TooLong (flat_length m) room → Way t words room FlatFileTooLong 0 []
 
 -- the way to a refusal, by its rule
 abbrev pub Refusing : List ℕ → (words room : ℕ) → Refusal → Chain → Type 0
@@ -75,11 +75,11 @@ Explained t words room (accepted cs c es) = Accepting t words room cs c es
 
 module _ {t : List ℕ} (m : List Letter) (words room : ℕ) (h : length t ≤ most_bytes) (k : Marked t m) where
   by_fit : Passed t m → (c : Counts) → end_of words m ≡ finished c → (a b : Bool) → leb (flat_length m) room ≡ a → leb (flat_length m) most_bytes ≡ b
-      → Explained t words room (if a && b then accepted (commands 0 m) c (drawing_of (commands 0 m)) else rejected (refuse flat_file_too_long 0) [])
+      → Explained t words room (if a && b then accepted (commands 0 m) c (drawing_of (commands 0 m)) else rejected (refuse FlatFileTooLong 0) [])
   by_fit p c e true true f g =
       record { roles = m; passed = p; are_commands = refl; is_drawing = refl; finishes = e; room_fits = leb-true (flat_length m) room f; limit_fits = leb-true (flat_length m) most_bytes g }
-  by_fit p c e true false f g = (flat_file_too_long, refl, by_flat_file p e (inr (leb-false (flat_length m) most_bytes g)))
-  by_fit p c e false b f g = (flat_file_too_long, refl, by_flat_file p e (inl (leb-false (flat_length m) room f)))
+  by_fit p c e true false f g = (FlatFileTooLong, refl, by_flat_file p e (inr (leb-false (flat_length m) most_bytes g)))
+  by_fit p c e false b f g = (FlatFileTooLong, refl, by_flat_file p e (inl (leb-false (flat_length m) room f)))
 
   by_end : Passed t m → (x : End) → end_of words m ≡ x → Explained t words room (fitted x (commands 0 m) (drawing_of (commands 0 m)) room)
   unfolding fitted
@@ -98,8 +98,8 @@ module _ {t : List ℕ} (m : List Letter) (words room : ℕ) (h : length t ≤ m
   read_explained = by_fault (first_fault (commands 0 m)) refl
 
 explained : {t : List ℕ} {words room : ℕ} {o : Outcome} → Answers t words room o → Explained t words room o
-explained (too_long h) = (text_too_long, refl, by_length h)
-explained (not_cif h g l) = (not_in_grammar, refl, by_grammar h g l)
+explained (too_long h) = (TextTooLong, refl, by_length h)
+explained (not_cif h g l) = (NotInGrammar, refl, by_grammar h g l)
 explained {t} {words} {room} (read {m} h k) = read_explained m words room h k
 
 -- ---- and each of these ways leads there
@@ -126,7 +126,7 @@ refuses_so (by_grammar h g l) = not_cif h g l
 refuses_so {t} {words} {room} (by_command {m} h k b) = subst (Answers t words room) (ap (λ (y : Option Refusal). drawn y (commands 0 m) words room) ((first-fault k).1 b)) (read h k)
 refuses_so {t} {words} {room} (by_drawing {m} {r} {p} {chain} q e) = read-drawn m words room (stopped (refuse r p) chain) q e
 refuses_so {t} {words} {room} (by_flat_file {m} {c} q e l) =
-    subst (λ (b : Bool). Answers t words room (if b then accepted (commands 0 m) c (drawing_of (commands 0 m)) else rejected (refuse flat_file_too_long 0) [])) (too_long_test (flat_length m) room l) (read-drawn m words room (finished c) q e)
+    subst (λ (b : Bool). Answers t words room (if b then accepted (commands 0 m) c (drawing_of (commands 0 m)) else rejected (refuse FlatFileTooLong 0) [])) (too_long_test (flat_length m) room l) (read-drawn m words room (finished c) q e)
 
 accepts_so : {t : List ℕ} {words room : ℕ} {cs : List (Placed Command)} {c : Counts} {es : List Event} → Accepting t words room cs c es → Answers t words room (accepted cs c es)
 unfolding fitted
@@ -135,7 +135,7 @@ accepts_so {t} {words} {room} {cs} {c} a =
     let fits : (leb (flat_length m) room && leb (flat_length m) most_bytes) ≡ true = rw (le-leb (flat_length m) room a.room_fits, le-leb (flat_length m) most_bytes a.limit_fits) in
     subst (λ (y : List Event). Answers t words room (accepted cs c y)) (sym a.is_drawing)
     (subst (λ (y : List (Placed Command)). Answers t words room (accepted y c (drawing_of (commands 0 m)))) (sym a.are_commands)
-    (subst (λ (b : Bool). Answers t words room (if b then accepted (commands 0 m) c (drawing_of (commands 0 m)) else rejected (refuse flat_file_too_long 0) [])) fits (read-drawn m words room (finished c) a.passed a.finishes)))
+    (subst (λ (b : Bool). Answers t words room (if b then accepted (commands 0 m) c (drawing_of (commands 0 m)) else rejected (refuse FlatFileTooLong 0) [])) fits (read-drawn m words room (finished c) a.passed a.finishes)))
 
 -- every refusal is by a rule
 pub refusal-rule : {t : List ℕ} {words room : ℕ} {r : Refusal} {chain : Chain} → Answers t words room (rejected r chain) → Refusing t words room r chain

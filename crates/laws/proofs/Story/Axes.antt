@@ -9,7 +9,7 @@ use Prim.Native.Nat.{ℕ}
 use lib.Dec.{T}
 use lib.IntN.{ℤ}
 use Rattle.definition.specs.Words.{Point, any}
-use Rattle.definition.specs.Rules.{x_out_of_range, y_out_of_range, refuse}
+use Rattle.definition.specs.Rules.{XOutOfRange, YOutOfRange, refuse}
 use Rattle.definition.specs.Commands.{Shape, Turn}
 use Rattle.definition.specs.Faults.{beyond, both}
 use Rattle.definition.specs.Turns.{moved}
@@ -46,13 +46,13 @@ module _ (chain : Chain) (net : List (Turn ℤ)) (p : ℕ) (l : List ℕ) (k : S
   abbrev pub drew_it : Event  -- the shape is drawn
   drew_it = drew (record { place = p; chain = chain; net = net; layer_of = l; itself = moved net k })
 
-  pub by_axes : (P : Event → Type 0) → P (refused (refuse x_out_of_range p) chain) → P (refused (refuse y_out_of_range p) chain)
+  pub by_axes : (P : Event → Type 0) → P (refused (refuse XOutOfRange p) chain) → P (refused (refuse YOutOfRange p) chain)
       → (any beyond (both (moved net k).points) ≡ false → P drew_it) → P (drawn_shape chain net p l k)
   unfolding drawn_shape
   by_axes P x y z = go (beyond_x (moved net k).points) (beyond_y (moved net k).points) refl refl
     where
       go : (a b : Bool) → beyond_x (moved net k).points ≡ a → beyond_y (moved net k).points ≡ b
-          → P (if a then refused (refuse x_out_of_range p) chain else if b then refused (refuse y_out_of_range p) chain else drew_it)
+          → P (if a then refused (refuse XOutOfRange p) chain else if b then refused (refuse YOutOfRange p) chain else drew_it)
       go true b e f = x
       go false true e f = y
       go false false e f = z (points-within (moved net k).points e f)

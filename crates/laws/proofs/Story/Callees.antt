@@ -13,7 +13,7 @@ use lib.IntN.{ℤ}
 use lib.ListN.{length}
 use Rattle.definition.specs.Limits.{deepest}
 use Rattle.definition.specs.Words.{at, any}
-use Rattle.definition.specs.Rules.{Rule, off_the_axes, undefined_symbol, being_drawn, too_deep, too_many_calls}
+use Rattle.definition.specs.Rules.{Rule, OffTheAxes, UndefinedSymbol, BeingDrawn, TooDeep, TooManyCalls}
 use Rattle.definition.specs.Commands.{Turn}
 use Rattle.definition.specs.Turns.{off_axes}
 use Rattle.definition.specs.Table.{Definition, Table, find}
@@ -26,7 +26,7 @@ use Rattle.laws.proofs.Story.Counting.{not_finished}
 use Rattle.laws.proofs.Story.Depth.{made_unbroken}
 
 -- the rules 11 to 14 do not count
-uncounted : (words : ℕ) (a b : Counts) (t : Table) (chain : Chain) (net : List (Turn ℤ)) (n : ℕ) (ts : List (Turn ℤ)) (k : Rule) → Earlier k too_many_calls
+uncounted : (words : ℕ) (a b : Counts) (t : Table) (chain : Chain) (net : List (Turn ℤ)) (n : ℕ) (ts : List (Turn ℤ)) (k : Rule) → Earlier k TooManyCalls
     → Broken words a t chain net (calling n ts) k → Broken words b t chain net (calling n ts) k
 uncounted words a b t chain net n ts k h (off_axes_lem x) = off_axes_lem x
 uncounted words a b t chain net n ts k h (undefined x) = undefined x
@@ -34,7 +34,7 @@ uncounted words a b t chain net n ts k h (being_drawn_lem x) = being_drawn_lem x
 uncounted words a b t chain net n ts k h (deep x) = deep x
 uncounted words a b t chain net n ts k h (many-calls x) = absurd (go h)
   where
-    go : Earlier too_many_calls too_many_calls → ⊥
+    go : Earlier TooManyCalls TooManyCalls → ⊥
     go l = omega arith
 
 kept_finishes : (words : ℕ) (c : Counts) (m : Moment) → ((k : Rule) → Breaks words c m k → ⊥) → counted c (event_at words m) ≡ finished (tallied c m)
@@ -46,8 +46,8 @@ kept_finishes words c m h = go (met words c m)
 
 -- a call whose event is no refusal is made
 called_found : (left : ℕ) (chain : Chain) (n : ℕ) (ts : List (Turn ℤ)) (found : Option Definition) (p : ℕ) (d : Definition) (x : Counts) → found ≡ some d
-    → counted (counts 0 0 0) (call_event (if off_axes ts then barred off_the_axes else passage_to found left chain n) p chain) ≡ finished x
-    → call_event (if off_axes ts then barred off_the_axes else passage_to found left chain n) p chain ≡ called p chain d
+    → counted (counts 0 0 0) (call_event (if off_axes ts then barred OffTheAxes else passage_to found left chain n) p chain) ≡ finished x
+    → call_event (if off_axes ts then barred OffTheAxes else passage_to found left chain n) p chain ≡ called p chain d
 unfolding call_event counted passage_to
 called_found left chain n ts none p d x e h = absurd (nothing e)
   where
@@ -56,7 +56,7 @@ called_found left chain n ts none p d x e h = absurd (nothing e)
 called_found left chain n ts (some f) p d x e h = go (off_axes ts) (any (λ c. eqb c.what n) chain) (eqb left 0) h
   where
     way : (a b c : Bool) → Event
-    way a b c = call_event (if a then barred off_the_axes else if b then barred being_drawn else if c then barred too_deep else leads f) p chain
+    way a b c = call_event (if a then barred OffTheAxes else if b then barred BeingDrawn else if c then barred TooDeep else leads f) p chain
 
     go : (a b c : Bool) → counted (counts 0 0 0) (way a b c) ≡ finished x → way a b c ≡ called p chain d
     go true b c h = absurd (not_finished h)
@@ -76,25 +76,25 @@ module _ (words : ℕ) (c : Counts) (left : ℕ) (t : Table) (chain : Chain) (ne
   abbrev it : Moment
   it = moment t chain net p (calling n ts)
 
-  call-made : (d : Definition) → find n t ≡ some d → ((k : Rule) → Earlier k too_many_calls → Breaks words c it k → ⊥) → event_at words it ≡ called p chain d
+  call-made : (d : Definition) → find n t ≡ some d → ((k : Rule) → Earlier k TooManyCalls → Breaks words c it k → ⊥) → event_at words it ≡ called p chain d
   unfolding event_of passage_of
   call-made d e h =
       called_found (deepest - length chain) chain n ts (find n t) p d (tallied (counts 0 0 0) it) e (kept_finishes words (counts 0 0 0) it kept)
     where
       kept : (k : Rule) → Broken words (counts 0 0 0) t chain net (calling n ts) k → ⊥
-      kept k (off_axes_lem x) = h off_the_axes (omega arith) (off_axes_lem x)
-      kept k (undefined x) = h undefined_symbol (omega arith) (undefined x)
-      kept k (being_drawn_lem x) = h being_drawn (omega arith) (being_drawn_lem x)
-      kept k (deep x) = h too_deep (omega arith) (deep x)
+      kept k (off_axes_lem x) = h OffTheAxes (omega arith) (off_axes_lem x)
+      kept k (undefined x) = h UndefinedSymbol (omega arith) (undefined x)
+      kept k (being_drawn_lem x) = h BeingDrawn (omega arith) (being_drawn_lem x)
+      kept k (deep x) = h TooDeep (omega arith) (deep x)
       kept k (many-calls x) = omega arith
 
-  pub call-draws-body : (d : Definition) → find n t ≡ some d → ((k : Rule) → Earlier k too_many_calls → Breaks words c it k → ⊥)
+  pub call-draws-body : (d : Definition) → find n t ≡ some d → ((k : Rule) → Earlier k TooManyCalls → Breaks words c it k → ⊥)
       → call_moments (suc left) t chain net p n ts
       ≡ it ∷ body_moments (call_moments left t (chain ++ (at p n ∷ [])) (ts ++ net)) t (chain ++ (at p n ∷ [])) (ts ++ net) d.body
   unfolding call_moments followed event_of
   call-draws-body d e h = rw (call-made d e h)
 
-  pub call-draws-nothing : (k : Rule) → Earlier k too_many_calls → Breaks words c it k → call_moments (suc left) t chain net p n ts ≡ it ∷ []
+  pub call-draws-nothing : (k : Rule) → Earlier k TooManyCalls → Breaks words c it k → call_moments (suc left) t chain net p n ts ≡ it ∷ []
   unfolding call_moments event_of
   call-draws-nothing k h x =
       ap (λ (ms : List Moment). it ∷ ms)

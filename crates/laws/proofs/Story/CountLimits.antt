@@ -9,7 +9,7 @@ use native.Mathlib.Omega.{arith}
 use lib.ListN.{length}
 use Rattle.definition.specs.declared.Refusal.{Refusal}
 use Rattle.definition.specs.Limits.{most_calls, most_shapes}
-use Rattle.definition.specs.Rules.{too_many_calls, too_many_shapes, refuse}
+use Rattle.definition.specs.Rules.{TooManyCalls, TooManyShapes, refuse}
 use Rattle.definition.specs.Words.{Placed, none?}
 use Rattle.definition.specs.Table.{Definition, Table, find}
 use Rattle.definition.specs.Drawing.{Chain, Drawn, Event, called, drew, entered, removed, refused}
@@ -68,11 +68,11 @@ stops_then before e after r chain x a b h =
     ∙ ap (λ (y : End). go_on y (λ c. ending c after)) h
 
 pub call-1048577 : (before : List Event) (p : ℕ) (chain : Chain) (d : Definition) (after : List Event) → All Allowed before
-    → length (calls_of before) ≡ most_calls → length (shapes_of before) ≤ most_shapes → ending (counts 0 0 0) (before ++ (called p chain d ∷ after)) ≡ stopped (refuse too_many_calls p) chain
+    → length (calls_of before) ≡ most_calls → length (shapes_of before) ≤ most_shapes → ending (counts 0 0 0) (before ++ (called p chain d ∷ after)) ≡ stopped (refuse TooManyCalls p) chain
 call-1048577 before p chain d after x a b =
-    stops_then before (called p chain d) after (refuse too_many_calls p) chain x (omega arith) b (calls-passed _ p chain d (omega arith))
+    stops_then before (called p chain d) after (refuse TooManyCalls p) chain x (omega arith) b (calls-passed _ p chain d (omega arith))
 
 pub shape-1048577 : (before : List Event) (d : Drawn) (after : List Event) → All Allowed before
-    → length (calls_of before) ≤ most_calls → length (shapes_of before) ≡ most_shapes → ending (counts 0 0 0) (before ++ (drew d ∷ after)) ≡ stopped (refuse too_many_shapes d.place) d.chain
+    → length (calls_of before) ≤ most_calls → length (shapes_of before) ≡ most_shapes → ending (counts 0 0 0) (before ++ (drew d ∷ after)) ≡ stopped (refuse TooManyShapes d.place) d.chain
 shape-1048577 before d after x a b =
-    stops_then before (drew d) after (refuse too_many_shapes d.place) d.chain x a (omega arith) (shapes-passed _ d (omega arith))
+    stops_then before (drew d) after (refuse TooManyShapes d.place) d.chain x a (omega arith) (shapes-passed _ d (omega arith))

@@ -9,7 +9,7 @@ use native.Mathlib.Omega.{arith}
 use lib.ListN.{length}
 use Rattle.definition.specs.declared.Refusal.{Refusal}
 use Rattle.definition.specs.Limits.{most_calls, most_shapes}
-use Rattle.definition.specs.Rules.{too_many_calls, too_many_shapes, refuse}
+use Rattle.definition.specs.Rules.{TooManyCalls, TooManyShapes, refuse}
 use Rattle.definition.specs.Words.{none?}
 use Rattle.definition.specs.Table.{Definition, find}
 use Rattle.definition.specs.Drawing.{Chain, Event, called, drew, entered, removed, refused}
@@ -70,7 +70,7 @@ unfolding counted calls_of shapes_of redefinitions_of
 more-counted c (called p chain d) es next last h k = go (ltb_decides c.calls most_calls) h
   where
     go : {b : Bool} → Decides (c.calls < most_calls) b
-        → ◌≡◌ {A = End} (if b then finished (counts (c.calls + 1) c.shapes c.redefinitions) else stopped (refuse too_many_calls p) chain) (finished next)
+        → ◌≡◌ {A = End} (if b then finished (counts (c.calls + 1) c.shapes c.redefinitions) else stopped (refuse TooManyCalls p) chain) (finished next)
         → Counted c (called p chain d ∷ es) last
     go (holds l) q =
         let k' : Counted (counts (c.calls + 1) c.shapes c.redefinitions) es last = counted_from _ next es last q k in
@@ -85,7 +85,7 @@ more-counted c (called p chain d) es next last h k = go (ltb_decides c.calls mos
 more-counted c (drew d) es next last h k = go (ltb_decides c.shapes most_shapes) h
   where
     go : {b : Bool} → Decides (c.shapes < most_shapes) b
-        → ◌≡◌ {A = End} (if b then finished (counts c.calls (c.shapes + 1) c.redefinitions) else stopped (refuse too_many_shapes d.place) d.chain) (finished next)
+        → ◌≡◌ {A = End} (if b then finished (counts c.calls (c.shapes + 1) c.redefinitions) else stopped (refuse TooManyShapes d.place) d.chain) (finished next)
         → Counted c (drew d ∷ es) last
     go (holds l) q =
         let k' : Counted (counts c.calls (c.shapes + 1) c.redefinitions) es last = counted_from _ next es last q k in

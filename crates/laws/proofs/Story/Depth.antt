@@ -13,7 +13,7 @@ use lib.Dec.{ltb, eqb}
 use lib.IntN.{ℤ}
 use lib.ListN.{length, length-append}
 use Rattle.definition.specs.Limits.{most_definitions, deepest}
-use Rattle.definition.specs.Rules.{Rule, too_many_definitions, too_few_words, undefined_symbol, being_drawn, refuse}
+use Rattle.definition.specs.Rules.{Rule, TooManyDefinitions, TooFewWords, UndefinedSymbol, BeingDrawn, refuse}
 use Rattle.definition.specs.Words.{Placed, at}
 use Rattle.definition.specs.Commands.{Turn}
 use Rattle.definition.specs.Table.{Step, shape, instance, setting, Definition, Table, enter}
@@ -126,7 +126,7 @@ open_call_lem (suc left) t chain net p n ts h x =
       record { table_is = refl; opened = x },
       all_followed (OpenedAt t) (event_of 0 t chain net p (calling n ts)) (λ d. body_moments (call_moments left t deeper (ts ++ net)) t deeper (ts ++ net) d.body)
           (λ q ch d e. let u = made_unbroken 0 (moment t chain net p (calling n ts)) q ch d e in
-          let wider : Opened t deeper = opened-more t chain (at p n) x (omega arith) (λ y. u being_drawn (being_drawn_lem y)) (defined_when t n (λ y. u undefined_symbol (undefined y))) in
+          let wider : Opened t deeper = opened-more t chain (at p n) x (omega arith) (λ y. u BeingDrawn (being_drawn_lem y)) (defined_when t n (λ y. u UndefinedSymbol (undefined y))) in
           open_body t deeper (ts ++ net) wider (call_moments left t deeper (ts ++ net)) (λ q m us. open_call_lem left t deeper (ts ++ net) q m us one_more wider) d.body),
     )
 
@@ -178,7 +178,7 @@ act_shallow words t chain net p (calling n ts) h = call_shallow (passage_of (dee
 act_shallow words t chain net p (drawing l k) h = by_axes chain net p l k Shallow h h (λ e. h)
 act_shallow words t chain net p (entering d) h = go (ltb most_definitions (length (enter d t))) (ltb words (words_in (enter d t)))
   where
-    go : (a b : Bool) → Shallow (if a then refused (refuse too_many_definitions p) chain else if b then refused (refuse too_few_words p) chain else entered d t)
+    go : (a b : Bool) → Shallow (if a then refused (refuse TooManyDefinitions p) chain else if b then refused (refuse TooFewWords p) chain else entered d t)
     go true b = h
     go false true = h
     go false false = omega arith

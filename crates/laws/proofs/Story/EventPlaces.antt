@@ -14,7 +14,7 @@ use lib.ListN.{length}
 use Rattle.definition.specs.declared.Refusal.{Refusal}
 use Rattle.definition.specs.Limits.{most_definitions, deepest, most_calls, most_shapes}
 use Rattle.definition.specs.Words.{Placed, at, any, those}
-use Rattle.definition.specs.Rules.{Rule, too_many_definitions, too_few_words, off_the_axes, being_drawn, too_deep, too_many_calls, x_out_of_range, y_out_of_range, too_many_shapes, refuse}
+use Rattle.definition.specs.Rules.{Rule, TooManyDefinitions, TooFewWords, OffTheAxes, BeingDrawn, TooDeep, TooManyCalls, XOutOfRange, YOutOfRange, TooManyShapes, refuse}
 use Rattle.definition.specs.Commands.{Shape, Turn, Command, draw, layer, call, start, finish, delete, nothing}
 use Rattle.definition.specs.Standing.{Standing, outside, after}
 use Rattle.definition.specs.Turns.{off_axes}
@@ -155,8 +155,8 @@ module _ (P : ℕ → Type 0) where
   shape_at : (chain : Chain) (net : List (Turn ℤ)) (p : ℕ) (l : List ℕ) (k : Shape ℤ) → P p → AtChain chain → AtEvent (drawn_shape chain net p l k)
   shape_at chain net p l k h x =
       by_axes chain net p l k AtEvent
-      (refuses x_out_of_range (record { least = omega arith; most = omega arith }) h x)
-      (refuses y_out_of_range (record { least = omega arith; most = omega arith }) h x)
+      (refuses XOutOfRange (record { least = omega arith; most = omega arith }) h x)
+      (refuses YOutOfRange (record { least = omega arith; most = omega arith }) h x)
       (λ e. (h, x))
 
   module _ (f : ℕ → ℕ → List (Turn ℤ) → List Event) (call_at : (p n : ℕ) (ts : List (Turn ℤ)) → P p → All AtEvent (f p n ts)) (chain : Chain) (calls : AtChain chain) where
@@ -180,12 +180,12 @@ module _ (P : ℕ → Type 0) where
   unfolding passage_of passage_to
   passage_at left t chain n ts x = go (off_axes ts) (find n t) (entry_found AtEntry n t x)
     where
-      further : (a b : Bool) (d : Definition) → AtEntry d → AtPassage (if a then barred being_drawn else if b then barred too_deep else leads d)
+      further : (a b : Bool) (d : Definition) → AtEntry d → AtPassage (if a then barred BeingDrawn else if b then barred TooDeep else leads d)
       further true b d y = record { least = omega arith; most = omega arith }
       further false true d y = record { least = omega arith; most = omega arith }
       further false false d y = y
 
-      go : (a : Bool) (found : Option Definition) → Found AtEntry found → AtPassage (if a then barred off_the_axes else passage_to found left chain n)
+      go : (a : Bool) (found : Option Definition) → Found AtEntry found → AtPassage (if a then barred OffTheAxes else passage_to found left chain n)
       go true found y = record { least = omega arith; most = omega arith }
       go false none y = record { least = omega arith; most = omega arith }
       go false (some d) y = further (any (λ c. eqb c.what n) chain) (eqb left 0) d y
@@ -212,8 +212,8 @@ module _ (P : ℕ → Type 0) where
   happens_at t (output s) x h = step_at (drawn_call deepest t [] []) (λ q k us g. call-events deepest t x [] tt [] q k us g) [] tt [] s.place s.what h
   happens_at t (define d) x h = (go (ltb most_definitions (length (enter d t))), tt)
     where
-      go : (b : Bool) → AtEvent (if b then refused (refuse too_many_definitions d.place) [] else entered d t)
-      go true = refuses_entry too_many_definitions (record { least = omega arith; most = omega arith }) h.own
+      go : (b : Bool) → AtEvent (if b then refused (refuse TooManyDefinitions d.place) [] else entered d t)
+      go true = refuses_entry TooManyDefinitions (record { least = omega arith; most = omega arith }) h.own
       go false = h.own
   happens_at t (remove n) x h = (tt, tt)
 
@@ -238,8 +238,8 @@ module _ (P : ℕ → Type 0) where
   unfolding held_to All
   held_one_at words (entered d before) x = go (ltb words (words_in (enter d before)))
     where
-      go : (b : Bool) → AtEvent (if b then refused (refuse too_few_words d.place) [] else entered d before)
-      go true = refuses_entry too_few_words (record { least = omega arith; most = omega arith }) x
+      go : (b : Bool) → AtEvent (if b then refused (refuse TooFewWords d.place) [] else entered d before)
+      go true = refuses_entry TooFewWords (record { least = omega arith; most = omega arith }) x
       go false = x
   held_one_at words (called p chain d) x = x
   held_one_at words (drew d) x = x
@@ -261,14 +261,14 @@ module _ (P : ℕ → Type 0) where
   unfolding counted
   counted_at c (called p chain d) x = go (ltb c.calls most_calls)
     where
-      go : (b : Bool) → AtEnd (if b then finished (counts (c.calls + 1) c.shapes c.redefinitions) else stopped (refuse too_many_calls p) chain)
+      go : (b : Bool) → AtEnd (if b then finished (counts (c.calls + 1) c.shapes c.redefinitions) else stopped (refuse TooManyCalls p) chain)
       go true = tt
-      go false = refuses too_many_calls (record { least = omega arith; most = omega arith }) x.0 x.1
+      go false = refuses TooManyCalls (record { least = omega arith; most = omega arith }) x.0 x.1
   counted_at c (drew d) x = go (ltb c.shapes most_shapes)
     where
-      go : (b : Bool) → AtEnd (if b then finished (counts c.calls (c.shapes + 1) c.redefinitions) else stopped (refuse too_many_shapes d.place) d.chain)
+      go : (b : Bool) → AtEnd (if b then finished (counts c.calls (c.shapes + 1) c.redefinitions) else stopped (refuse TooManyShapes d.place) d.chain)
       go true = tt
-      go false = refuses too_many_shapes (record { least = omega arith; most = omega arith }) x.0 x.1
+      go false = refuses TooManyShapes (record { least = omega arith; most = omega arith }) x.0 x.1
   counted_at c (entered d before) x = tt
   counted_at c (removed n before) x = tt
   counted_at c (refused r chain) x = x

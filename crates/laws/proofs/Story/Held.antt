@@ -11,7 +11,7 @@ use native.Mathlib.Omega.{arith}
 use lib.Dec.{ltb}
 use borrow.Author.Tests.{lt-ltb, le-ltb, ltb-true, ltb-false}
 use Rattle.definition.specs.declared.Refusal.{Refusal}
-use Rattle.definition.specs.Rules.{too_few_words, refuse}
+use Rattle.definition.specs.Rules.{TooFewWords, refuse}
 use Rattle.definition.specs.Table.{Definition, Table, enter}
 use Rattle.definition.specs.Drawing.{Chain, Drawn, Event, called, drew, entered, removed, refused}
 use Rattle.definition.specs.Counts.{Counts, End, finished, stopped, counted, go_on, ending, shapes_of}
@@ -49,7 +49,7 @@ held-shapes words (drew d ∷ es) = ap (λ (x : List Drawn). d ∷ x) (held-shap
 held-shapes words (called p chain d ∷ es) = held-shapes words es
 held-shapes words (entered d before ∷ es) = go (ltb words (words_in (enter d before))) ∙ held-shapes words es
   where
-    go : (b : Bool) → shapes_of ((if b then refused (refuse too_few_words d.place) [] else entered d before) ∷ map (held_to words) es) ≡ shapes_of (map (held_to words) es)
+    go : (b : Bool) → shapes_of ((if b then refused (refuse TooFewWords d.place) [] else entered d before) ∷ map (held_to words) es) ≡ shapes_of (map (held_to words) es)
     go true = refl
     go false = refl
 held-shapes words (removed n before ∷ es) = held-shapes words es
@@ -78,21 +78,21 @@ too_few-needed {words} f =
 
 -- the story as it is held: all before that definition, and then the refusal at its DS, with no calls open
 pub too_few-parted : (words : ℕ) (c : Counts) (es : List Event) (f : TooFew words c es)
-    → map (held_to words) es ≡ f.before ++ refused (refuse too_few_words f.definition.place) [] ∷ map (held_to words) f.after
+    → map (held_to words) es ≡ f.before ++ refused (refuse TooFewWords f.definition.place) [] ∷ map (held_to words) f.after
 unfolding held_to
 too_few-parted words c es f =
     ap (map (held_to words)) f.parted
     ∙ map-append (held_to words) f.before (entered f.definition f.table ∷ f.after)
-    ∙ ap₂ {C = List Event} (λ (x : List Event) (b : Bool). x ++ (if b then refused (refuse too_few_words f.definition.place) [] else entered f.definition f.table) ∷ map (held_to words) f.after)
+    ∙ ap₂ {C = List Event} (λ (x : List Event) (b : Bool). x ++ (if b then refused (refuse TooFewWords f.definition.place) [] else entered f.definition f.table) ∷ map (held_to words) f.after)
     (held_all words f.before f.enough-before) (lt-ltb words (words_in (enter f.definition f.table)) f.more-needed)
 
 pub too_few-stops : (words : ℕ) (c : Counts) (es : List Event) (f : TooFew words c es)
-    → ending c (map (held_to words) es) ≡ stopped (refuse too_few_words f.definition.place) []
+    → ending c (map (held_to words) es) ≡ stopped (refuse TooFewWords f.definition.place) []
 unfolding ending go_on counted
 too_few-stops words c es f =
     ap (ending c) (too_few-parted words c es f)
-    ∙ ending-++ c f.before (refused (refuse too_few_words f.definition.place) [] ∷ map (held_to words) f.after)
-    ∙ ap (λ (x : End). go_on x (λ c'. ending c' (refused (refuse too_few_words f.definition.place) [] ∷ map (held_to words) f.after))) f.counted_so_far
+    ∙ ending-++ c f.before (refused (refuse TooFewWords f.definition.place) [] ∷ map (held_to words) f.after)
+    ∙ ap (λ (x : End). go_on x (λ c'. ending c' (refused (refuse TooFewWords f.definition.place) [] ∷ map (held_to words) f.after))) f.counted_so_far
 
 -- an event for which the words suffice, and one for which they do not
 data One (words : ℕ) : Event → Type 0 where
@@ -270,7 +270,7 @@ too_few_exactly words c es = (λ f. too_few-until f, until_too_few words c es)
 -- how a story ends that is held to the words lent: as it did, or by 25, exactly where the words are too few
 pub data EndsHeld (words : ℕ) (c : Counts) (es : List Event) : End → Type 0 where
   as_before : (TooFew words c es → ⊥) → EndsHeld words c es (ending c es)
-  by_words : (f : TooFew words c es) → EndsHeld words c es (stopped (refuse too_few_words f.definition.place) [])
+  by_words : (f : TooFew words c es) → EndsHeld words c es (stopped (refuse TooFewWords f.definition.place) [])
 
 module _ (words : ℕ) (c : Counts) (es : List Event) where
   ends-later : (e : Event) (next : Counts) → words_after e ≤ words → counted c e ≡ finished next → {o : End} → EndsHeld words next es o → EndsHeld words c (e ∷ es) o
@@ -321,11 +321,11 @@ held-finished words c es last = (
 )
 
 -- it is stopped by 25 exactly where the words are too few; a story that is stopped by 25 of itself is shut out
-pub held-stopped : (words : ℕ) (c : Counts) (es : List Event) (p : ℕ) (chain : Chain) → (ending c es ≡ stopped (refuse too_few_words p) chain → ⊥)
-    → (ending c (map (held_to words) es) ≡ stopped (refuse too_few_words p) chain) ↔ ((f : TooFew words c es) × (f.definition.place ≡ p) × (chain ≡ []))
+pub held-stopped : (words : ℕ) (c : Counts) (es : List Event) (p : ℕ) (chain : Chain) → (ending c es ≡ stopped (refuse TooFewWords p) chain → ⊥)
+    → (ending c (map (held_to words) es) ≡ stopped (refuse TooFewWords p) chain) ↔ ((f : TooFew words c es) × (f.definition.place ≡ p) × (chain ≡ []))
 held-stopped words c es p chain n = (
   λ h. go (held-ends words c es) h,
-  λ h. too_few-stops words c es h.0 ∙ ap₂ {C = End} (λ (q : ℕ) (x : Chain). stopped (refuse too_few_words q) x) h.1 (sym h.2),
+  λ h. too_few-stops words c es h.0 ∙ ap₂ {C = End} (λ (q : ℕ) (x : Chain). stopped (refuse TooFewWords q) x) h.1 (sym h.2),
 )
   where
     place_of : End → ℕ
@@ -336,6 +336,6 @@ held-stopped words c es p chain n = (
     chain_of (finished x) = []
     chain_of (stopped r x) = x
 
-    go : {o : End} → EndsHeld words c es o → o ≡ stopped (refuse too_few_words p) chain → (f : TooFew words c es) × (f.definition.place ≡ p) × (chain ≡ [])
+    go : {o : End} → EndsHeld words c es o → o ≡ stopped (refuse TooFewWords p) chain → (f : TooFew words c es) × (f.definition.place ≡ p) × (chain ≡ [])
     go (as_before m) h = absurd (n h)
     go (by_words f) h = (f, ap place_of h, sym (ap chain_of h))

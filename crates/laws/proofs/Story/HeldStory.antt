@@ -13,7 +13,7 @@ use lib.ListN.{length}
 use Rattle.definition.specs.declared.Refusal.{Refusal}
 use Rattle.definition.specs.Limits.{most_definitions, most_calls, most_shapes}
 use Rattle.definition.specs.Words.{Placed}
-use Rattle.definition.specs.Rules.{Rule, too_many_definitions, too_few_words, too_many_calls, too_many_shapes, number_of, refuse}
+use Rattle.definition.specs.Rules.{Rule, TooManyDefinitions, TooFewWords, TooManyCalls, TooManyShapes, number_of, refuse}
 use Rattle.definition.specs.Commands.{Turn}
 use Rattle.definition.specs.Table.{Step, Definition, Table, enter}
 use Rattle.definition.specs.Drawing.{Deed, output, define, remove, Chain, Event, called, drew, entered, removed, refused, drawn_call, happens, table_after, story}
@@ -51,14 +51,14 @@ module _ (words : ℕ) where
 
   -- directly after 10
   pub held-define : (t : Table) (d : Definition) → map (held_to words) (happens t (define d))
-      ≡ (if ltb most_definitions (length (enter d t)) then refused (refuse too_many_definitions d.place) []
-      else if ltb words (words_in (enter d t)) then refused (refuse too_few_words d.place) [] else entered d t) ∷ []
+      ≡ (if ltb most_definitions (length (enter d t)) then refused (refuse TooManyDefinitions d.place) []
+      else if ltb words (words_in (enter d t)) then refused (refuse TooFewWords d.place) [] else entered d t) ∷ []
   unfolding happens held_to
   held-define t d = go (ltb most_definitions (length (enter d t)))
     where
-      go : (b : Bool) → map (held_to words) ((if b then refused (refuse too_many_definitions d.place) [] else entered d t) ∷ [])
-          ≡ (if b then refused (refuse too_many_definitions d.place) []
-          else if ltb words (words_in (enter d t)) then refused (refuse too_few_words d.place) [] else entered d t) ∷ []
+      go : (b : Bool) → map (held_to words) ((if b then refused (refuse TooManyDefinitions d.place) [] else entered d t) ∷ [])
+          ≡ (if b then refused (refuse TooManyDefinitions d.place) []
+          else if ltb words (words_in (enter d t)) then refused (refuse TooFewWords d.place) [] else entered d t) ∷ []
       go true = refl
       go false = refl
 
@@ -70,7 +70,7 @@ module _ (words : ℕ) where
 -- ---- no story is stopped by 25 of itself
 
 abbrev Other : Refusal → Type 0
-Other r = r.number ≡ number_of too_few_words → ⊥
+Other r = r.number ≡ number_of TooFewWords → ⊥
 
 abbrev OtherEvent : Event → Type 0
 OtherEvent (refused r chain) = Other r
@@ -80,9 +80,9 @@ OtherEvent (entered d before) = Unit {0}
 OtherEvent (removed n before) = Unit {0}
 
 other_outputs : Outputs OtherEvent
-other_outputs = record { of_call = λ p chain d. tt; of_shape = λ d. tt; of_refusal = λ r p chain h e. later r h (one_number r too_few_words e) }
+other_outputs = record { of_call = λ p chain d. tt; of_shape = λ d. tt; of_refusal = λ r p chain h e. later r h (one_number r TooFewWords e) }
   where
-    later : (r : Rule) → ByOutput r → r ≡ too_few_words → ⊥
+    later : (r : Rule) → ByOutput r → r ≡ TooFewWords → ⊥
     later r h e = omega (arith, h.least, ap rank e)
 
 other_happens : (t : Table) (d : Deed) → All OtherEvent (happens t d)
@@ -90,7 +90,7 @@ unfolding happens All
 other_happens t (output s) = output-events OtherEvent other_outputs t s
 other_happens t (define d) = (go (ltb most_definitions (length (enter d t))), tt)
   where
-    go : (b : Bool) → OtherEvent (if b then refused (refuse too_many_definitions d.place) [] else entered d t)
+    go : (b : Bool) → OtherEvent (if b then refused (refuse TooManyDefinitions d.place) [] else entered d t)
     go true = λ e. omega arith
     go false = tt
 other_happens t (remove n) = (tt, tt)
@@ -108,12 +108,12 @@ other_counted : (c : Counts) (e : Event) → OtherEvent e → OtherEnd (counted 
 unfolding counted
 other_counted c (called p chain d) h = go (ltb c.calls most_calls)
   where
-    go : (b : Bool) → OtherEnd (if b then finished (counts (c.calls + 1) c.shapes c.redefinitions) else stopped (refuse too_many_calls p) chain)
+    go : (b : Bool) → OtherEnd (if b then finished (counts (c.calls + 1) c.shapes c.redefinitions) else stopped (refuse TooManyCalls p) chain)
     go true = tt
     go false = λ e. omega arith
 other_counted c (drew d) h = go (ltb c.shapes most_shapes)
   where
-    go : (b : Bool) → OtherEnd (if b then finished (counts c.calls (c.shapes + 1) c.redefinitions) else stopped (refuse too_many_shapes d.place) d.chain)
+    go : (b : Bool) → OtherEnd (if b then finished (counts c.calls (c.shapes + 1) c.redefinitions) else stopped (refuse TooManyShapes d.place) d.chain)
     go true = tt
     go false = λ e. omega arith
 other_counted c (entered d before) h = tt
@@ -129,11 +129,11 @@ other_ending c (e ∷ es) h = go (counted c e) (other_counted c e h.0) (λ c'. o
     go (finished c') y f = f c'
     go (stopped r chain) y f = y
 
-pub never_by_words : (c : Counts) (t : Table) (ds : List Deed) {p : ℕ} {chain : Chain} → ending c (story t ds) ≡ stopped (refuse too_few_words p) chain → ⊥
+pub never_by_words : (c : Counts) (t : Table) (ds : List Deed) {p : ℕ} {chain : Chain} → ending c (story t ds) ≡ stopped (refuse TooFewWords p) chain → ⊥
 never_by_words c t ds {p} {chain} e = subst OtherEnd e (other_ending c (story t ds) (other_story t ds)) refl
 
 -- so 25 stops a drawing exactly where its words are too few
 pub stopped_by_words : (words : ℕ) (c : Counts) (t : Table) (ds : List Deed) (p : ℕ) (chain : Chain)
-    → (ending c (map (held_to words) (story t ds)) ≡ stopped (refuse too_few_words p) chain)
+    → (ending c (map (held_to words) (story t ds)) ≡ stopped (refuse TooFewWords p) chain)
     ↔ ((f : TooFew words c (story t ds)) × (f.definition.place ≡ p) × (chain ≡ []))
 stopped_by_words words c t ds p chain = held-stopped words c (story t ds) p chain (never_by_words c t ds)

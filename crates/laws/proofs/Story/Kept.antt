@@ -11,7 +11,7 @@ use lib.IntN.{ℤ}
 use lib.ListN.{length}
 use Rattle.definition.specs.Limits.{most_definitions, deepest}
 use Rattle.definition.specs.Words.{Placed, at, any, those}
-use Rattle.definition.specs.Rules.{too_many_definitions, off_the_axes, being_drawn, too_deep, refuse}
+use Rattle.definition.specs.Rules.{TooManyDefinitions, OffTheAxes, BeingDrawn, TooDeep, refuse}
 use Rattle.definition.specs.Commands.{Shape, Turn, Command, draw, layer, call, start, finish, delete, nothing}
 use Rattle.definition.specs.Standing.{Standing, after}
 use Rattle.definition.specs.Faults.{beyond, both, faults, all_faults}
@@ -115,12 +115,12 @@ module _ (P Q : List ℕ → Shape ℤ → Type 0)
   unfolding passage_of passage_to FitPassage FitFound
   fit_passage left t chain n ts x = go (off_axes ts) (find n t) (fit-find n t x)
     where
-      further : (a b : Bool) (d : Definition) → FitSteps d.body → FitPassage (if a then barred being_drawn else if b then barred too_deep else leads d)
+      further : (a b : Bool) (d : Definition) → FitSteps d.body → FitPassage (if a then barred BeingDrawn else if b then barred TooDeep else leads d)
       further true b d y = tt
       further false true d y = tt
       further false false d y = y
 
-      go : (a : Bool) (found : Option Definition) → FitFound found → FitPassage (if a then barred off_the_axes else passage_to found left chain n)
+      go : (a : Bool) (found : Option Definition) → FitFound found → FitPassage (if a then barred OffTheAxes else passage_to found left chain n)
       go true found y = tt
       go false none y = tt
       go false (some d) y = further (any (λ c. eqb c.what n) chain) (eqb left 0) d y
@@ -146,7 +146,7 @@ module _ (P Q : List ℕ → Shape ℤ → Type 0)
   fit-happens t (output s) x y = fit-draw (drawn_call deepest t [] []) (λ q m us. fit-call deepest t x [] [] q m us) [] [] s.place s.what y
   fit-happens t (define d) x y = (go (ltb most_definitions (length (enter d t))), tt)
     where
-      go : (b : Bool) → Fitting (if b then refused (refuse too_many_definitions d.place) [] else entered d t)
+      go : (b : Bool) → Fitting (if b then refused (refuse TooManyDefinitions d.place) [] else entered d t)
       go true = tt
       go false = tt
   fit-happens t (remove n) x y = (tt, tt)

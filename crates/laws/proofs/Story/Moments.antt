@@ -12,7 +12,7 @@ use lib.IntN.{ℤ}
 use lib.ListN.{length, length-append}
 use Rattle.definition.specs.Limits.{most_definitions, deepest}
 use Rattle.definition.specs.Words.{Placed, at}
-use Rattle.definition.specs.Rules.{too_many_definitions, too_few_words, refuse}
+use Rattle.definition.specs.Rules.{TooManyDefinitions, TooFewWords, refuse}
 use Rattle.definition.specs.Commands.{Shape, Turn}
 use Rattle.definition.specs.Table.{Step, shape, instance, setting, Definition, Table, enter}
 use Rattle.definition.specs.Drawing.{Deed, output, define, remove, Chain, Event, called, drew, entered, removed, refused}
@@ -48,8 +48,8 @@ unfoldable pub event_of : (words : ℕ) → Table → Chain → List (Turn ℤ) 
 event_of words t chain net p (calling n ts) = call_event (passage_of (deepest - length chain) t chain n ts) p chain
 event_of words t chain net p (drawing l k) = drawn_shape chain net p l k
 event_of words t chain net p (entering d) =
-    if ltb most_definitions (length (enter d t)) then refused (refuse too_many_definitions p) chain
-    else if ltb words (words_in (enter d t)) then refused (refuse too_few_words p) chain else entered d t
+    if ltb most_definitions (length (enter d t)) then refused (refuse TooManyDefinitions p) chain
+    else if ltb words (words_in (enter d t)) then refused (refuse TooFewWords p) chain else entered d t
 event_of words t chain net p (removing n) = removed (at p n) t
 
 abbrev pub event_at : (words : ℕ) → Moment → Event

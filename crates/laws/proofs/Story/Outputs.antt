@@ -11,7 +11,7 @@ use lib.Dec.{eqb}
 use lib.IntN.{ℤ}
 use Rattle.definition.specs.Limits.{deepest}
 use Rattle.definition.specs.Words.{Placed, at, any}
-use Rattle.definition.specs.Rules.{Rule, off_the_axes, being_drawn, too_deep, x_out_of_range, y_out_of_range, refuse}
+use Rattle.definition.specs.Rules.{Rule, OffTheAxes, BeingDrawn, TooDeep, XOutOfRange, YOutOfRange, refuse}
 use Rattle.definition.specs.Commands.{Shape, Turn}
 use Rattle.definition.specs.Turns.{off_axes}
 use Rattle.definition.specs.Table.{Step, shape, instance, setting, Definition, Table, find}
@@ -22,7 +22,7 @@ use Rattle.laws.proofs.Rules.Order.{Between}
 use Rattle.laws.proofs.Story.Axes.{by_axes}
 
 abbrev pub ByOutput : Rule → Type 0  -- RULES 12, refusals 11 to 16 and 20
-ByOutput r = Between off_the_axes y_out_of_range r
+ByOutput r = Between OffTheAxes YOutOfRange r
 
 pub record Outputs (P : Event → Type 0) : Type 0 where  -- what holds of a call, a shape and a refusal
   pub of_call : (p : ℕ) (chain : Chain) (d : Definition) → P (called p chain d)
@@ -33,8 +33,8 @@ module _ (P : Event → Type 0) (o : Outputs P) where
   shape-event : (chain : Chain) (net : List (Turn ℤ)) (p : ℕ) (l : List ℕ) (k : Shape ℤ) → P (drawn_shape chain net p l k)
   shape-event chain net p l k =
       by_axes chain net p l k P
-      (o.of_refusal x_out_of_range p chain (record { least = omega arith; most = omega arith }))
-      (o.of_refusal y_out_of_range p chain (record { least = omega arith; most = omega arith }))
+      (o.of_refusal XOutOfRange p chain (record { least = omega arith; most = omega arith }))
+      (o.of_refusal YOutOfRange p chain (record { least = omega arith; most = omega arith }))
       (λ e. o.of_shape _)
 
   module _ (f : ℕ → ℕ → List (Turn ℤ) → List Event) (call-events : (p n : ℕ) (ts : List (Turn ℤ)) → All P (f p n ts)) (chain : Chain) (net : List (Turn ℤ)) where
@@ -57,12 +57,12 @@ module _ (P : Event → Type 0) (o : Outputs P) where
   unfolding passage_of passage_to
   passage_rule left t chain n ts = go (off_axes ts) (find n t)
     where
-      further : (a b : Bool) (d : Definition) → ByPassage (if a then barred being_drawn else if b then barred too_deep else leads d)
+      further : (a b : Bool) (d : Definition) → ByPassage (if a then barred BeingDrawn else if b then barred TooDeep else leads d)
       further true b d = record { least = omega arith; most = omega arith }
       further false true d = record { least = omega arith; most = omega arith }
       further false false d = tt
 
-      go : (a : Bool) (found : Option Definition) → ByPassage (if a then barred off_the_axes else passage_to found left chain n)
+      go : (a : Bool) (found : Option Definition) → ByPassage (if a then barred OffTheAxes else passage_to found left chain n)
       go true found = record { least = omega arith; most = omega arith }
       go false none = record { least = omega arith; most = omega arith }
       go false (some d) = further (any (λ c. eqb c.what n) chain) (eqb left 0) d

@@ -10,7 +10,7 @@ use lib.Dec.{ltb, eqb}
 use lib.IntN.{ℤ}
 use lib.ListN.{length}
 use Rattle.definition.specs.Limits.{most_definitions, deepest, most_calls, most_shapes}
-use Rattle.definition.specs.Rules.{Rule, too_many_definitions}
+use Rattle.definition.specs.Rules.{Rule, TooManyDefinitions}
 use Rattle.definition.specs.Words.{those}
 use Rattle.definition.specs.Commands.{Turn}
 use Rattle.definition.specs.Table.{Definition, Table, enter, forget}
@@ -76,7 +76,7 @@ small_at words c (b ∷ before) m after x u = small_at words (tallied c b) befor
     kept : Kept b
     kept d e =
         let no_more : ¬ (most_definitions < length (enter d b.table)) =
-        λ h. unbroken_first words c b before u too_many_definitions (subst (λ (a : Act). Broken words c b.table b.chain b.net a too_many_definitions) (sym e) (live h)) in
+        λ h. unbroken_first words c b before u TooManyDefinitions (subst (λ (a : Act). Broken words c b.table b.chain b.net a TooManyDefinitions) (sym e) (live h)) in
         omega arith
 
 -- the counts where a moment is reached are the numbers of the calls, shapes and redefinitions that happened before

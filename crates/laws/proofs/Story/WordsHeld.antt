@@ -13,7 +13,7 @@ use lib.IntN.{ℤ}
 use lib.ListN.{length}
 use Rattle.definition.specs.Limits.{most_definitions, deepest}
 use Rattle.definition.specs.Words.{Placed, at, those}
-use Rattle.definition.specs.Rules.{too_many_definitions, refuse}
+use Rattle.definition.specs.Rules.{TooManyDefinitions, refuse}
 use Rattle.definition.specs.Commands.{Shape, Turn, Command, draw, layer, call, start, finish, delete, nothing}
 use Rattle.definition.specs.Standing.{Standing, outside, after}
 use Rattle.definition.specs.Table.{Step, shape, instance, setting, Definition, Table, enter, forget}
@@ -89,7 +89,7 @@ module _ (w : ℕ) where
   happens-holds t (output s) h = step-holds (drawn_call deepest t [] []) (λ q m us. call-holds deepest t [] [] q m us) [] [] s.place s.what
   happens-holds t (define d) h = (go (ltb most_definitions (length (enter d t))), tt)
     where
-      go : (b : Bool) → Holds w (if b then refused (refuse too_many_definitions d.place) [] else entered d t)
+      go : (b : Bool) → Holds w (if b then refused (refuse TooManyDefinitions d.place) [] else entered d t)
       go true = omega arith
       go false = h
   happens-holds t (remove n) h = (omega arith, tt)
