@@ -29,7 +29,7 @@ answer_of_fault t (Ok k) = clean
 answer_of_fault t (Err r) = failure t r []
 
 abbrev pub answer_of_verdict : List ℕ → Result Unit ℕ → Answer  -- RULES 12, refusal 2: "not in the grammar"
-answer_of_verdict t (Ok tt) = clean
+answer_of_verdict t (Ok _) = clean
 answer_of_verdict t (Err n) = failure t (refuse NotInGrammar n) []
 
 -- `cif_flatten`: the promised answer, and the room and the words lent that go with it

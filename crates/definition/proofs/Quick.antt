@@ -151,7 +151,7 @@ unfolding quick_answer answer_of quick_outcome verdict
 quick_is t words room = ap (λ (o : Outcome). if ltb most_bytes (length t) then rejected (refuse TextTooLong 0) [] else o) (rw (same_verdict t) (judged_so (verdict_of 0 0 0 t)))
   where
     judged_so : (v : Result Unit ℕ) → quick_outcome v t words room ≡ verdict v t words room
-    judged_so (Ok tt) = ap (λ (m : List Letter). outcome_of m words room) (same_letters t)
+    judged_so (Ok _) = ap (λ (m : List Letter). outcome_of m words room) (same_letters t)
     judged_so (Err n) = refl
 
 pub quick_summary_is : (t : List ℕ) (words symbol : ℕ) → quick_summary t words symbol ≡ summary_for t words symbol
@@ -159,7 +159,7 @@ unfolding quick_summary summary_for quick_summed summary_verdict
 quick_summary_is t words n = ap (λ (s : Summary). if ltb most_bytes (length t) then empty_summary t (refuse TextTooLong 0) else s) (rw (same_verdict t) (summed_so (verdict_of 0 0 0 t)))
   where
     summed_so : (v : Result Unit ℕ) → quick_summed v t words n ≡ summary_verdict v t words n
-    summed_so (Ok tt) = ap (λ (m : List Letter). summary_of t m words n) (same_letters t)
+    summed_so (Ok _) = ap (λ (m : List Letter). summary_of t m words n) (same_letters t)
     summed_so (Err k) = refl
 
 pub quick_right : (t : List ℕ) (words room : ℕ) → Bytes t → Answers t words room (quick_answer t words room)

@@ -26,7 +26,7 @@ use Rattle.std.specs.Prelude.{Err, Ok, Result}
 module _ (t : List ℕ) (words n : ℕ) (b : Bytes t) where
   by_verdict_lem : length t ≤ most_bytes → (v : Result Unit ℕ) → Viable.Judged t v → WhyAnswers t words n (reason_verdict v t words n)
   unfolding reason_verdict
-  by_verdict_lem h (Ok tt) g = subst (λ (m : List Letter). WhyAnswers t words n (reason_of m words n)) (quick_letters_lem g.1) (read h g.1)
+  by_verdict_lem h (Ok _) g = subst (λ (m : List Letter). WhyAnswers t words n (reason_of m words n)) (quick_letters_lem g.1) (read h g.1)
   by_verdict_lem h (Err k) g = not_cif h g.0 g.1
 
   by_length : (c : Bool) → ltb most_bytes (length t) ≡ c

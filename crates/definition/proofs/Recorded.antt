@@ -28,7 +28,7 @@ use Rattle.std.specs.Prelude.{Err, Ok, Result}
 
 by_verdict_lem : (t : List ℕ) (words records room : ℕ) → Bytes t → length t ≤ most_bytes → (v : Result Unit ℕ) → Viable.Judged t v → AnswersWith t words records room (verdict_with v t words records room)
 unfolding verdict_with
-by_verdict_lem t words records room b h (Ok tt) g =
+by_verdict_lem t words records room b h (Ok _) g =
     subst (λ (m : List Letter). AnswersWith t words records room (outcome_with m words records room)) (quick_letters_lem g.1) (read h g.1)
 by_verdict_lem t words records room b h (Err n) g = not_cif h g.0 g.1
 

@@ -24,7 +24,7 @@ use Rattle.std.specs.Prelude.{Err, Ok, Result}
 
 by_verdict : (t : List ℕ) (words room : ℕ) → Bytes t → length t ≤ most_bytes → (v : Result Unit ℕ) → Viable.Judged t v → Answers t words room (verdict v t words room)
 unfolding verdict
-by_verdict t words room b h (Ok tt) g =
+by_verdict t words room b h (Ok _) g =
     subst (λ (m : List Letter). Answers t words room (outcome_of m words room)) (marking_is g.1) (read h g.1)
 by_verdict t words room b h (Err n) g = not_cif h g.0 g.1
 

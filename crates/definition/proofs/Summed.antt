@@ -25,7 +25,7 @@ use Rattle.std.specs.Prelude.{Err, Ok, Result}
 module _ (t : List ℕ) (words n : ℕ) (b : Bytes t) where
   by_verdict : length t ≤ most_bytes → (v : Result Unit ℕ) → Viable.Judged t v → Summarises t words n (summary_verdict v t words n)
   unfolding summary_verdict
-  by_verdict h (Ok tt) g = subst (λ (m : List Letter). Summarises t words n (summary_of t m words n)) (marking_is g.1) (read h g.1)
+  by_verdict h (Ok _) g = subst (λ (m : List Letter). Summarises t words n (summary_of t m words n)) (marking_is g.1) (read h g.1)
   by_verdict h (Err k) g = not_cif h g.0 g.1
 
   by_length : (c : Bool) → ltb most_bytes (length t) ≡ c

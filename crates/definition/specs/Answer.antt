@@ -9,7 +9,7 @@ use Rattle.definition.specs.declared.Answer.{Answer}
 use Rattle.definition.specs.declared.Refusal.{Refusal}
 use Rattle.definition.specs.Limits.{most_bytes}
 use Rattle.definition.specs.Words.{Placed}
-use Rattle.definition.specs.Rules.{TextTooLong, NotInGrammar, FlatFileTooLong, refuse}
+use Rattle.definition.specs.Rules.{TextTooLong, NotInGrammar, FlatFileTooLong, number_of, refuse}
 use Rattle.definition.specs.Commands.{Command, commands}
 use Rattle.definition.specs.Standing.{outside}
 use Rattle.definition.specs.Faults.{first_fault}
@@ -47,7 +47,7 @@ success l c k = record {
 
 unfoldable pub failure : List ℕ → Refusal → Chain → Answer  -- of a text
 failure t r chain = record {
-  number = r.number;
+  number = number_of r.rule;
   place = r.place;
   length = 0;
   shapes = 0;

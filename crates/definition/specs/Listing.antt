@@ -2,7 +2,7 @@
 use Rattle.std.specs.Prelude.{List, [], ◌∷◌, ◌++◌, map, ℕ, ◌+◌, ◌<◌, ◌≤◌, pos, length}
 use Rattle.std.proofs.Math.Option.{Option, none, some}
 use Rattle.definition.specs.Words.{bytes_of}
-use Rattle.definition.specs.Rules.{TextTooLong, refuse}
+use Rattle.definition.specs.Rules.{TextTooLong, number_of, refuse}
 use Rattle.definition.specs.Drawing.{Drawn}
 use Rattle.definition.specs.Counts.{shapes_of}
 use Rattle.definition.specs.Flat.{decimal, spaced, letter_of, numbers_of_shape}
@@ -34,7 +34,7 @@ listing t (accepted cs c es) =
     ++ window_line (window_of (map (λ d. d.itself) (shapes_of es))))))
 listing t (rejected r chain) =
     bytes_of "refused"
-    ++ fields (map (λ n. decimal (pos n)) (r.number ∷ r.place ∷ line_of t r.place ∷ column_of t r.place ∷ places_of chain))
+    ++ fields (map (λ n. decimal (pos n)) (number_of r.rule ∷ r.place ∷ line_of t r.place ∷ column_of t r.place ∷ places_of chain))
 
 pub data Lists (t : List ℕ) : List ℕ → Type 0 where  -- it takes at most 32,768 bytes, a longer text is refusal 1, its room is 32,768 bytes, and it lends 32,768 words
   over : 32768 < length t → Lists t (listing t (rejected (refuse TextTooLong 0) []))

@@ -170,7 +170,7 @@ in_symbol names (stands h ls) ss = record {
 
 unfoldable pub empty_summary : List ℕ → Refusal → Summary  -- of a text that is refused
 empty_summary t r = record {
-  number = r.number;
+  number = number_of r.rule;
   place = r.place;
   line = line_of t r.place;
   column = column_of t r.place;

@@ -8,7 +8,7 @@ use Rattle.definition.specs.declared.Refusal.{Refusal}
 use Rattle.definition.specs.declared.Why.{Why}
 use Rattle.definition.specs.Limits.{most_bytes}
 use Rattle.definition.specs.Words.{Placed, Point, point, first}
-use Rattle.definition.specs.Rules.{TextTooLong, NotInGrammar, NoSuchShape, refuse}
+use Rattle.definition.specs.Rules.{TextTooLong, NotInGrammar, NoSuchShape, number_of, refuse}
 use Rattle.definition.specs.Commands.{Turn, Command, commands}
 use Rattle.definition.specs.Faults.{first_fault}
 use Rattle.definition.specs.Turns.{act, aim, in_order}
@@ -74,7 +74,7 @@ why_told t (because s) = record {
   ty = (origin_to s.net).y;
 }
 why_told t (refuses r chain) = record {
-  number = r.number;
+  number = number_of r.rule;
   place = r.place;
   line = line_of t r.place;
   column = column_of t r.place;

@@ -14,7 +14,7 @@ one_length {t} {n} {m} a b =
     omega arith
 
 pub one_verdict : (t : List ℕ) (v w : Result Unit ℕ) → Judged t v → Judged t w → v ≡ w
-one_verdict t (Ok tt) (Ok tt) a b = refl
-one_verdict t (Ok tt) (Err m) a b = absurd (b.0 a)
-one_verdict t (Err n) (Ok tt) a b = absurd (a.0 b)
+one_verdict t (Ok _) (Ok _) a b = refl
+one_verdict t (Ok _) (Err m) a b = absurd (b.0 a)
+one_verdict t (Err n) (Ok _) a b = absurd (a.0 b)
 one_verdict t (Err n) (Err m) a b = ap (λ (k : ℕ). Err k) (one_length a.1 b.1)

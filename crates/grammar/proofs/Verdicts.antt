@@ -84,7 +84,7 @@ pub record Stuck (q d : ℕ) (w : List ℕ) (n m : ℕ) : Type 0 where
   pub longest : far < length w → (z : List ℕ) → Plain q d (take (suc far) w ++ z) → ⊥
 
 abbrev pub Right : ℕ → ℕ → List ℕ → ℕ → Result Unit ℕ → Type 0
-Right q d w n (Ok tt) = Plain q d w
+Right q d w n (Ok _) = Plain q d w
 Right q d w n (Err m) = Stuck q d w n m
 
 pub final_deep : (e : ℕ) (is : Choice) → T (final (deepen (suc e) is)) → ⊥
@@ -112,7 +112,7 @@ stopped q d n a w hq ha e =
 -- at a byte that goes on
 moved : (q d n a : ℕ) (w : List ℕ) → q < state_count → a < 256 → ((mode_after q d a).state ≡ stuck → ⊥) → (v : Result Unit ℕ)
     → Right (mode_after q d a).state (mode_after q d a).depth w (n + 1) v → Right q d (a ∷ w) n v
-moved q d n a w hq ha e (Ok tt) m = plain_back q a hq ha d _ e m
+moved q d n a w hq ha e (Ok _) m = plain_back q a hq ha d _ e m
 moved q d n a w hq ha e (Err m) s = record {
   far = suc s.far;
   place = omega (arith, s.place);
@@ -154,7 +154,7 @@ shorter t k m h v =
     (rest ++ v.0, subst Grammatical (ap (λ (l : List ℕ). l ++ v.0) e ∙ append_assoc (take k t) rest v.0) v.1)
 
 answer : (t : List ℕ) (v : Result Unit ℕ) → Right 0 0 t 0 v → Judged t v
-answer t (Ok tt) m = plain_end m
+answer t (Ok _) m = plain_end m
 answer t (Err m) s =
     let e : s.far ≡ m = omega (arith, s.place) in
     let over : (k : ℕ) → m < k → k ≤ length t → Viable (take k t) → ⊥ = λ k l h v.

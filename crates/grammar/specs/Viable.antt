@@ -24,5 +24,5 @@ pub record LongestViable (t : List ℕ) (n : ℕ) : Type 0 where  -- "length of 
   pub longest : (k : ℕ) → k ≤ length t → Viable (take k t) → k ≤ n
 
 abbrev pub Judged : List ℕ → Result Unit ℕ → Type 0  -- what each verdict says of a text
-Judged t (Ok tt) = Grammatical t
+Judged t (Ok _) = Grammatical t
 Judged t (Err n) = (Grammatical t → ⊥) × LongestViable t n

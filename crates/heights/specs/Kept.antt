@@ -13,6 +13,7 @@ use Rattle.heights.specs.declared.Looked.{Looked}
 use Rattle.definition.specs.declared.Rule.{Rule}
 use Rattle.heights.specs.declared.Standing.{Standing}
 use Rattle.heights.specs.declared.Looked.TheVariants.{Known, Fresh}
+use Rattle.definition.specs.Rules.{UndefinedSymbol, BeingDrawn, TooDeep}
 
 -- the mark of a symbol that is open
 abbrev pub open_mark : ℕ
@@ -27,12 +28,12 @@ pub record AtRow (rows : List ℕ) (live n i : ℕ) : Type 0 where
 
 -- what `look_up` answers, with so many levels left
 pub data Looks (rows : List ℕ) (live : ℕ) (heights layers : List ℕ) (n left : ℕ) : Result Looked Rule → Type 0 where
-  undefined : Finds rows live n None → Looks rows live heights layers n left (Err 12)
-  is_open : {i : ℕ} → AtRow rows live n i → height_at heights i ≡ open_mark → Looks rows live heights layers n left (Err 13)
-  too_tall : {i : ℕ} → AtRow rows live n i → (height_at heights i ≡ open_mark → ⊥) → left < height_at heights i → Looks rows live heights layers n left (Err 14)
+  undefined : Finds rows live n None → Looks rows live heights layers n left (Err UndefinedSymbol)
+  is_open : {i : ℕ} → AtRow rows live n i → height_at heights i ≡ open_mark → Looks rows live heights layers n left (Err BeingDrawn)
+  too_tall : {i : ℕ} → AtRow rows live n i → (height_at heights i ≡ open_mark → ⊥) → left < height_at heights i → Looks rows live heights layers n left (Err TooDeep)
   known : {i : ℕ} → AtRow rows live n i → (height_at heights i ≡ open_mark → ⊥) → 0 < height_at heights i → height_at heights i ≤ left
       → Looks rows live heights layers n left (Ok (Known (height_at heights i) (get_or layers i 0)))
-  too_deep : {i : ℕ} → AtRow rows live n i → height_at heights i ≡ 0 → left ≡ 0 → Looks rows live heights layers n left (Err 14)
+  too_deep : {i : ℕ} → AtRow rows live n i → height_at heights i ≡ 0 → left ≡ 0 → Looks rows live heights layers n left (Err TooDeep)
   fresh : {i : ℕ} → AtRow rows live n i → height_at heights i ≡ 0 → 0 < left → Looks rows live heights layers n left (Ok (Fresh i))
 
 -- a symbol stands where so many levels are left, whatever is open

@@ -19,8 +19,8 @@ fitted bytes room = if leb bytes room && leb bytes most_bytes then Ok bytes else
 -- by the verdicts on the two texts
 abbrev pub by_verdicts : Result Unit ℕ → Result Unit ℕ → Result ℕ NotJoined → Result ℕ NotJoined
 by_verdicts (Err n) w j = about 1 NotInGrammar n
-by_verdicts (Ok tt) (Err n) j = about 2 NotInGrammar n
-by_verdicts (Ok tt) (Ok tt) j = j
+by_verdicts (Ok _) (Err n) j = about 2 NotInGrammar n
+by_verdicts (Ok _) (Ok _) j = j
 
 -- what may come of two texts and a room of so many bytes
 pub data Joining (first second : List ℕ) (room : ℕ) : Result ℕ NotJoined → Type 0 where

@@ -89,7 +89,7 @@ outcome_by (Ok k) = rejected (record { number = 0; place = 0 }) []
 outcome_by (Err why) = rejected why []
 
 judged-answers : {t : List ℕ} {w n room : ℕ} {why : Refusal} → length t ≤ most_bytes → (v : Result Unit ℕ) → Judged t v → by_verdict t v (Err why) → AnswersWith t w n room (rejected why [])
-judged-answers {t} {w} {n} {room} {why} h (Ok tt) g e = go (first_fault (commands 0 g.0)) refl (e g.0 g.1)
+judged-answers {t} {w} {n} {room} {why} h (Ok _) g e = go (first_fault (commands 0 g.0)) refl (e g.0 g.1)
   where
     go : (f : Option Refusal) → first_fault (commands 0 g.0) ≡ f → Err why ≡ fault_said f (rounded (commands 0 g.0)) → AnswersWith t w n room (rejected why [])
     go none q x = absurd (never_clear (sym x))

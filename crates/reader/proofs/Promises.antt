@@ -56,7 +56,7 @@ outcome_by (Ok k) = rejected (record { number = 0; place = 0 }) []
 outcome_by (Err why) = rejected why []
 
 judged-answers : {t : List ℕ} {words room : ℕ} {why : Refusal} → length t ≤ 16777216 → (v : Result Unit ℕ) → Judged t v → by_verdict t v (Err why) → Answers t words room (rejected why [])
-judged-answers {t} {words} {room} {why} h (Ok tt) g e = go (first_fault (commands 0 g.0)) refl (e g.0 g.1)
+judged-answers {t} {words} {room} {why} h (Ok _) g e = go (first_fault (commands 0 g.0)) refl (e g.0 g.1)
   where
     go : (f : Option Refusal) → first_fault (commands 0 g.0) ≡ f → Err why ≡ fault_said f (rounded (commands 0 g.0)) → Answers t words room (rejected why [])
     go none q x = absurd (never_clear (sym x))
@@ -78,7 +78,7 @@ rounded_by (Ok k) = k
 rounded_by (Err why) = 0
 
 clear-passes : {t : List ℕ} {k : ℕ} → length t ≤ 16777216 → (v : Result Unit ℕ) → Judged t v → by_verdict t v (Ok k) → Rounds t k
-clear-passes {t} {k} h (Ok tt) g e = go (first_fault (commands 0 g.0)) refl (e g.0 g.1)
+clear-passes {t} {k} h (Ok _) g e = go (first_fault (commands 0 g.0)) refl (e g.0 g.1)
   where
     go : (f : Option Refusal) → first_fault (commands 0 g.0) ≡ f → Ok k ≡ fault_said f (rounded (commands 0 g.0)) → Rounds t k
     go none q x = record { passed = record { letters = g.0; marked = g.1; short = h; clear = q }; is = ap rounded_by x }

@@ -14,7 +14,7 @@ pub one_fault : (t : List ℕ) (r s : Result ℕ Refusal) → Checked t r → Ch
 one_fault t r s h k = h.along ∙ sym k.along
 
 by_one : (t : List ℕ) (v : Result Unit ℕ) → Judged t v → (r s : Result ℕ Refusal) → by_verdict t v r → by_verdict t v s → r ≡ s
-by_one t (Ok tt) g r s h k = h g.0 g.1 ∙ sym (k g.0 g.1)
+by_one t (Ok _) g r s h k = h g.0 g.1 ∙ sym (k g.0 g.1)
 by_one t (Err n) g r s h k = h ∙ sym k
 
 pub one_refusal : (t : List ℕ) (r s : Result ℕ Refusal) → Refuses t r → Refuses t s → r ≡ s

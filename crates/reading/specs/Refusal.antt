@@ -30,7 +30,7 @@ pub record Checked (t : List ℕ) (r : Result ℕ Refusal) : Type 0 where
 
 -- the contract of `refusal`: refusals 2 to 9 together
 abbrev pub by_verdict : List ℕ → Result Unit ℕ → Result ℕ Refusal → Type 0
-by_verdict t (Ok tt) r = Faulted t r
+by_verdict t (Ok _) r = Faulted t r
 by_verdict t (Err n) r = r ≡ Err (refuse NotInGrammar n)
 
 pub record Refuses (t : List ℕ) (r : Result ℕ Refusal) : Type 0 where

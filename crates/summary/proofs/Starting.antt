@@ -126,7 +126,7 @@ module _ {t : List ℕ} {d : Result ℕ Refusal} {why : Refusal} (x : Screened t
   by_number = go x e
     where
       judged : length t ≤ most_bytes → (v : Result Unit ℕ) → Judged t v → by_verdict t v (Err why) → 3 ≤ why.number → OfCommands t why
-      judged s (Ok tt) g f h = record { short = s; grammatical = g; is = fault_of g f }
+      judged s (Ok _) g f h = record { short = s; grammatical = g; is = fault_of g f }
       judged s (Err n) g f h = absurd (let z = ap (λ (r : Refusal). r.number) (same-refusal f) in omega (arith, z, h))
 
       go : {d : Result ℕ Refusal} → Screened t d → d ≡ Err why → 3 ≤ why.number → OfCommands t why
@@ -138,7 +138,7 @@ module _ {t : List ℕ} {d : Result ℕ Refusal} {why : Refusal} (x : Screened t
   before-commands h names = go x e
     where
       judged : length t ≤ most_bytes → (v : Result Unit ℕ) → Judged t v → by_verdict t v (Err why) → (words symbol : ℕ) → Summarises t words symbol (empty_summary t why)
-      judged s (Ok tt) g f words symbol = absurd (let z = from_three (commands 0 g.0) (fault_of g f) in omega (arith, z, h))
+      judged s (Ok _) g f words symbol = absurd (let z = from_three (commands 0 g.0) (fault_of g f) in omega (arith, z, h))
       judged s (Err n) g f words symbol = subst (λ (r : Refusal). Summarises t words symbol (empty_summary t r)) (sym (same-refusal f)) (not_cif s g.0 g.1)
 
       go : {d : Result ℕ Refusal} → Screened t d → d ≡ Err why → (words symbol : ℕ) → Summarises t words symbol (empty_summary t why)

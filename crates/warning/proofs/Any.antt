@@ -29,7 +29,7 @@ never_refused : {k : ℕ} {why : Refusal} → Ok k ≡ Err why → ⊥
 never_refused e = let z : ◌≡◌ {A = ℕ} 0 1 = cc in omega arith
 
 not_judged : {t : List ℕ} (why : Refusal) (v : Result Unit ℕ) → Judged t v → by_verdict t v (Err why) → Passed t → ⊥
-not_judged why (Ok tt) g e p =
+not_judged why (Ok _) g e p =
     never_refused (sym (e p.letters p.marked ∙ ap (λ (f : Option Refusal). fault_said f (rounded (commands 0 p.letters))) p.clear))
 not_judged why (Err i) g e p = g.0 (p.letters, p.marked)
 

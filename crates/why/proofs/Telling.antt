@@ -129,7 +129,7 @@ no_fault {t} {words} {d} {why} f (within h r) is = by_verdict_lem r.verdict r.ju
     by_fault (some y) k q e = let z : ◌≡◌ {A = ℕ} 0 1 = cc in omega (arith, z)
 
     by_verdict_lem : (v : Result Unit ℕ) → Judged t v → by_verdict t v (Err why) → ⊥
-    by_verdict_lem (Ok tt) g e =
+    by_verdict_lem (Ok _) g e =
         by_fault (first_fault (commands 0 g.0)) (rounded (commands 0 g.0))
         (ap (λ (m : List Letter). first_fault (commands 0 m)) (one_marking g.1 f.passed.marked) ∙ (no_first-fault f.passed.marked).1 f.passed.unbroken) (e g.0 g.1)
     by_verdict_lem (Err i) g e = g.0 (f.roles, f.passed.marked)
