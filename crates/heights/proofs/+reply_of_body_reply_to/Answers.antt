@@ -31,7 +31,7 @@ pub reply_of_body-loop-next-smaller : goal.reply_of_body-loop-next-smaller
 reply_of_body-loop-next-smaller t c = let n = next_is _ (c.next_call.ensures c.loop-next.invariant.rest c.loop-next.invariant.remains) c.in-Some.is in omega (arith, n.3, n.2.low)
 
 pub reply_of_body-loop-next-preserved : goal.reply_of_body-loop-next-preserved
-reply_of_body-loop-next-preserved t c = let n = next_is _ (c.next_call.ensures c.loop-next.invariant.rest c.loop-next.invariant.remains) c.in-Some.is in went_on _ _ _ _ c.loop-next.invariant n.1 c.reply_to.ensures c.in_ok-called-in-Some.was n.2 c.requires.1.0 c.requires.1.1 c.taller-tallest.ensures
+reply_of_body-loop-next-preserved t c = let n = next_is _ (c.next_call.ensures c.loop-next.invariant.rest c.loop-next.invariant.remains) c.in-Some.is in went_on _ _ _ _ c.loop-next.invariant n.1 c.reply_to.ensures c.in_ok-called-in-Some.was n.2 c.requires.1.0 c.requires.1.1 c.max-tallest.ensures
 
 pub reply_to-returns-in_err-height : goal.reply_to-returns-in_err-height
 reply_to-returns-in_err-height t c =
