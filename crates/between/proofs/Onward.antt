@@ -16,7 +16,8 @@ use mir.Val.{Fits, SFits, to_z, of_z}
 use mir.Facts.{to_z-of_z}
 use Rattle.definition.specs.Limits.{most_definitions}
 use Rattle.definition.specs.Words.{Placed, at}
-use Rattle.definition.specs.Rules.{TooManyDefinitions, TooFewWords, refuse}
+use Rattle.definition.specs.declared.Rule.TheVariants.{TooManyDefinitions, TooFewWords}
+use Rattle.definition.specs.Rules.{refuse}
 use Rattle.definition.specs.Commands.{Number, Command, layer, delete}
 use Rattle.definition.specs.Standing.{Standing, outside, after}
 use Rattle.definition.specs.Table.{Step, Definition, Table, enter}
@@ -62,7 +63,6 @@ use Rattle.keeping.specs.declared.Taken.{Taken}
 use Rattle.definition.specs.declared.Rule.{Rule}
 use Rattle.between.specs.declared.Text.{Text}
 use Rattle.between.specs.declared.Outer.{Outer}
-use Rattle.definition.specs.declared.Rule.TheVariants.{TooManyDefinitions, TooFewWords}
 use Rattle.between.specs.declared.Text.TheVariants.{Over, Calls}
 use Rattle.between.specs.declared.Outer.TheVariants.{Shown, Opens}
 

@@ -9,7 +9,8 @@ use native.Mathlib.Omega.{arith}
 use lib.Dec.{leb}
 use lib.ListN.{length}
 use Rattle.definition.specs.Words.{Placed}
-use Rattle.definition.specs.Rules.{TooFewRecords, refuse}
+use Rattle.definition.specs.declared.Rule.TheVariants.{TooFewRecords}
+use Rattle.definition.specs.Rules.{refuse}
 use Rattle.definition.specs.Table.{Step, Definition, Table}
 use Rattle.definition.specs.Drawing.{Chain, Event, called, drew, entered, removed, refused, output, happens}
 use Rattle.definition.specs.Records.{stacked_to}

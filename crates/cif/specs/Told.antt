@@ -5,7 +5,8 @@ use Rattle.definition.specs.declared.Answer.{Answer}
 use Rattle.definition.specs.declared.Refusal.{Refusal}
 use Rattle.definition.specs.declared.Summary.{Summary}
 use Rattle.definition.specs.declared.Why.{Why}
-use Rattle.definition.specs.Rules.{NotInGrammar, refuse}
+use Rattle.definition.specs.declared.Rule.TheVariants.{NotInGrammar}
+use Rattle.definition.specs.Rules.{refuse}
 use Rattle.definition.specs.Counts.{counts}
 use Rattle.definition.specs.Answer.{success, failure, zeros, Promised}
 use Rattle.definition.specs.Records.{PromisedWith}

@@ -13,7 +13,7 @@ use lib.Seq.{length-take-le, take-length}
 use Rattle.grammar.specs.Viable.{Judged}
 use Rattle.definition.specs.Limits.{most_bytes}
 use Rattle.definition.specs.Words.{bytes_of}
-use Rattle.definition.specs.Rules.{NotInGrammar, FlatFileTooLong}
+use Rattle.definition.specs.declared.Rule.TheVariants.{NotInGrammar, FlatFileTooLong}
 use Rattle.joining.specs.Joined.{before_e, joined}
 use Rattle.digits.specs.Writes.{Writes}
 use Rattle.digits.proofs.Writing.{both, same_bytes, begins, measures}

@@ -13,7 +13,7 @@ use Rattle.grammar.specs.Viable.{Grammatical, Judged}
 use Rattle.grammar.proofs.Unique.{one_verdict}
 use Rattle.definition.specs.Limits.{most_bytes}
 use Rattle.definition.specs.Words.{Placed}
-use Rattle.definition.specs.Rules.{FlatFileTooLong}
+use Rattle.definition.specs.declared.Rule.TheVariants.{FlatFileTooLong}
 use Rattle.definition.specs.Commands.{Command}
 use Rattle.definition.specs.Drawing.{Event}
 use Rattle.definition.specs.Counts.{Counts}

@@ -3,7 +3,9 @@
 use Rattle.std.specs.Prelude.{◌≡◌, ◌&&◌, List, ◌++◌, ℕ, ◌≤◌, ◌<◌, leb, length, take, drop, if◌then◌else◌}
 use Rattle.grammar.specs.Viable.{Judged}
 use Rattle.definition.specs.Limits.{most_bytes}
-use Rattle.definition.specs.Rules.{Rule, TextTooLong, NotInGrammar, FlatFileTooLong, refuse}
+use Rattle.definition.specs.declared.Rule.{Rule}
+use Rattle.definition.specs.declared.Rule.TheVariants.{TextTooLong, NotInGrammar, FlatFileTooLong}
+use Rattle.definition.specs.Rules.{refuse}
 use Rattle.joining.specs.Joined.{before_e, joined}
 use Rattle.std.specs.Prelude.{Err, Ok, Result}
 use Rattle.join.specs.declared.NotJoined.{NotJoined}

@@ -18,7 +18,8 @@ use Rattle.definition.specs.declared.Answer.{Answer}
 use Rattle.definition.specs.declared.Refusal.{Refusal}
 use Rattle.definition.specs.Limits.{most_bytes}
 use Rattle.definition.specs.Words.{Placed}
-use Rattle.definition.specs.Rules.{TooFewRecords, FlatFileTooLong, refuse}
+use Rattle.definition.specs.declared.Rule.TheVariants.{TooFewRecords, FlatFileTooLong}
+use Rattle.definition.specs.Rules.{refuse}
 use Rattle.definition.specs.Commands.{Command, commands}
 use Rattle.definition.specs.Faults.{first_fault}
 use Rattle.definition.specs.Rounded.{rounded}

@@ -18,7 +18,8 @@ use Rattle.definition.specs.Rounded.{rounded}
 use Rattle.reader.specs.Screened.{Screened}
 use Rattle.reader.proofs.Promises.{passes}
 use Rattle.definition.specs.Limits.{most_bytes, most_calls, most_shapes}
-use Rattle.definition.specs.Rules.{FlatFileTooLong, refuse}
+use Rattle.definition.specs.declared.Rule.TheVariants.{FlatFileTooLong}
+use Rattle.definition.specs.Rules.{refuse}
 use Rattle.definition.specs.Answer.{failure}
 use Rattle.definition.specs.Drawing.{Event}
 use Rattle.laws.proofs.Rules.Outcomes.{TooLong}

@@ -11,7 +11,8 @@ use Rattle.definition.specs.Limits.{most_calls, most_shapes, most_bytes}
 use Rattle.definition.specs.Commands.{Turn, commands}
 use Rattle.definition.specs.Rounded.{rounded}
 use Rattle.definition.specs.Table.{Table}
-use Rattle.definition.specs.Rules.{FlatFileTooLong, refuse}
+use Rattle.definition.specs.declared.Rule.TheVariants.{FlatFileTooLong}
+use Rattle.definition.specs.Rules.{refuse}
 use Rattle.definition.specs.Drawing.{Chain, Drawn, Event, drew}
 use Rattle.definition.specs.Counts.{counts, stopped, ending}
 use Rattle.definition.specs.Held.{held_to}

@@ -5,7 +5,8 @@
 ghost use Rattle.std.specs.Prelude.{◌≡◌, List, [], ◌∷◌, true, false, ℕ, ◌+◌, ◌-◌, ◌*◌, ◌%◌, ◌^◌, ◌<◌, ◌≤◌, eqb, pos, length, replicate};
 ghost use Rattle.std.proofs.lemmas.List.Edits.{sets};
 ghost use Rattle.definition.specs.Limits.{deepest, most_shapes};
-ghost use Rattle.definition.specs.Rules.{FlatFileTooLong, refuse};
+ghost use Rattle.definition.specs.declared.Rule.TheVariants.{FlatFileTooLong};
+ghost use Rattle.definition.specs.Rules.{refuse};
 ghost use Rattle.definition.specs.Answer.{failure, success};
 ghost use Rattle.turns.specs.Nets.{Near};
 ghost use Rattle.counts.specs.Counting.{tally};

@@ -8,7 +8,8 @@ use Prim.Native.Nat.{ℕ, ◌+◌, ◌≤◌}
 use native.Mathlib.Omega.{arith}
 use lib.Dec.{ltb}
 use Rattle.definition.specs.Limits.{most_calls}
-use Rattle.definition.specs.Rules.{TooManyCalls, refuse}
+use Rattle.definition.specs.declared.Rule.TheVariants.{TooManyCalls}
+use Rattle.definition.specs.Rules.{refuse}
 use Rattle.definition.specs.Table.{Definition}
 use Rattle.definition.specs.Drawing.{Chain, Event, called}
 use Rattle.definition.specs.Counts.{finished, stopped, counted}

@@ -12,7 +12,8 @@ use lib.Dec.{ltb}
 use lib.IntN.{ℤ}
 use lib.ListN.{length}
 use Rattle.definition.specs.Limits.{deepest, most_calls}
-use Rattle.definition.specs.Rules.{TooFewRecords, TooManyCalls, refuse}
+use Rattle.definition.specs.declared.Rule.TheVariants.{TooFewRecords, TooManyCalls}
+use Rattle.definition.specs.Rules.{refuse}
 use Rattle.definition.specs.Commands.{Turn}
 use Rattle.definition.specs.Turns.{off_axes}
 use Rattle.definition.specs.Table.{Definition}

@@ -22,7 +22,8 @@ use Rattle.definition.specs.declared.Refusal.{Refusal}
 use Rattle.definition.specs.declared.Why.{Why}
 use Rattle.definition.specs.Limits.{most_shapes, deepest}
 use Rattle.definition.specs.Words.{Point, point}
-use Rattle.definition.specs.Rules.{FlatFileTooLong, TooManyShapes, NoSuchShape, number_of, refuse}
+use Rattle.definition.specs.declared.Rule.TheVariants.{FlatFileTooLong, TooManyShapes, NoSuchShape}
+use Rattle.definition.specs.Rules.{number_of, refuse}
 use Rattle.definition.specs.Commands.{commands}
 use Rattle.definition.specs.Faults.{first_fault}
 use Rattle.definition.specs.Rounded.{rounded}

@@ -5,7 +5,8 @@ use Rattle.std.specs.Prelude.{◌≡◌, List, [], ℕ, ◌≤◌, eqb, ℤ, pos
 use Rattle.definition.specs.declared.Answer.{Answer}
 use Rattle.definition.specs.declared.Why.{Why}
 use Rattle.definition.specs.Words.{point}
-use Rattle.definition.specs.Rules.{NoSuchShape, refuse}
+use Rattle.definition.specs.declared.Rule.TheVariants.{NoSuchShape}
+use Rattle.definition.specs.Rules.{refuse}
 use Rattle.definition.specs.Why.{Reason, refuses, why_told}
 use Rattle.reasons.proofs.Told.{Through}
 use Rattle.turns.specs.declared.Net.{Net}
