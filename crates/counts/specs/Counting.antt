@@ -10,7 +10,9 @@ use Rattle.definition.specs.Counts.{Counts as Tally}
 use Rattle.definition.specs.Limits.{most_calls, most_shapes}
 use Rattle.counts.specs.declared.Counts.{Counts}
 use Rattle.std.specs.Prelude.{Err, Ok, Result}
-use Rattle.definition.specs.Rules.{Rule, TooManyCalls, TooManyShapes, refuse}
+use Rattle.definition.specs.declared.Rule.{Rule}
+use Rattle.definition.specs.declared.Rule.TheVariants.{TooManyCalls, TooManyShapes}
+use Rattle.definition.specs.Rules.{refuse}
 
 -- the record, as the definition has it
 abbrev pub tally : Counts → Tally

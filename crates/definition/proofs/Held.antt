@@ -14,7 +14,9 @@ use Rattle.grammar.specs.Tables.{kinds, table}
 use Rattle.grammar.specs.Steps.{kind_of}
 use Rattle.definition.specs.Quick.{packed, packed_rows, marking_by, quick_letters}
 use Rattle.definition.specs.Words.{any, those, bytes_of}
-use Rattle.definition.specs.Rules.{Rule, TooManyDefinitions, TooFewWords, number_of, refuse, order}
+use Rattle.definition.specs.declared.Rule.{Rule}
+use Rattle.definition.specs.declared.Rule.TheVariants.{TooManyDefinitions, TooFewWords}
+use Rattle.definition.specs.Rules.{number_of, refuse, order}
 use Rattle.definition.specs.Commands.{worth, numbers, paired, next, named, turn_at, turns, command_at, commands}
 use Rattle.definition.specs.Standing.{after, nearest, scaled, scaled_shape, scaled_turn}
 use Rattle.definition.specs.Faults.{beyond, bearings}
@@ -76,7 +78,7 @@ needs (refused r chain ∷ es) = needs es
 
 unfoldable pub refusal_in : End → List ℕ
 refusal_in (finished c) = []
-refusal_in (stopped r chain) = r.number ∷ r.place ∷ []
+refusal_in (stopped r chain) = number_of r.rule ∷ r.place ∷ []
 
 pub record Body : Type 0 where  -- a text, and the words that its live bodies need after each DF
   pub text : String

@@ -15,7 +15,8 @@ use borrow.Author.Tests.{lt-ltb, le-ltb, le-leb, lt-leb}
 use Rattle.grammar.specs.Steps.{verdict_of}
 use Rattle.grammar.proofs.Verdicts.{Bytes}
 use Rattle.definition.specs.Words.{Placed, any, those, bytes_of}
-use Rattle.definition.specs.Rules.{TextTooLong, TooManyDefinitions, TooManyCalls, TooManyShapes, FlatFileTooLong, refuse, order}
+use Rattle.definition.specs.declared.Rule.TheVariants.{TextTooLong, TooManyDefinitions, TooManyCalls, TooManyShapes, FlatFileTooLong}
+use Rattle.definition.specs.Rules.{refuse, order}
 use Rattle.definition.specs.Commands.{Number, Shape, Turn, Command, draw, call}
 use Rattle.definition.specs.Faults.{beyond, parts_of, has_too_many}
 use Rattle.definition.specs.Table.{Definition, Table, enter}

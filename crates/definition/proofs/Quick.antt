@@ -19,7 +19,8 @@ use Rattle.grammar.specs.Viable.{Marked}
 use Rattle.grammar.proofs.Markings.{marking_is}
 use Rattle.grammar.proofs.Verdicts.{Bytes, judged}
 use Rattle.definition.specs.Limits.{most_bytes}
-use Rattle.definition.specs.Rules.{TextTooLong, refuse}
+use Rattle.definition.specs.declared.Rule.TheVariants.{TextTooLong}
+use Rattle.definition.specs.Rules.{refuse}
 use Rattle.definition.specs.declared.Summary.{Summary}
 use Rattle.definition.specs.Answer.{Outcome, rejected, outcome_of, Answers}
 use Rattle.definition.specs.Summary.{empty_summary, summary_of, Summarises}

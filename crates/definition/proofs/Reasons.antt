@@ -16,7 +16,8 @@ use Rattle.grammar.proofs.Markings.{one_marking}
 use Rattle.grammar.proofs.Verdicts.{Bytes}
 use Rattle.grammar.proofs.Unique.{one_length}
 use Rattle.definition.specs.Limits.{most_bytes}
-use Rattle.definition.specs.Rules.{TextTooLong, NotInGrammar, refuse}
+use Rattle.definition.specs.declared.Rule.TheVariants.{TextTooLong, NotInGrammar}
+use Rattle.definition.specs.Rules.{refuse}
 use Rattle.definition.specs.declared.Why.{Why}
 use Rattle.definition.specs.Why.{Reason, refuses, reason_of, WhyAnswers, too_long, not_cif, read, why_told, PromisedWhy}
 use Rattle.definition.specs.Computed.{reason_verdict, reason_for}

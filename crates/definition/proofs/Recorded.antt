@@ -15,7 +15,8 @@ use Rattle.grammar.proofs.Tests.{and_left, and_right}
 use Rattle.grammar.proofs.Verdicts.{Bytes}
 use Rattle.definition.specs.Limits.{most_bytes}
 use Rattle.definition.specs.Words.{same}
-use Rattle.definition.specs.Rules.{TextTooLong, refuse, order}
+use Rattle.definition.specs.declared.Rule.TheVariants.{TextTooLong}
+use Rattle.definition.specs.Rules.{refuse, order}
 use Rattle.definition.specs.Answer.{Outcome, rejected}
 use Rattle.definition.specs.Records.{outcome_with, AnswersWith, too_long, not_cif, read}
 use Rattle.definition.specs.Computed.{verdict_with, answer_with}

@@ -16,7 +16,8 @@ use Rattle.grammar.proofs.Markings.{marking_is, one_marking}
 use Rattle.grammar.proofs.Verdicts.{Bytes, judged}
 use Rattle.grammar.proofs.Unique.{one_length}
 use Rattle.definition.specs.Limits.{most_bytes}
-use Rattle.definition.specs.Rules.{TextTooLong, NotInGrammar, refuse}
+use Rattle.definition.specs.declared.Rule.TheVariants.{TextTooLong, NotInGrammar}
+use Rattle.definition.specs.Rules.{refuse}
 use Rattle.definition.specs.declared.Answer.{Answer}
 use Rattle.definition.specs.Answer.{Outcome, rejected, given_back, room_after, outcome_of, Answers, too_long, not_cif, read, Promised}
 use Rattle.definition.specs.Computed.{verdict, answer_of}

@@ -5,7 +5,8 @@ use Rattle.std.specs.Prelude.{List, [], ℕ, ltb, length, if◌then◌else◌}
 use Rattle.grammar.specs.Steps.{marked, verdict_of}
 use Rattle.definition.specs.Quick.{quick_letters, quick_verdict}
 use Rattle.definition.specs.Limits.{most_bytes}
-use Rattle.definition.specs.Rules.{TextTooLong, NotInGrammar, refuse}
+use Rattle.definition.specs.declared.Rule.TheVariants.{TextTooLong, NotInGrammar}
+use Rattle.definition.specs.Rules.{refuse}
 use Rattle.definition.specs.declared.Summary.{Summary}
 use Rattle.definition.specs.Answer.{Outcome, rejected, outcome_of}
 use Rattle.definition.specs.Records.{outcome_with}

@@ -3,7 +3,8 @@ use Rattle.std.specs.Prelude.{List, [], ◌∷◌, ℕ, ◌+◌, ltb, if◌then�
 use Rattle.definition.specs.declared.Refusal.{Refusal}
 use Rattle.definition.specs.Limits.{most_calls, most_shapes}
 use Rattle.definition.specs.Words.{none?}
-use Rattle.definition.specs.Rules.{TooManyCalls, TooManyShapes, refuse}
+use Rattle.definition.specs.declared.Rule.TheVariants.{TooManyCalls, TooManyShapes}
+use Rattle.definition.specs.Rules.{refuse}
 use Rattle.definition.specs.Table.{find}
 use Rattle.definition.specs.Drawing.{Chain, Drawn, Event, called, drew, entered, removed, refused}
 

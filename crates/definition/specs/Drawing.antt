@@ -5,7 +5,9 @@ use Rattle.std.proofs.Math.Option.{Option, none, some}
 use Rattle.definition.specs.declared.Refusal.{Refusal}
 use Rattle.definition.specs.Limits.{most_definitions, deepest}
 use Rattle.definition.specs.Words.{Placed, at, any}
-use Rattle.definition.specs.Rules.{Rule, TooManyDefinitions, OffTheAxes, UndefinedSymbol, BeingDrawn, TooDeep, XOutOfRange, YOutOfRange, refuse}
+use Rattle.definition.specs.declared.Rule.{Rule}
+use Rattle.definition.specs.declared.Rule.TheVariants.{TooManyDefinitions, OffTheAxes, UndefinedSymbol, BeingDrawn, TooDeep, XOutOfRange, YOutOfRange}
+use Rattle.definition.specs.Rules.{refuse}
 use Rattle.definition.specs.Commands.{Shape, Turn, Command, draw, layer, call, start, finish, delete, nothing}
 use Rattle.definition.specs.Standing.{Standing, after, scaled_shape, scaled_turn}
 use Rattle.definition.specs.Faults.{beyond}

@@ -2,7 +2,8 @@
 -- lent. The story stays as it is: it is held to the words lent, event by event.
 use Rattle.std.specs.Prelude.{List, [], ◌∷◌, ℕ, ◌+◌, max, ltb, ℤ, length, if◌then◌else◌}
 use Rattle.definition.specs.Words.{Placed}
-use Rattle.definition.specs.Rules.{TooFewWords, refuse}
+use Rattle.definition.specs.declared.Rule.TheVariants.{TooFewWords}
+use Rattle.definition.specs.Rules.{refuse}
 use Rattle.definition.specs.Commands.{Turn, translate, mirror_x, mirror_y, rotate}
 use Rattle.definition.specs.Table.{Step, shape, instance, setting, Table, enter}
 use Rattle.definition.specs.Flat.{numbers_of_shape}

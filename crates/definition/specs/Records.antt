@@ -8,7 +8,8 @@ use Rattle.definition.specs.declared.Answer.{Answer}
 use Rattle.definition.specs.declared.Refusal.{Refusal}
 use Rattle.definition.specs.Limits.{most_bytes}
 use Rattle.definition.specs.Words.{Placed}
-use Rattle.definition.specs.Rules.{TextTooLong, NotInGrammar, TooFewRecords, refuse}
+use Rattle.definition.specs.declared.Rule.TheVariants.{TextTooLong, NotInGrammar, TooFewRecords}
+use Rattle.definition.specs.Rules.{refuse}
 use Rattle.definition.specs.Commands.{Command, commands}
 use Rattle.definition.specs.Faults.{first_fault}
 use Rattle.definition.specs.Drawing.{Event, called, drew, entered, removed, refused}

@@ -1,8 +1,8 @@
 -- RULES 12: a name for each row of the table, its number there, and the order in which the rules are looked at. A rule that
 -- is added gets a name, its number, and its place in the order, which need not be by number. 5 is no rule's number since request 2.
 use Rattle.std.specs.Prelude.{List, [], ◌∷◌, ℕ}
-pub use Rattle.definition.specs.declared.Rule.{Rule}
-pub use Rattle.definition.specs.declared.Rule.TheVariants.{TextTooLong, NotInGrammar, NumberTooLarge, ZeroFactor, ScaledTooLarge, DegenerateCommand, NoLayer, TooManyParts, TooManyLayers, TooManyDefinitions, TooFewWords, OffTheAxes, UndefinedSymbol, BeingDrawn, TooDeep, TooFewRecords, TooManyCalls, XOutOfRange, YOutOfRange, TooManyShapes, FlatFileTooLong, NoSuchShape}
+use Rattle.definition.specs.declared.Rule.{Rule}
+use Rattle.definition.specs.declared.Rule.TheVariants.{TextTooLong, NotInGrammar, NumberTooLarge, ZeroFactor, ScaledTooLarge, DegenerateCommand, NoLayer, TooManyParts, TooManyLayers, TooManyDefinitions, TooFewWords, OffTheAxes, UndefinedSymbol, BeingDrawn, TooDeep, TooFewRecords, TooManyCalls, XOutOfRange, YOutOfRange, TooManyShapes, FlatFileTooLong, NoSuchShape}
 use Rattle.definition.specs.declared.Refusal.{Refusal}
 
 abbrev pub number_of : Rule → ℕ

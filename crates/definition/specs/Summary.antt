@@ -9,7 +9,9 @@ use Rattle.definition.specs.declared.Refusal.{Refusal}
 use Rattle.definition.specs.declared.Summary.{Summary}
 use Rattle.definition.specs.Limits.{most_bytes, most_layers, deepest}
 use Rattle.definition.specs.Words.{Placed, at, any, those, first, same}
-use Rattle.definition.specs.Rules.{Rule, TextTooLong, NotInGrammar, TooManyLayers, number_of, refuse}
+use Rattle.definition.specs.declared.Rule.{Rule}
+use Rattle.definition.specs.declared.Rule.TheVariants.{TextTooLong, NotInGrammar, TooManyLayers}
+use Rattle.definition.specs.Rules.{number_of, refuse}
 use Rattle.definition.specs.Commands.{Command, draw, layer, call, start, finish, delete, nothing, commands}
 use Rattle.definition.specs.Standing.{outside}
 use Rattle.definition.specs.Faults.{first_fault}

@@ -8,7 +8,8 @@ use Rattle.definition.specs.declared.Refusal.{Refusal}
 use Rattle.definition.specs.declared.Why.{Why}
 use Rattle.definition.specs.Limits.{most_bytes}
 use Rattle.definition.specs.Words.{Placed, Point, point, first}
-use Rattle.definition.specs.Rules.{TextTooLong, NotInGrammar, NoSuchShape, number_of, refuse}
+use Rattle.definition.specs.declared.Rule.TheVariants.{TextTooLong, NotInGrammar, NoSuchShape}
+use Rattle.definition.specs.Rules.{number_of, refuse}
 use Rattle.definition.specs.Commands.{Turn, Command, commands}
 use Rattle.definition.specs.Faults.{first_fault}
 use Rattle.definition.specs.Turns.{act, aim, in_order}

@@ -14,7 +14,8 @@ use lib.IntN.{ℤ}
 use lib.ListN.{get_or}
 use Rattle.definition.specs.Limits.{deepest}
 use Rattle.definition.specs.Words.{Placed, at, any}
-use Rattle.definition.specs.Rules.{TooDeep, number_of}
+use Rattle.definition.specs.declared.Rule.TheVariants.{TooDeep}
+use Rattle.definition.specs.Rules.{number_of}
 use Rattle.definition.specs.Table.{Step, shape, instance, setting, Definition, Table, find}
 use Rattle.definition.specs.Drawing.{Chain, barred, leads, passage_to}
 use Rattle.definition.specs.Summary as summary

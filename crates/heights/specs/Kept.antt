@@ -13,7 +13,7 @@ use Rattle.heights.specs.declared.Looked.{Looked}
 use Rattle.definition.specs.declared.Rule.{Rule}
 use Rattle.heights.specs.declared.Standing.{Standing}
 use Rattle.heights.specs.declared.Looked.TheVariants.{Known, Fresh}
-use Rattle.definition.specs.Rules.{UndefinedSymbol, BeingDrawn, TooDeep}
+use Rattle.definition.specs.declared.Rule.TheVariants.{UndefinedSymbol, BeingDrawn, TooDeep}
 
 -- the mark of a symbol that is open
 abbrev pub open_mark : ℕ

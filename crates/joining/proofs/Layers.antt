@@ -12,7 +12,7 @@ use lib.IntN.{ℤ, pos, negsuc, neg_ℤ, nat_abs}
 use lib.ListN.{length}
 use Rattle.definition.specs.declared.Refusal.{Refusal}
 use Rattle.definition.specs.Words.{Placed, at, point, any, those}
-use Rattle.definition.specs.Rules.{NumberTooLarge, ZeroFactor, ScaledTooLarge, DegenerateCommand, NoLayer, TooManyParts}
+use Rattle.definition.specs.declared.Rule.TheVariants.{NumberTooLarge, ZeroFactor, ScaledTooLarge, DegenerateCommand, NoLayer, TooManyParts}
 use Rattle.definition.specs.Commands.{Number, Shape, shape_of, Turn, translate, mirror_x, mirror_y, rotate, Command, draw, layer, call, start, finish, delete, nothing}
 use Rattle.definition.specs.Standing.{Standing, outside, after, nearest, scaled, whole, given, scaled_shape, scaled_turn}
 use Rattle.definition.specs.Faults.{parts_of, bearings, distances, numbers_of, zero_scale, nowhere, empty_shape, degenerate, layerless, has_too_many, at_numbers, at_command, beyond, faults, all_faults}

@@ -14,7 +14,9 @@ use lib.ListN.{length, get_or, drop, length-map, get_or-map}
 use Rattle.grammar.specs.Notation.{Letter, head, second, turn, axis, sign, lead, stop, 'B', 'C', 'D', 'L', 'P', 'R', 'S', 'T', 'W', 'X'}
 use Rattle.definition.specs.declared.Refusal.{Refusal}
 use Rattle.definition.specs.Limits.{most_points, most_turns}
-use Rattle.definition.specs.Rules.{Rule, NumberTooLarge, ZeroFactor, ScaledTooLarge, DegenerateCommand, NoLayer, TooManyParts, refuse}
+use Rattle.definition.specs.declared.Rule.{Rule}
+use Rattle.definition.specs.declared.Rule.TheVariants.{NumberTooLarge, ZeroFactor, ScaledTooLarge, DegenerateCommand, NoLayer, TooManyParts}
+use Rattle.definition.specs.Rules.{refuse}
 use Rattle.definition.specs.Words.{Placed, at, Point, point, those, any, first}
 use Rattle.definition.specs.Commands.{Number, box, flash, wire, polygon, Shape, shape_of, Turn, translate, mirror_x, mirror_y, rotate}
 use Rattle.definition.specs.Commands.{Command, draw, layer, call, start, finish, delete, nothing, ◌plays◌, ◌is◌}

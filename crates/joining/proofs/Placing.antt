@@ -12,7 +12,7 @@ use lib.ListN.{length}
 use Rattle.definition.specs.declared.Refusal.{Refusal}
 use Rattle.definition.specs.Limits.{deepest, most_definitions}
 use Rattle.definition.specs.Words.{Placed, at, Point, any, none?}
-use Rattle.definition.specs.Rules.{OffTheAxes}
+use Rattle.definition.specs.declared.Rule.TheVariants.{OffTheAxes}
 use Rattle.definition.specs.Commands.{Shape, shape_of, Turn}
 use Rattle.definition.specs.Faults.{beyond, both, bearings}
 use Rattle.definition.specs.Turns.{heading, act, aim, in_order, moved, off_axes}

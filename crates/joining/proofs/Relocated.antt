@@ -13,7 +13,8 @@ use lib.IntN.{ℤ, nat_abs}
 use lib.ListN.{length, length-map}
 use Rattle.definition.specs.declared.Refusal.{Refusal}
 use Rattle.definition.specs.Limits.{most_definitions, deepest, most_calls, most_shapes}
-use Rattle.definition.specs.Rules.{TooManyDefinitions, OffTheAxes, BeingDrawn, TooDeep, refuse}
+use Rattle.definition.specs.declared.Rule.TheVariants.{TooManyDefinitions, OffTheAxes, BeingDrawn, TooDeep}
+use Rattle.definition.specs.Rules.{refuse}
 use Rattle.definition.specs.Words.{Placed, at, any, none?}
 use Rattle.definition.specs.Commands.{Shape, Turn, Command, draw, layer, call, start, finish, delete, nothing}
 use Rattle.definition.specs.Standing.{Standing, after}

@@ -18,7 +18,8 @@ use Rattle.grammar.proofs.Markings.{one_marking}
 use Rattle.definition.specs.declared.Refusal.{Refusal}
 use Rattle.definition.specs.Limits.{most_layers}
 use Rattle.definition.specs.Words.{Placed, at}
-use Rattle.definition.specs.Rules.{TooManyLayers, refuse}
+use Rattle.definition.specs.declared.Rule.TheVariants.{TooManyLayers}
+use Rattle.definition.specs.Rules.{refuse}
 use Rattle.definition.specs.Commands.{Command, layer, commands}
 use Rattle.definition.specs.Summary.{Names, names_after, names_from, layer_names, too_many_from}
 use Rattle.names.specs.Names.{packed}

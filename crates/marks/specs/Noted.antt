@@ -5,7 +5,8 @@ use Rattle.std.specs.Prelude.{◌≡◌, List, [], ℕ, ◌+◌, ◌^◌, ◌≤
 use Rattle.std.proofs.Math.Option.{none, some}
 use Rattle.definition.specs.Limits.{most_layers}
 use Rattle.definition.specs.Words.{Placed}
-use Rattle.definition.specs.Rules.{TooManyLayers, refuse}
+use Rattle.definition.specs.declared.Rule.TheVariants.{TooManyLayers}
+use Rattle.definition.specs.Rules.{refuse}
 use Rattle.definition.specs.Commands.{Command}
 use Rattle.definition.specs.Summary.{Names, layer_names, too_many_from}
 use Rattle.names.specs.Names.{name_of, packed}

@@ -19,7 +19,8 @@ use Rattle.definition.specs.Drawing.{Chain, Event, called, refused, Passage, bar
 use Rattle.definition.specs.Counts.{finished, stopped, counted}
 use Rattle.definition.specs.Counts.{counts as tallied, Counts as Tally}
 use Rattle.definition.specs.Limits.{most_calls}
-use Rattle.definition.specs.Rules.{Rule, OffTheAxes, UndefinedSymbol, BeingDrawn, TooDeep, TooManyCalls, refuse}
+use Rattle.definition.specs.declared.Rule.TheVariants.{OffTheAxes, UndefinedSymbol, BeingDrawn, TooDeep, TooManyCalls}
+use Rattle.definition.specs.Rules.{refuse}
 use Rattle.counts.specs.declared.Counts.{Counts}
 use Rattle.counts.specs.Counting.{tally, CountsCall}
 use Rattle.counts.proofs.ByValue.{call-goes, call-stops}

@@ -10,7 +10,8 @@ use lib.IntN.{ℤ, nat_abs}
 use lib.ListN.{length}
 use Rattle.definition.specs.Limits.{most_definitions}
 use Rattle.definition.specs.Words.{Placed, at}
-use Rattle.definition.specs.Rules.{TooManyDefinitions, TooFewWords, refuse}
+use Rattle.definition.specs.declared.Rule.TheVariants.{TooManyDefinitions, TooFewWords}
+use Rattle.definition.specs.Rules.{refuse}
 use Rattle.definition.specs.Commands.{Number, Command, layer, delete}
 use Rattle.definition.specs.Standing.{Standing, after}
 use Rattle.definition.specs.Table.{Step, Definition, Table, enter}

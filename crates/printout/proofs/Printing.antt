@@ -11,7 +11,8 @@ use lib.Seq.{take_at}
 use Rattle.definition.specs.Counts.{shapes_of}
 use Rattle.definition.specs.Words.{bytes_of, those}
 use Rattle.definition.specs.Position.{line_of, column_of, since_line_end}
-use Rattle.definition.specs.Rules.{TextTooLong, refuse}
+use Rattle.definition.specs.declared.Rule.TheVariants.{TextTooLong}
+use Rattle.definition.specs.Rules.{refuse}
 use Rattle.definition.specs.Flat.{digits, decimal, flat}
 use Rattle.definition.specs.declared.Answer.{Answer}
 use Rattle.definition.specs.Answer.{Outcome, accepted, rejected, flat_file, success, failure, given_back, Answers, Promised}

@@ -2,7 +2,8 @@
 #![tactic(auto)]
 
 ghost use Rattle.std.specs.Prelude.{◌≡◌, [], ◌≤◌, length};
-ghost use Rattle.definition.specs.Rules.{TextTooLong, refuse};
+ghost use Rattle.definition.specs.declared.Rule.TheVariants.{TextTooLong};
+ghost use Rattle.definition.specs.Rules.{refuse};
 ghost use Rattle.definition.specs.Answer.{rejected};
 ghost use Rattle.definition.specs.Listing.{listing};
 ghost use Rattle.printout.specs.Prints.{Lays, Prints, words_lent, room_length, listing_length};

@@ -11,7 +11,8 @@ use lib.Seq.{sets}
 use Rattle.grammar.specs.Viable.{Judged}
 use Rattle.definition.specs.declared.Answer.{Answer}
 use Rattle.definition.specs.declared.Refusal.{Refusal}
-use Rattle.definition.specs.Rules.{FlatFileTooLong, refuse}
+use Rattle.definition.specs.declared.Rule.TheVariants.{FlatFileTooLong}
+use Rattle.definition.specs.Rules.{refuse}
 use Rattle.definition.specs.Commands.{commands}
 use Rattle.definition.specs.Standing.{outside}
 use Rattle.definition.specs.Faults.{first_fault}

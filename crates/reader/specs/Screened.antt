@@ -6,7 +6,8 @@ use Rattle.definition.specs.declared.Answer.{Answer}
 use Rattle.definition.specs.Answer.{Outcome, Answers, given_back, room_after}
 use Rattle.definition.specs.Held.{held_to}
 use Rattle.definition.specs.Limits.{most_bytes}
-use Rattle.definition.specs.Rules.{TextTooLong, refuse}
+use Rattle.definition.specs.declared.Rule.TheVariants.{TextTooLong}
+use Rattle.definition.specs.Rules.{refuse}
 use Rattle.definition.specs.Commands.{commands}
 use Rattle.definition.specs.Rounded.{rounded}
 use Rattle.passing.specs.Passed.{Passed, to_draw, dry}

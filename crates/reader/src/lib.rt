@@ -4,7 +4,8 @@
 
 ghost use Rattle.std.specs.Prelude.{◌≡◌, ◌∷◌, [], ◌^◌, ◌≤◌, length};
 ghost use Rattle.std.proofs.lemmas.List.Edits.{sets};
-ghost use Rattle.definition.specs.Rules.{FlatFileTooLong, refuse};
+ghost use Rattle.definition.specs.declared.Rule.TheVariants.{FlatFileTooLong};
+ghost use Rattle.definition.specs.Rules.{refuse};
 ghost use Rattle.definition.specs.Answer.{failure, Promised};
 ghost use Rattle.chain.specs.Chain.{run_length};
 ghost use Rattle.passing.specs.Passed.{Passed};

@@ -14,7 +14,8 @@ use lib.IntN.{ℤ}
 use Rattle.definition.specs.Words.{those}
 use Rattle.definition.specs.Commands.{Number}
 use Rattle.definition.specs.declared.Refusal.{Refusal}
-use Rattle.definition.specs.Rules.{Rule, number_of, refuse}
+use Rattle.definition.specs.declared.Rule.{Rule}
+use Rattle.definition.specs.Rules.{number_of, refuse}
 use Rattle.definition.specs.Faults.{at_numbers, at_command}
 use Rattle.laws.proofs.Lists.Range.{All}
 use Rattle.checking.specs.Account.{Blame, blame, when, sooner, foremost}

@@ -5,7 +5,8 @@ use mathlib.Core.List.{List}
 use Prim.Native.Nat.{ℕ}
 use Rattle.grammar.specs.Viable.{Judged}
 use Rattle.grammar.proofs.Unique.{one_verdict}
-use Rattle.definition.specs.Rules.{NotInGrammar, refuse}
+use Rattle.definition.specs.declared.Rule.TheVariants.{NotInGrammar}
+use Rattle.definition.specs.Rules.{refuse}
 use Rattle.reading.specs.Refusal.{Checked, by_verdict, Refuses}
 use Rattle.std.specs.Prelude.{Err, Ok, Result}
 use Rattle.definition.specs.declared.Refusal.{Refusal}

@@ -7,7 +7,8 @@ use Rattle.grammar.specs.Notation.{Letter}
 use Rattle.grammar.specs.Viable.{Marked, Judged}
 use Rattle.grammar.specs.Steps.{marked}
 use Rattle.definition.specs.declared.Refusal.{Refusal}
-use Rattle.definition.specs.Rules.{NotInGrammar, refuse}
+use Rattle.definition.specs.declared.Rule.TheVariants.{NotInGrammar}
+use Rattle.definition.specs.Rules.{refuse}
 use Rattle.definition.specs.Commands.{commands}
 use Rattle.definition.specs.Faults.{first_fault}
 use Rattle.definition.specs.Rounded.{rounded}

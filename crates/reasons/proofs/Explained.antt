@@ -13,7 +13,8 @@ use lib.IntN.{ℤ}
 use lib.ListN.{length}
 use Rattle.definition.specs.Limits.{most_definitions, deepest}
 use Rattle.definition.specs.Words.{Placed, at, any}
-use Rattle.definition.specs.Rules.{TooManyDefinitions, OffTheAxes, UndefinedSymbol, BeingDrawn, TooDeep, refuse}
+use Rattle.definition.specs.declared.Rule.TheVariants.{TooManyDefinitions, OffTheAxes, UndefinedSymbol, BeingDrawn, TooDeep}
+use Rattle.definition.specs.Rules.{refuse}
 use Rattle.definition.specs.Commands.{Shape, Turn}
 use Rattle.definition.specs.Turns.{moved, off_axes}
 use Rattle.definition.specs.Table.{Step, shape, instance, setting, Definition, Table, find, enter}

@@ -14,7 +14,8 @@ use lib.ListN.{length, drop}
 use Rattle.definition.specs.declared.Refusal.{Refusal}
 use Rattle.definition.specs.Limits.{most_calls, most_shapes}
 use Rattle.definition.specs.Words.{none?, first}
-use Rattle.definition.specs.Rules.{TooManyCalls, TooManyShapes, refuse}
+use Rattle.definition.specs.declared.Rule.TheVariants.{TooManyCalls, TooManyShapes}
+use Rattle.definition.specs.Rules.{refuse}
 use Rattle.definition.specs.Table.{Table, Definition, find}
 use Rattle.definition.specs.Drawing.{Chain, Drawn, Event, called, drew, entered, removed, refused}
 use Rattle.definition.specs.Counts.{Counts, counts, End, finished, stopped, counted, go_on, ending, shapes_of}

@@ -14,7 +14,9 @@ use lib.ListN.{length, length-append}
 use Rattle.definition.specs.declared.Refusal.{Refusal}
 use Rattle.definition.specs.Limits.{most_definitions, most_shapes, deepest}
 use Rattle.definition.specs.Words.{Placed, at}
-use Rattle.definition.specs.Rules.{Rule, TooManyDefinitions, TooFewWords, TooFewRecords, TooManyShapes, refuse}
+use Rattle.definition.specs.declared.Rule.{Rule}
+use Rattle.definition.specs.declared.Rule.TheVariants.{TooManyDefinitions, TooFewWords, TooFewRecords, TooManyShapes}
+use Rattle.definition.specs.Rules.{refuse}
 use Rattle.definition.specs.Commands.{Shape, Turn}
 use Rattle.definition.specs.Table.{Step, shape, instance, setting, Definition, Table, enter}
 use Rattle.definition.specs.Drawing.{Deed, output, define, remove, Chain, Drawn, Event, called, drew, entered, removed, refused}

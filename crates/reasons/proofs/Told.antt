@@ -15,7 +15,9 @@ use Rattle.definition.specs.declared.Answer.{Answer}
 use Rattle.definition.specs.declared.Refusal.{Refusal}
 use Rattle.definition.specs.Limits.{most_bytes, most_shapes, deepest}
 use Rattle.definition.specs.Words.{Placed}
-use Rattle.definition.specs.Rules.{Rule, FlatFileTooLong, NoSuchShape, TooManyShapes, number_of, refuse}
+use Rattle.definition.specs.declared.Rule.{Rule}
+use Rattle.definition.specs.declared.Rule.TheVariants.{FlatFileTooLong, NoSuchShape, TooManyShapes}
+use Rattle.definition.specs.Rules.{number_of, refuse}
 use Rattle.definition.specs.Commands.{Command, commands}
 use Rattle.definition.specs.Faults.{first_fault}
 use Rattle.definition.specs.Drawing.{Chain, Drawn, Event, drew}

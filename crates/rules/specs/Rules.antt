@@ -9,7 +9,8 @@ use Rattle.pieces.specs.Pieces.{letter_s}
 use Rattle.rules.specs.declared.AtScale.{AtScale}
 use Rattle.rules.specs.Written.{one}
 use Rattle.rules.specs.Letters.{letter_b, letter_c, letter_d, letter_p, letter_r, letter_t, letter_w, least_points, no_refusal}
-use Rattle.definition.specs.Rules.{Rule, NumberTooLarge, ZeroFactor, ScaledTooLarge, DegenerateCommand, NoLayer, TooManyParts}
+use Rattle.definition.specs.declared.Rule.{Rule}
+use Rattle.definition.specs.declared.Rule.TheVariants.{NumberTooLarge, ZeroFactor, ScaledTooLarge, DegenerateCommand, NoLayer, TooManyParts}
 
 -- a command with the first letter l is a shape
 unfoldable pub shapely : ℕ → Bool

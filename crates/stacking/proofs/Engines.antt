@@ -17,7 +17,9 @@ use Rattle.definition.specs.declared.Answer.{Answer}
 use Rattle.definition.specs.declared.Refusal.{Refusal}
 use Rattle.definition.specs.Limits.{most_bytes, deepest}
 use Rattle.definition.specs.Words.{Placed}
-use Rattle.definition.specs.Rules.{Rule, NotInGrammar, TooFewRecords, number_of, refuse}
+use Rattle.definition.specs.declared.Rule.{Rule}
+use Rattle.definition.specs.declared.Rule.TheVariants.{NotInGrammar, TooFewRecords}
+use Rattle.definition.specs.Rules.{number_of, refuse}
 use Rattle.definition.specs.Commands.{Turn, Command, commands}
 use Rattle.definition.specs.Faults.{first_fault}
 use Rattle.definition.specs.Table.{Table}

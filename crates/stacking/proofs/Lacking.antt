@@ -9,7 +9,8 @@ use native.Mathlib.Omega.{arith}
 use borrow.Author.Tests.{le-leb, leb-true, leb-false}
 use lib.Dec.{leb}
 use lib.ListN.{length}
-use Rattle.definition.specs.Rules.{TooFewRecords, refuse}
+use Rattle.definition.specs.declared.Rule.TheVariants.{TooFewRecords}
+use Rattle.definition.specs.Rules.{refuse}
 use Rattle.definition.specs.Table.{Definition}
 use Rattle.definition.specs.Drawing.{Chain, Event, called, drew, entered, removed, refused}
 use Rattle.definition.specs.Counts.{Counts, End, finished, stopped, counted, go_on, ending}

@@ -14,7 +14,8 @@ use lib.IntN.{ℤ}
 use lib.ListN.{length, length-append}
 use Rattle.definition.specs.Limits.{most_definitions, deepest}
 use Rattle.definition.specs.Words.{Placed, at, any}
-use Rattle.definition.specs.Rules.{TooManyDefinitions, TooFewWords, OffTheAxes, BeingDrawn, TooDeep, refuse}
+use Rattle.definition.specs.declared.Rule.TheVariants.{TooManyDefinitions, TooFewWords, OffTheAxes, BeingDrawn, TooDeep}
+use Rattle.definition.specs.Rules.{refuse}
 use Rattle.definition.specs.Commands.{Shape, Turn, Command}
 use Rattle.definition.specs.Standing.{outside}
 use Rattle.definition.specs.Turns.{off_axes}

@@ -15,7 +15,8 @@ use Rattle.grammar.specs.Notation.{Letter}
 use Rattle.grammar.proofs.Markings.{marking_is}
 use Rattle.definition.specs.Limits.{most_definitions}
 use Rattle.definition.specs.Words.{Placed, at, those}
-use Rattle.definition.specs.Rules.{TooManyDefinitions, TooFewWords, refuse}
+use Rattle.definition.specs.declared.Rule.TheVariants.{TooManyDefinitions, TooFewWords}
+use Rattle.definition.specs.Rules.{refuse}
 use Rattle.definition.specs.Commands.{Number, Command, delete, commands}
 use Rattle.definition.specs.Standing.{outside}
 use Rattle.definition.specs.Table.{Step, Definition, Table, enter, forget}
@@ -55,7 +56,6 @@ use Rattle.std.specs.Prelude.{Err, None, Ok, Option, Result}
 use Rattle.commands.specs.declared.Decoded.{Decoded}
 use Rattle.keeping.specs.declared.Taken.{Taken}
 use Rattle.definition.specs.declared.Rule.{Rule}
-use Rattle.definition.specs.declared.Rule.TheVariants.{TooManyDefinitions, TooFewWords}
 
 -- ---- what keeps the table
 

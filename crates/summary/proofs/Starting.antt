@@ -18,7 +18,9 @@ use Rattle.definition.specs.declared.Refusal.{Refusal}
 use Rattle.definition.specs.declared.Summary.{Summary}
 use Rattle.definition.specs.Limits.{most_bytes}
 use Rattle.definition.specs.Words.{Placed, those, first}
-use Rattle.definition.specs.Rules.{Rule, NumberTooLarge, ZeroFactor, ScaledTooLarge, DegenerateCommand, NoLayer, TooManyParts, TooManyLayers, number_of, refuse}
+use Rattle.definition.specs.declared.Rule.{Rule}
+use Rattle.definition.specs.declared.Rule.TheVariants.{NumberTooLarge, ZeroFactor, ScaledTooLarge, DegenerateCommand, NoLayer, TooManyParts, TooManyLayers}
+use Rattle.definition.specs.Rules.{number_of, refuse}
 use Rattle.definition.specs.Commands.{Number, Command, commands}
 use Rattle.definition.specs.Standing.{Standing, outside, after, scaled}
 use Rattle.definition.specs.Faults.{beyond, distances, numbers_of, zero_scale, degenerate, layerless, has_too_many, at_numbers, at_command, faults, all_faults, first_fault}

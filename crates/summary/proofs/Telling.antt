@@ -16,7 +16,9 @@ use Rattle.definition.specs.declared.Refusal.{Refusal}
 use Rattle.definition.specs.declared.Summary.{Summary}
 use Rattle.definition.specs.Limits.{deepest, most_layers}
 use Rattle.definition.specs.Words.{Placed, any, those, first}
-use Rattle.definition.specs.Rules.{Rule, UndefinedSymbol, number_of}
+use Rattle.definition.specs.declared.Rule.{Rule}
+use Rattle.definition.specs.declared.Rule.TheVariants.{UndefinedSymbol}
+use Rattle.definition.specs.Rules.{number_of}
 use Rattle.definition.specs.Commands.{commands}
 use Rattle.definition.specs.Table.{Step, Definition, Table, find}
 use Rattle.definition.specs.Counts.{End, stopped}

@@ -10,7 +10,8 @@ use lib.Dec.{lit≤}
 use lib.IntN.{pos}
 use lib.ListN.{length}
 use Rattle.definition.specs.Words.{bytes_of}
-use Rattle.definition.specs.Rules.{TextTooLong, refuse}
+use Rattle.definition.specs.declared.Rule.TheVariants.{TextTooLong}
+use Rattle.definition.specs.Rules.{refuse}
 use Rattle.definition.specs.Flat.{decimal}
 use Rattle.definition.specs.Answer.{rejected, Answers, too_long}
 use Rattle.definition.specs.Listing.{Lists, over}

@@ -11,7 +11,8 @@ use Rattle.grammar.specs.Notation.{Letter}
 use Rattle.grammar.proofs.Markings.{marking_is}
 use Rattle.definition.specs.Limits.{most_definitions}
 use Rattle.definition.specs.Words.{Placed}
-use Rattle.definition.specs.Rules.{TooManyDefinitions, TooFewWords, refuse}
+use Rattle.definition.specs.declared.Rule.TheVariants.{TooManyDefinitions, TooFewWords}
+use Rattle.definition.specs.Rules.{refuse}
 use Rattle.definition.specs.Commands.{Command, commands}
 use Rattle.definition.specs.Standing.{outside}
 use Rattle.definition.specs.Table.{Definition, Table, enter}

@@ -14,7 +14,7 @@ unfolding entry_of
 lent_entry n q k l = ap (λ (t : List ℕ). get_or t (q * kind_count + k) 0) l.is
 
 pub overflow_cast-result : goal.overflow_cast-result
-overflow_cast-result c = let e = lent_entry c.args.next.now c.args.q c.args.k c.requires.next_lent in let h = entry_below c.args.q c.args.k c.requires.q_lt_state_count.0 c.requires.q_lt_state_count.1 in omega arith
+overflow_cast-result c = let e = lent_entry c.args.recogniser.now.next c.args.q c.args.k c.args.recogniser.now.next_lent in let h = entry_below c.args.q c.args.k c.requires.0 c.requires.1 in omega arith
 
 pub returns : goal.returns
-returns c = lent_entry c.args.next.now c.args.q c.args.k c.requires.next_lent
+returns c = lent_entry c.args.recogniser.now.next c.args.q c.args.k c.args.recogniser.now.next_lent

@@ -16,7 +16,7 @@ lent-kind k b l h =
     (e, subst (λ (x : ℕ). x < kind_count) (sym e) (kind-below b h))
 
 pub overflow_cast-result-2 : goal.overflow_cast-result-2
-overflow_cast-result-2 c = let r = lent-kind c.args.kinds.now c.args.b c.requires c.ranges.b.fits in omega arith
+overflow_cast-result-2 c = let r = lent-kind c.args.recogniser.now.kinds c.args.b c.args.recogniser.now.kinds_lent c.ranges.b.fits in omega arith
 
 pub returns : goal.returns
-returns c = lent-kind c.args.kinds.now c.args.b c.requires c.ranges.b.fits
+returns c = lent-kind c.args.recogniser.now.kinds c.args.b c.args.recogniser.now.kinds_lent c.ranges.b.fits

@@ -14,7 +14,9 @@ use Rattle.grammar.proofs.Verdicts.{Bytes}
 use Rattle.definition.specs.Limits.{deepest}
 use Rattle.definition.specs.Words.{Placed}
 use Rattle.definition.specs.declared.Refusal.{Refusal}
-use Rattle.definition.specs.Rules.{Rule, TextTooLong, NotInGrammar, FlatFileTooLong, refuse}
+use Rattle.definition.specs.declared.Rule.{Rule}
+use Rattle.definition.specs.declared.Rule.TheVariants.{TextTooLong, NotInGrammar, FlatFileTooLong}
+use Rattle.definition.specs.Rules.{refuse}
 use Rattle.definition.specs.Commands.{Command, commands}
 use Rattle.definition.specs.Standing.{outside}
 use Rattle.definition.specs.Drawing.{Chain, Event, deeds}

@@ -12,7 +12,9 @@ use Rattle.grammar.specs.Notation.{Letter}
 use Rattle.grammar.specs.Viable.{Marked, Grammatical, LongestViable}
 use Rattle.definition.specs.Limits.{most_bytes}
 use Rattle.definition.specs.Words.{Placed}
-use Rattle.definition.specs.Rules.{Rule, TextTooLong, NotInGrammar, XOutOfRange, YOutOfRange, FlatFileTooLong, refuse}
+use Rattle.definition.specs.declared.Rule.{Rule}
+use Rattle.definition.specs.declared.Rule.TheVariants.{TextTooLong, NotInGrammar, XOutOfRange, YOutOfRange, FlatFileTooLong}
+use Rattle.definition.specs.Rules.{refuse}
 use lib.IntN.{ℤ}
 use Rattle.definition.specs.Commands.{Shape, Turn, Command, commands}
 use Rattle.definition.specs.Table.{Table}

@@ -14,7 +14,8 @@ use Rattle.grammar.proofs.Markings.{one_marking}
 use Rattle.definition.specs.declared.Refusal.{Refusal}
 use Rattle.definition.specs.Limits.{most_bytes}
 use Rattle.definition.specs.Words.{Placed}
-use Rattle.definition.specs.Rules.{TooFewWords, refuse}
+use Rattle.definition.specs.declared.Rule.TheVariants.{TooFewWords}
+use Rattle.definition.specs.Rules.{refuse}
 use Rattle.definition.specs.Commands.{Command, commands}
 use Rattle.definition.specs.Faults.{first_fault}
 use Rattle.definition.specs.Standing.{outside}

@@ -12,7 +12,8 @@ use Rattle.grammar.specs.Notation.{Letter, dec, has, stop, skip}
 use Rattle.grammar.specs.Tables.{letter}
 use Rattle.definition.specs.declared.Refusal.{Refusal}
 use Rattle.definition.specs.Limits.{most_points}
-use Rattle.definition.specs.Rules.{Rule, NumberTooLarge, ScaledTooLarge}
+use Rattle.definition.specs.declared.Rule.{Rule}
+use Rattle.definition.specs.declared.Rule.TheVariants.{NumberTooLarge, ScaledTooLarge}
 use Rattle.definition.specs.Words.{Placed, at, Point, any, those, same}
 use Rattle.definition.specs.Commands.{Shape, Number, Command, draw, layer, command_at, commands}
 use Rattle.definition.specs.Standing.{outside, after, given, scaled, scaled_shape}

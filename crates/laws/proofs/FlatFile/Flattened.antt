@@ -16,7 +16,8 @@ use Rattle.grammar.specs.Viable.{Marked}
 use Rattle.definition.specs.declared.Refusal.{Refusal}
 use Rattle.definition.specs.Limits.{most_bytes, most_calls, most_shapes}
 use Rattle.definition.specs.Words.{Placed, first}
-use Rattle.definition.specs.Rules.{TooManyCalls, TooManyShapes, FlatFileTooLong, refuse}
+use Rattle.definition.specs.declared.Rule.TheVariants.{TooManyCalls, TooManyShapes, FlatFileTooLong}
+use Rattle.definition.specs.Rules.{refuse}
 use Rattle.definition.specs.Commands.{Shape, Command, commands}
 use Rattle.definition.specs.Standing.{outside}
 use Rattle.definition.specs.Faults.{first_fault}

@@ -19,7 +19,9 @@ use Rattle.grammar.specs.Notation.{Letter}
 use Rattle.grammar.specs.Viable.{Marked}
 use Rattle.definition.specs.declared.Refusal.{Refusal}
 use Rattle.definition.specs.Limits.{largest, most_points, most_turns}
-use Rattle.definition.specs.Rules.{Rule, NumberTooLarge, ZeroFactor, ScaledTooLarge, DegenerateCommand, NoLayer, TooManyParts, refuse, order}
+use Rattle.definition.specs.declared.Rule.{Rule}
+use Rattle.definition.specs.declared.Rule.TheVariants.{NumberTooLarge, ZeroFactor, ScaledTooLarge, DegenerateCommand, NoLayer, TooManyParts}
+use Rattle.definition.specs.Rules.{refuse, order}
 use Rattle.definition.specs.Words.{Placed, at, Point, any, those, first}
 use Rattle.definition.specs.Commands.{Number, Kind, box, flash, wire, polygon, Shape, Turn, translate, mirror_x, mirror_y, rotate}
 use Rattle.definition.specs.Commands.{Command, draw, layer, call, start, finish, delete, nothing, commands}

@@ -9,9 +9,11 @@ use native.Mathlib.Omega.{arith}
 use lib.Dec.{eqb}
 use lib.ListN.{get_or}
 use Rattle.definition.specs.declared.Refusal.{Refusal}
-use Rattle.definition.specs.Rules.{Rule, TextTooLong, NotInGrammar, NumberTooLarge, ZeroFactor, ScaledTooLarge, DegenerateCommand, NoLayer}
-use Rattle.definition.specs.Rules.{TooManyParts, TooManyLayers, TooManyDefinitions, TooFewWords, OffTheAxes, UndefinedSymbol, BeingDrawn, TooDeep, TooFewRecords, TooManyCalls, XOutOfRange, YOutOfRange}
-use Rattle.definition.specs.Rules.{TooManyShapes, FlatFileTooLong, NoSuchShape, number_of, refuse, order}
+use Rattle.definition.specs.declared.Rule.{Rule}
+use Rattle.definition.specs.declared.Rule.TheVariants.{TextTooLong, NotInGrammar, NumberTooLarge, ZeroFactor, ScaledTooLarge, DegenerateCommand, NoLayer}
+use Rattle.definition.specs.declared.Rule.TheVariants.{TooManyParts, TooManyLayers, TooManyDefinitions, TooFewWords, OffTheAxes, UndefinedSymbol, BeingDrawn, TooDeep, TooFewRecords, TooManyCalls, XOutOfRange, YOutOfRange}
+use Rattle.definition.specs.declared.Rule.TheVariants.{TooManyShapes, FlatFileTooLong, NoSuchShape}
+use Rattle.definition.specs.Rules.{number_of, refuse, order}
 
 abbrev pub rank_in : List Rule → (number : ℕ) → ℕ  -- how many rules stand before the one of this number
 rank_in [] n = 0

@@ -9,7 +9,8 @@ use Prim.Native.Nat.{ℕ}
 use lib.Dec.{T}
 use lib.IntN.{ℤ}
 use Rattle.definition.specs.Words.{Point, any}
-use Rattle.definition.specs.Rules.{XOutOfRange, YOutOfRange, refuse}
+use Rattle.definition.specs.declared.Rule.TheVariants.{XOutOfRange, YOutOfRange}
+use Rattle.definition.specs.Rules.{refuse}
 use Rattle.definition.specs.Commands.{Shape, Turn}
 use Rattle.definition.specs.Faults.{beyond, both}
 use Rattle.definition.specs.Turns.{moved}

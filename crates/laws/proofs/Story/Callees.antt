@@ -13,7 +13,8 @@ use lib.IntN.{ℤ}
 use lib.ListN.{length}
 use Rattle.definition.specs.Limits.{deepest}
 use Rattle.definition.specs.Words.{at, any}
-use Rattle.definition.specs.Rules.{Rule, OffTheAxes, UndefinedSymbol, BeingDrawn, TooDeep, TooManyCalls}
+use Rattle.definition.specs.declared.Rule.{Rule}
+use Rattle.definition.specs.declared.Rule.TheVariants.{OffTheAxes, UndefinedSymbol, BeingDrawn, TooDeep, TooManyCalls}
 use Rattle.definition.specs.Commands.{Turn}
 use Rattle.definition.specs.Turns.{off_axes}
 use Rattle.definition.specs.Table.{Definition, Table, find}

@@ -9,7 +9,8 @@ use native.Mathlib.Omega.{arith}
 use lib.ListN.{length}
 use Rattle.definition.specs.declared.Refusal.{Refusal}
 use Rattle.definition.specs.Limits.{most_calls, most_shapes}
-use Rattle.definition.specs.Rules.{TooManyCalls, TooManyShapes, refuse}
+use Rattle.definition.specs.declared.Rule.TheVariants.{TooManyCalls, TooManyShapes}
+use Rattle.definition.specs.Rules.{refuse}
 use Rattle.definition.specs.Words.{Placed, none?}
 use Rattle.definition.specs.Table.{Definition, Table, find}
 use Rattle.definition.specs.Drawing.{Chain, Drawn, Event, called, drew, entered, removed, refused}

@@ -13,7 +13,9 @@ use lib.Dec.{ltb, eqb}
 use lib.IntN.{ℤ}
 use lib.ListN.{length, length-append}
 use Rattle.definition.specs.Limits.{most_definitions, deepest}
-use Rattle.definition.specs.Rules.{Rule, TooManyDefinitions, TooFewWords, UndefinedSymbol, BeingDrawn, refuse}
+use Rattle.definition.specs.declared.Rule.{Rule}
+use Rattle.definition.specs.declared.Rule.TheVariants.{TooManyDefinitions, TooFewWords, UndefinedSymbol, BeingDrawn}
+use Rattle.definition.specs.Rules.{refuse}
 use Rattle.definition.specs.Words.{Placed, at}
 use Rattle.definition.specs.Commands.{Turn}
 use Rattle.definition.specs.Table.{Step, shape, instance, setting, Definition, Table, enter}

@@ -14,7 +14,9 @@ use lib.ListN.{length}
 use Rattle.definition.specs.declared.Refusal.{Refusal}
 use Rattle.definition.specs.Limits.{most_definitions, deepest, most_calls, most_shapes}
 use Rattle.definition.specs.Words.{Placed, at, any, those}
-use Rattle.definition.specs.Rules.{Rule, TooManyDefinitions, TooFewWords, OffTheAxes, BeingDrawn, TooDeep, TooManyCalls, XOutOfRange, YOutOfRange, TooManyShapes, refuse}
+use Rattle.definition.specs.declared.Rule.{Rule}
+use Rattle.definition.specs.declared.Rule.TheVariants.{TooManyDefinitions, TooFewWords, OffTheAxes, BeingDrawn, TooDeep, TooManyCalls, XOutOfRange, YOutOfRange, TooManyShapes}
+use Rattle.definition.specs.Rules.{refuse}
 use Rattle.definition.specs.Commands.{Shape, Turn, Command, draw, layer, call, start, finish, delete, nothing}
 use Rattle.definition.specs.Standing.{Standing, outside, after}
 use Rattle.definition.specs.Turns.{off_axes}

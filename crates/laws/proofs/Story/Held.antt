@@ -11,7 +11,8 @@ use native.Mathlib.Omega.{arith}
 use lib.Dec.{ltb}
 use borrow.Author.Tests.{lt-ltb, le-ltb, ltb-true, ltb-false}
 use Rattle.definition.specs.declared.Refusal.{Refusal}
-use Rattle.definition.specs.Rules.{TooFewWords, refuse}
+use Rattle.definition.specs.declared.Rule.TheVariants.{TooFewWords}
+use Rattle.definition.specs.Rules.{refuse}
 use Rattle.definition.specs.Table.{Definition, Table, enter}
 use Rattle.definition.specs.Drawing.{Chain, Drawn, Event, called, drew, entered, removed, refused}
 use Rattle.definition.specs.Counts.{Counts, End, finished, stopped, counted, go_on, ending, shapes_of}

@@ -11,7 +11,8 @@ use lib.IntN.{ℤ}
 use lib.ListN.{length}
 use Rattle.definition.specs.Limits.{most_definitions, deepest}
 use Rattle.definition.specs.Words.{Placed, at, any, those}
-use Rattle.definition.specs.Rules.{TooManyDefinitions, OffTheAxes, BeingDrawn, TooDeep, refuse}
+use Rattle.definition.specs.declared.Rule.TheVariants.{TooManyDefinitions, OffTheAxes, BeingDrawn, TooDeep}
+use Rattle.definition.specs.Rules.{refuse}
 use Rattle.definition.specs.Commands.{Shape, Turn, Command, draw, layer, call, start, finish, delete, nothing}
 use Rattle.definition.specs.Standing.{Standing, after}
 use Rattle.definition.specs.Faults.{beyond, both, faults, all_faults}

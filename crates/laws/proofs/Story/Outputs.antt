@@ -11,7 +11,9 @@ use lib.Dec.{eqb}
 use lib.IntN.{ℤ}
 use Rattle.definition.specs.Limits.{deepest}
 use Rattle.definition.specs.Words.{Placed, at, any}
-use Rattle.definition.specs.Rules.{Rule, OffTheAxes, BeingDrawn, TooDeep, XOutOfRange, YOutOfRange, refuse}
+use Rattle.definition.specs.declared.Rule.{Rule}
+use Rattle.definition.specs.declared.Rule.TheVariants.{OffTheAxes, BeingDrawn, TooDeep, XOutOfRange, YOutOfRange}
+use Rattle.definition.specs.Rules.{refuse}
 use Rattle.definition.specs.Commands.{Shape, Turn}
 use Rattle.definition.specs.Turns.{off_axes}
 use Rattle.definition.specs.Table.{Step, shape, instance, setting, Definition, Table, find}

@@ -10,7 +10,8 @@ use lib.Dec.{ltb, eqb}
 use lib.IntN.{ℤ}
 use lib.ListN.{length}
 use Rattle.definition.specs.Limits.{most_definitions, deepest, most_calls, most_shapes}
-use Rattle.definition.specs.Rules.{Rule, TooManyDefinitions}
+use Rattle.definition.specs.declared.Rule.{Rule}
+use Rattle.definition.specs.declared.Rule.TheVariants.{TooManyDefinitions}
 use Rattle.definition.specs.Words.{those}
 use Rattle.definition.specs.Commands.{Turn}
 use Rattle.definition.specs.Table.{Definition, Table, enter, forget}

@@ -13,7 +13,8 @@ use lib.IntN.{ℤ}
 use lib.ListN.{length}
 use Rattle.definition.specs.Limits.{most_definitions, deepest}
 use Rattle.definition.specs.Words.{Placed, at, those}
-use Rattle.definition.specs.Rules.{TooManyDefinitions, refuse}
+use Rattle.definition.specs.declared.Rule.TheVariants.{TooManyDefinitions}
+use Rattle.definition.specs.Rules.{refuse}
 use Rattle.definition.specs.Commands.{Shape, Turn, Command, draw, layer, call, start, finish, delete, nothing}
 use Rattle.definition.specs.Standing.{Standing, outside, after}
 use Rattle.definition.specs.Table.{Step, shape, instance, setting, Definition, Table, enter, forget}
