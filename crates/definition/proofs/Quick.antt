@@ -1,6 +1,6 @@
 -- The account over the table's rows is the one that contracts name: a row's entry is the table's, so each byte leads to the same and has the same role.
 -- Assumes nothing.
-use Rattle.std.specs.Prelude.{if◌then◌else◌}
+use Rattle.std.specs.Prelude.{if◌then◌else◌, Err, Ok, Result}
 use mathlib.Core.Path.{◌≡◌, refl, sym, ap, ◌∙◌, subst}
 use mathlib.Core.Bool.{Bool, true, ◌&&◌}
 use mathlib.Core.List.{List, [], ◌∷◌}
@@ -28,7 +28,6 @@ use Rattle.definition.specs.Computed.{verdict, answer_of, quick_outcome, quick_a
 use Rattle.definition.proofs.Right.{right}
 use Rattle.definition.proofs.Summed.{summary_right}
 use Rattle.definition.specs.Quick.{entry_unit, packed, packed_rows, entry_in, marking_by, verdict_by, quick_letters, quick_verdict}
-use Rattle.std.specs.Prelude.{Err, Ok, Result}
 
 -- ---- a packed entry is the table's
 

@@ -1,6 +1,6 @@
 -- What the function `reason_for` computes of a text and a count is allowed, and only one reason is.
 -- Assumes nothing.
-use Rattle.std.specs.Prelude.{if◌then◌else◌}
+use Rattle.std.specs.Prelude.{if◌then◌else◌, Err, Ok, Result}
 use mathlib.Core.Path.{◌≡◌, refl, sym, ap, ◌∙◌, subst}
 use mathlib.Core.Bool.{Bool, true, false, not}
 use mathlib.Core.List.{List, []}
@@ -22,7 +22,6 @@ use Rattle.definition.specs.declared.Why.{Why}
 use Rattle.definition.specs.Why.{Reason, refuses, reason_of, WhyAnswers, too_long, not_cif, read, why_told, PromisedWhy}
 use Rattle.definition.specs.Computed.{reason_verdict, reason_for}
 use Rattle.definition.proofs.Quick.{quick_letters_lem, quick_judged}
-use Rattle.std.specs.Prelude.{Err, Ok, Result}
 
 module _ (t : List ℕ) (words n : ℕ) (b : Bytes t) where
   by_verdict_lem : length t ≤ most_bytes → (v : Result Unit ℕ) → Viable.Judged t v → WhyAnswers t words n (reason_verdict v t words n)

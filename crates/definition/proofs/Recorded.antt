@@ -1,7 +1,7 @@
 -- A row of Rows with the records lent (RULES 8, request 7); a row that computes is a row that is promised. What `answer_with` computes is allowed. And rows at each
 -- level, with records that just suffice and one too few; which refusal comes first; and the chain of 21.
 -- Assumes nothing.
-use Rattle.std.specs.Prelude.{if◌then◌else◌}
+use Rattle.std.specs.Prelude.{if◌then◌else◌, Err, Ok, Result}
 use mathlib.Core.Path.{◌≡◌, refl, sym, subst}
 use mathlib.Core.Bool.{Bool, true, false, not, ◌&&◌}
 use mathlib.Core.List.{List, [], ◌∷◌}
@@ -23,7 +23,6 @@ use Rattle.definition.specs.Computed.{verdict_with, answer_with}
 use Rattle.definition.proofs.Quick.{quick_letters_lem, quick_judged}
 use Rattle.definition.proofs.Held.{number_after}
 use Rattle.definition.proofs.Rows.{Row, accepted, refused_at, in_calls, on_line, said_by, said_of, small, small_bytes, same-eq, every, by_test, Each, all_hold}
-use Rattle.std.specs.Prelude.{Err, Ok, Result}
 
 -- ---- what is computed is allowed
 

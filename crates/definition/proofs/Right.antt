@@ -1,6 +1,6 @@
 -- What the function `answer_of` computes is allowed, so that every text of bytes has an outcome; and only one outcome is.
 -- Assumes nothing.
-use Rattle.std.specs.Prelude.{if◌then◌else◌}
+use Rattle.std.specs.Prelude.{if◌then◌else◌, Err, Ok, Result}
 use mathlib.Core.Path.{◌≡◌, refl, sym, ap, ◌∙◌, subst}
 use mathlib.Core.Bool.{Bool, true, false, not}
 use mathlib.Core.List.{List, []}
@@ -21,7 +21,6 @@ use Rattle.definition.specs.Rules.{refuse}
 use Rattle.definition.specs.declared.Answer.{Answer}
 use Rattle.definition.specs.Answer.{Outcome, rejected, given_back, room_after, outcome_of, Answers, too_long, not_cif, read, Promised}
 use Rattle.definition.specs.Computed.{verdict, answer_of}
-use Rattle.std.specs.Prelude.{Err, Ok, Result}
 
 by_verdict : (t : List ℕ) (words room : ℕ) → Bytes t → length t ≤ most_bytes → (v : Result Unit ℕ) → Viable.Judged t v → Answers t words room (verdict v t words room)
 unfolding verdict

@@ -1,6 +1,6 @@
 -- What the function `summary_for` computes of a text and a symbol number is allowed, and only one summary is.
 -- Assumes nothing.
-use Rattle.std.specs.Prelude.{if◌then◌else◌}
+use Rattle.std.specs.Prelude.{if◌then◌else◌, Err, Ok, Result}
 use mathlib.Core.Path.{◌≡◌, refl, sym, ap, ◌∙◌, subst}
 use mathlib.Core.Bool.{Bool, true, false, not}
 use mathlib.Core.List.{List}
@@ -21,7 +21,6 @@ use Rattle.definition.specs.Rules.{refuse}
 use Rattle.definition.specs.declared.Summary.{Summary}
 use Rattle.definition.specs.Summary.{empty_summary, summary_of, Summarises, too_long, not_cif, read, Summarised}
 use Rattle.definition.specs.Computed.{summary_verdict, summary_for}
-use Rattle.std.specs.Prelude.{Err, Ok, Result}
 
 module _ (t : List ℕ) (words n : ℕ) (b : Bytes t) where
   by_verdict : length t ≤ most_bytes → (v : Result Unit ℕ) → Viable.Judged t v → Summarises t words n (summary_verdict v t words n)

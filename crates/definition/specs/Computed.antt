@@ -1,7 +1,7 @@
 -- What is promised, as a function, over the reader's own account of the grammar. Not to be believed: proofs/Right.antt proves it.
 -- The quick forms are over the packed table, for rows that are computed; proofs/Quick.antt proves that they are the same.
 -- Assumes nothing.
-use Rattle.std.specs.Prelude.{List, [], ℕ, ltb, length, if◌then◌else◌}
+use Rattle.std.specs.Prelude.{List, [], ℕ, ltb, length, if◌then◌else◌, Err, Ok, Result}
 use Rattle.grammar.specs.Steps.{marked, verdict_of}
 use Rattle.definition.specs.Quick.{quick_letters, quick_verdict}
 use Rattle.definition.specs.Limits.{most_bytes}
@@ -12,7 +12,6 @@ use Rattle.definition.specs.Answer.{Outcome, rejected, outcome_of}
 use Rattle.definition.specs.Records.{outcome_with}
 use Rattle.definition.specs.Summary.{empty_summary, summary_of}
 use Rattle.definition.specs.Why.{Reason, refuses, reason_of}
-use Rattle.std.specs.Prelude.{Err, Ok, Result}
 
 unfoldable pub verdict : Result Unit ℕ → List ℕ → (words room : ℕ) → Outcome
 verdict (Ok _) t words room = outcome_of (marked 0 0 t) words room

@@ -1,12 +1,11 @@
 -- The recogniser's account of a text, over a table whose rows are packed into one number each: to find an entry in a list of 2,332 was most of the time that a computed
 -- row took. Not to be believed: proofs/Quick.antt proves it equal to the account that contracts name.
 -- Assumes nothing.
-use Rattle.std.specs.Prelude.{List, [], ◌∷◌, ◌&&◌, ℕ, zero, suc, ◌+◌, ◌*◌, ◌/◌, ◌%◌, ◌^◌, eqb, get_or, drop}
+use Rattle.std.specs.Prelude.{List, [], ◌∷◌, ◌&&◌, ℕ, zero, suc, ◌+◌, ◌*◌, ◌/◌, ◌%◌, ◌^◌, eqb, get_or, drop, Err, Ok, Result}
 use Rattle.grammar.specs.Notation.{Letter, skip}
 use Rattle.grammar.specs.Tables.{state_count, kind_count, role_unit, stuck, accepting, table, roles, letter}
 use Rattle.grammar.specs.Steps.{kind_of, choose, entered, within}
 use Rattle.grammar.specs.declared.Mode.{Mode}
-use Rattle.std.specs.Prelude.{Err, Ok, Result}
 
 -- more than any entry of the table
 abbrev pub entry_unit : ℕ

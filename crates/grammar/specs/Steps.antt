@@ -1,12 +1,11 @@
 -- How the recogniser goes over a text: a state, and how many comments are open. A running account, not to be believed: proofs/Automaton.antt and
 -- proofs/Verdicts.antt prove it equal to the grammar. It stands in specs/ because contracts of the step and of crates above name it.
 -- Assumes nothing.
-use Rattle.std.specs.Prelude.{◌≡◌, Bool, true, false, ◌&&◌, List, [], ◌∷◌, ℕ, ◌+◌, ◌-◌, ◌*◌, ◌/◌, ◌%◌, ltb, eqb, get_or}
+use Rattle.std.specs.Prelude.{◌≡◌, Bool, true, false, ◌&&◌, List, [], ◌∷◌, ℕ, ◌+◌, ◌-◌, ◌*◌, ◌/◌, ◌%◌, ltb, eqb, get_or, Err, Ok, Result}
 use Rattle.grammar.specs.Notation.{Role, Letter, skip, head, second, turn, axis, sign, lead, later, name, stop}
 use Rattle.grammar.specs.Tables.{kind_count, role_unit, stuck, deep, accepting, lpar_kind, rpar_kind, foreign_kind, kinds, table, roles, insides, letter}
 use Rattle.grammar.specs.declared.Mode.{Mode}
 use Rattle.grammar.specs.declared.Move.{Move}
-use Rattle.std.specs.Prelude.{Err, Ok, Result}
 
 -- the kind of a byte, the table's entry at a state and a kind, and where it leads
 unfoldable pub kind_of : ℕ → ℕ

@@ -1,8 +1,7 @@
 -- Which texts are CIF and which can still become CIF: what refusal 2 goes by, and all that the recogniser's contract cites.
-use Rattle.std.specs.Prelude.{◌≡◌, List, [], ◌∷◌, ◌++◌, ℕ, ◌≤◌, length, take}
+use Rattle.std.specs.Prelude.{◌≡◌, List, [], ◌∷◌, ◌++◌, ℕ, ◌≤◌, length, take, Err, Ok, Result}
 use Rattle.grammar.specs.Notation.{Letter, Match}
 use Rattle.grammar.specs.Productions.{cif_file}
-use Rattle.std.specs.Prelude.{Err, Ok, Result}
 
 abbrev pub bytes : List Letter → List ℕ
 bytes [] = []

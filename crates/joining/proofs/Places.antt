@@ -217,7 +217,7 @@ both_shift k ps = record { maps = go ps }
     go (p ∷ ps) = ap (λ (x : List Number). shift k p.x ∷ shift k p.y ∷ x) (go ps)
 
 abbrev pub shift_refusal : ℕ → Refusal → Refusal
-shift_refusal k r = record { number = r.number; place = k + r.place }
+shift_refusal k r = record { rule = r.rule; place = k + r.place }
 
 -- a test of numbers finds the same ones
 at_numbers_shift : (n : Rule) (k : ℕ) (fails : ℤ → Bool) (ds : List Number) → at_numbers n fails (map (shift k) ds) ≡ map (shift_refusal k) (at_numbers n fails ds)

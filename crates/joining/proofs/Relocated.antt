@@ -46,7 +46,7 @@ module _ (f : ℕ → ℕ) where
   relocate_drawn d = record { place = f d.place; chain = map relocate d.chain; net = d.net; layer_of = d.layer_of; itself = d.itself }
 
   abbrev pub relocate_refusal : Refusal → Refusal
-  relocate_refusal r = record { number = r.number; place = f r.place }
+  relocate_refusal r = record { rule = r.rule; place = f r.place }
 
   unfoldable pub relocate_event : Event → Event
   relocate_event (called p chain d) = called (f p) (map relocate chain) (relocate_definition d)

@@ -39,7 +39,7 @@ use Rattle.reasons.proofs.Explained.{shapes_explained}
 use Rattle.reasons.proofs.Told.{Through, shapes_through, through-told, through-when, missing_told, zero-told}
 
 pub data Answered (t : List ℕ) (words count : ℕ) : Reason → Type 0 where
-  as_reader : {r : Refusal} {chain : Chain} → ((room : ℕ) → Answers t words room (rejected r chain)) → (r.number ≡ number_of FlatFileTooLong → ⊥) → Answered t words count (refuses r chain)
+  as_reader : {r : Refusal} {chain : Chain} → ((room : ℕ) → Answers t words room (rejected r chain)) → (number_of r.rule ≡ number_of FlatFileTooLong → ⊥) → Answered t words count (refuses r chain)
   no_shape : (f : Through t words) → Missing count (shapes_through f) → Answered t words count (refuses (refuse NoSuchShape 0) [])
   told : (f : Through t words) (d : Drawn) → ListedAt count (shapes_through f) d → Answered t words count (because d)
 
@@ -58,14 +58,14 @@ chain_in (refuses r chain) = chain
 
 number_in : Reason → ℕ
 number_in (because d) = 0
-number_in (refuses r chain) = r.number
+number_in (refuses r chain) = number_of r.rule
 
 -- what is refused so for every count is not refused by 18 alone: count 0 would be 26
-not-18 : {t : List ℕ} {words room : ℕ} (r : Refusal) (chain : Chain) → WhyAnswers t words 0 (refuses r chain) → Answers t words room (rejected r chain) → r.number ≡ number_of FlatFileTooLong → ⊥
+not-18 : {t : List ℕ} {words room : ℕ} (r : Refusal) (chain : Chain) → WhyAnswers t words 0 (refuses r chain) → Answers t words room (rejected r chain) → number_of r.rule ≡ number_of FlatFileTooLong → ⊥
 unfolding given_back failure number_in
 not-18 r chain w a e =
     let f = through-when (rejected r chain) a (inr e) in
-    let same : r.number ≡ 26 = ap number_in (reason_unique w (zero-told f)) in
+    let same : number_of r.rule ≡ 26 = ap number_in (reason_unique w (zero-told f)) in
     omega (arith, e, same)
 
 by_shape : {t : List ℕ} {words : ℕ} (count : ℕ) (f : Through t words) (x : Option Drawn) → numbered count (shapes_through f) ≡ x → Answered t words count (reason_found x)
@@ -164,7 +164,7 @@ refused_by_count {t} {words} {count} {p} {chain} = (λ a. there (answered a) ref
         (subst (λ (y : Chain). WhyAnswers t words count (refuses (refuse NoSuchShape 0) y)) (sym q) (missing_told count x.through x.missing))
 
 -- nothing but 26 is new: any other refusal is the reader's, whatever the room
-pub refused_as_reader : {t : List ℕ} {words count : ℕ} {r : Refusal} {chain : Chain} → WhyAnswers t words count (refuses r chain) → (r.number ≡ number_of NoSuchShape → ⊥)
+pub refused_as_reader : {t : List ℕ} {words count : ℕ} {r : Refusal} {chain : Chain} → WhyAnswers t words count (refuses r chain) → (number_of r.rule ≡ number_of NoSuchShape → ⊥)
     → (room : ℕ) → Answers t words room (rejected r chain)
 unfolding outcome_in number_in
 refused_as_reader {t} {words} {count} {r} {chain} a not = go (answered a) refl

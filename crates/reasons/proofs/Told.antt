@@ -70,11 +70,11 @@ module _ {t : List ℕ} {words : ℕ} (count : ℕ) where
   way_told (by_drawing {m} {r} {p} {chain} q e) not = read-ended m (stopped (refuse r p) chain) q e
   way_told (by_flat_file q f l) not = absurd (not refl)
 
-  pub refused_too : {room : ℕ} {r : Refusal} {chain : Chain} → Answers t words room (rejected r chain) → (r.number ≡ number_of FlatFileTooLong → ⊥) → WhyAnswers t words count (refuses r chain)
+  pub refused_too : {room : ℕ} {r : Refusal} {chain : Chain} → Answers t words room (rejected r chain) → (number_of r.rule ≡ number_of FlatFileTooLong → ⊥) → WhyAnswers t words count (refuses r chain)
   refused_too {room} {r} {chain} a not =
       let (rule, e, w) = refusal-rule a in
       subst (λ (x : Refusal). WhyAnswers t words count (refuses x chain)) (sym e)
-      (way_told w (λ h. not (ap (λ (x : Refusal). x.number) e ∙ ap number_of h)))
+      (way_told w (λ h. not (ap (λ (x : Refusal). number_of x.rule) e ∙ ap number_of h)))
 
 -- accepted, or refused by 18 alone, it is drawn through
 pub through-accepted : {t : List ℕ} {words room : ℕ} {cs : List (Placed Command)} {c : Counts} {es : List Event} → Answers t words room (accepted cs c es) → Through t words
@@ -93,11 +93,11 @@ through-when (accepted cs c es) a e = through-accepted a
 through-when (rejected r chain) a (inl e) =
     let (rule, is, w) = refusal-rule a in
     let least = number_from-1 rule in
-    let same : r.number ≡ number_of rule = ap (λ (x : Refusal). x.number) is in
+    let same : number_of r.rule ≡ number_of rule = ap (λ (x : Refusal). number_of x.rule) is in
     absurd (omega (arith, least, same, e))
 through-when (rejected r chain) a (inr e) =
     let (rule, is, w) = refusal-rule a in
-    way_through w (sym (ap (λ (x : Refusal). x.number) is) ∙ e)
+    way_through w (sym (ap (λ (x : Refusal). number_of x.rule) is) ∙ e)
 
 pub record RefusedSo (t : List ℕ) (words count : ℕ) (o : Outcome) : Type 0 where  -- the outcome is a refusal, and so it is told
   pub why : Refusal

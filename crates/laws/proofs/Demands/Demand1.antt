@@ -16,7 +16,7 @@ use Rattle.definition.specs.Words.{Placed}
 use Rattle.definition.specs.declared.Refusal.{Refusal}
 use Rattle.definition.specs.declared.Rule.{Rule}
 use Rattle.definition.specs.declared.Rule.TheVariants.{TextTooLong, NotInGrammar, FlatFileTooLong}
-use Rattle.definition.specs.Rules.{refuse}
+use Rattle.definition.specs.Rules.{number_of, refuse}
 use Rattle.definition.specs.Commands.{Command, commands}
 use Rattle.definition.specs.Standing.{outside}
 use Rattle.definition.specs.Drawing.{Chain, Event, deeds}
@@ -51,7 +51,7 @@ some_answer t words room b =
 pub record Located (t : List ℕ) (r : Refusal) (chain : Chain) : Type 0 where
   pub rule : Rule
   pub is : r ≡ refuse rule r.place
-  pub first-number : 1 ≤ r.number
+  pub first-number : 1 ≤ number_of r.rule
   pub reached : r.place ≤ length t
   pub inside : (rule ≡ TextTooLong → ⊥) → (rule ≡ NotInGrammar → ⊥) → (rule ≡ FlatFileTooLong → ⊥) → r.place < length t
   pub calls-inside : All (λ (c : Placed ℕ). c.place < length t) chain
@@ -101,7 +101,7 @@ located {r = r} a =
     record {
       rule = q;
       is = e;
-      first-number = subst (λ (n : ℕ). 1 ≤ n) (sym (ap (λ (x : Refusal). x.number) e)) (number_from-1 q);
+      first-number = subst (λ (n : ℕ). 1 ≤ n) (sym (ap (λ (x : Refusal). number_of x.rule) e)) (number_from-1 q);
       reached = there.reached;
       inside = there.inside;
       calls-inside = there.calls-inside;
@@ -113,7 +113,7 @@ located {r = r} a =
 
 -- RULES 1: on refusal the length and all counts are 0 and the room is unchanged. Request 4: line and column are those of the place, and the chain tells the open calls
 pub record RefusalHolds (t room : List ℕ) (r : Answer) (left : List ℕ) (by : Refusal) (chain : Chain) : Type 0 where
-  pub number : r.number ≡ by.number
+  pub number : r.number ≡ number_of by.rule
   pub place : r.place ≡ by.place
   pub no_length : r.length ≡ 0
   pub no_shapes : r.shapes ≡ 0

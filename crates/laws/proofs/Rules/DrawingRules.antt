@@ -26,7 +26,7 @@ use Rattle.definition.specs.Counts.{Counts, counts, End, finished, stopped, coun
 use Rattle.laws.proofs.Lists.Joined.{ending-++}
 use Rattle.laws.proofs.Rules.Order.{rank, Earlier, one_rank, one_rule}
 use Rattle.laws.proofs.Story.Moments.{Act, calling, drawing, entering, removing, Moment, moment, call_event, event_of, event_at, events, events-++, moments, story-events}
-use Rattle.laws.proofs.Story.Decides.{Decides, holds, fails, Among, Askew, Defined, BeingDrawn, FinallyBeyondX, FinallyBeyondY}
+use Rattle.laws.proofs.Story.Decides.{Decides, holds, fails, Among, Askew, Defined, IsBeingDrawn, FinallyBeyondX, FinallyBeyondY}
 use Rattle.laws.proofs.Story.Decides.{off_axes_decides, undefined_decides, being_drawn_decides, depth_decides, ltb_decides, final_x_decides, final_y_decides}
 
 -- RULES 12, the rows 10 to 17, 20 and 25: what an act breaks where so many words are lent, the counts are c, the table t, the
@@ -41,7 +41,7 @@ pub data Broken (words : ℕ) (c : Counts) (t : Table) (chain : Chain) (net : Li
   -- drawn call of an undefined symbol
   undefined : {n : ℕ} {ts : List (Turn ℤ)} → (Defined t n → ⊥) → Broken words c t chain net (calling n ts) UndefinedSymbol
   -- drawn call of a symbol already being drawn
-  being_drawn_lem : {n : ℕ} {ts : List (Turn ℤ)} → BeingDrawn chain n → Broken words c t chain net (calling n ts) BeingDrawn
+  being_drawn_lem : {n : ℕ} {ts : List (Turn ℤ)} → IsBeingDrawn chain n → Broken words c t chain net (calling n ts) BeingDrawn
   -- depth 33: an executable call has depth 1
   deep : {n : ℕ} {ts : List (Turn ℤ)} → deepest < length chain + 1 → Broken words c t chain net (calling n ts) TooDeep
   -- call 1,048,577
@@ -101,7 +101,7 @@ pub data Met (words : ℕ) (c : Counts) (m : Moment) : End → Type 0 where
 module _ (words : ℕ) (c : Counts) (t : Table) (chain : Chain) (net : List (Turn ℤ)) (p : ℕ) where
   -- a call breaks no rule below a rank where the facts of those rules fail; so a shape, and a definition
   call-rule : (n : ℕ) (ts : List (Turn ℤ)) (top : ℕ) → (rank OffTheAxes < top → Among Askew ts → ⊥)
-      → (rank UndefinedSymbol < top → (Defined t n → ⊥) → ⊥) → (rank BeingDrawn < top → BeingDrawn chain n → ⊥)
+      → (rank UndefinedSymbol < top → (Defined t n → ⊥) → ⊥) → (rank BeingDrawn < top → IsBeingDrawn chain n → ⊥)
       → (rank TooDeep < top → deepest < length chain + 1 → ⊥) → (rank TooManyCalls < top → most_calls < c.calls + 1 → ⊥)
       → (k : Rule) → rank k < top → Broken words c t chain net (calling n ts) k → ⊥
   call-rule n ts top a b d e f k h (off_axes_lem x) = a h x
@@ -115,7 +115,7 @@ module _ (words : ℕ) (c : Counts) (t : Table) (chain : Chain) (net : List (Tur
     itself = moment t chain net p (calling n ts)
 
     -- a call that breaks no rule from 11 to 14
-    made : {b : Bool} → (Among Askew ts → ⊥) → ((Defined t n → ⊥) → ⊥) → (BeingDrawn chain n → ⊥)
+    made : {b : Bool} → (Among Askew ts → ⊥) → ((Defined t n → ⊥) → ⊥) → (IsBeingDrawn chain n → ⊥)
         → (deepest < length chain + 1 → ⊥) → Decides (c.calls < most_calls) b
         → Met words c itself (if b then finished (counts (c.calls + 1) c.shapes c.redefinitions) else stopped (refuse TooManyCalls p) chain)
     unfolding tally_of
@@ -128,7 +128,7 @@ module _ (words : ℕ) (c : Counts) (t : Table) (chain : Chain) (net : List (Tur
     unfolding event_of passage_of passage_to call_event counted
     call_met = go (off_axes_decides ts) (find n t) (undefined_decides n t)
       where
-        found_met : {a b : Bool} → (Among Askew ts → ⊥) → ((Defined t n → ⊥) → ⊥) → (d : Definition) → Decides (BeingDrawn chain n) a
+        found_met : {a b : Bool} → (Among Askew ts → ⊥) → ((Defined t n → ⊥) → ⊥) → (d : Definition) → Decides (IsBeingDrawn chain n) a
             → Decides (deepest < length chain + 1) b
             → Met words c itself (counted c (call_event (if a then barred BeingDrawn else if b then barred TooDeep else leads d) p chain))
         found_met x y d (holds z) u =

@@ -21,7 +21,7 @@ use Rattle.definition.specs.declared.Refusal.{Refusal}
 use Rattle.definition.specs.Limits.{largest, most_points, most_turns}
 use Rattle.definition.specs.declared.Rule.{Rule}
 use Rattle.definition.specs.declared.Rule.TheVariants.{NumberTooLarge, ZeroFactor, ScaledTooLarge, DegenerateCommand, NoLayer, TooManyParts}
-use Rattle.definition.specs.Rules.{refuse, order}
+use Rattle.definition.specs.Rules.{number_of, refuse, order}
 use Rattle.definition.specs.Words.{Placed, at, Point, any, those, first}
 use Rattle.definition.specs.Commands.{Number, Kind, box, flash, wire, polygon, Shape, Turn, translate, mirror_x, mirror_y, rotate}
 use Rattle.definition.specs.Commands.{Command, draw, layer, call, start, finish, delete, nothing, commands}
@@ -438,7 +438,7 @@ module _ (s : Standing) (c : Placed Command) where
 -- ---- the first refusal of a command is the least, by the order of the rules and then by place
 
 abbrev rank_of : Refusal → ℕ
-rank_of r = rank_in order r.number
+rank_of r = rank_in order (number_of r.rule)
 
 abbrev Before : Refusal → Refusal → Type 0
 Before r q = (rank_of r < rank_of q) ⊎ ((rank_of r ≡ rank_of q) × (r.place ≤ q.place))

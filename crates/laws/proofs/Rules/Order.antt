@@ -72,7 +72,7 @@ one_number r q e = one_rank r q (ap (rank_in order) e)
 
 -- so a refusal is by one rule
 pub one_rule : (r q : Rule) {p o : ℕ} → refuse r p ≡ refuse q o → r ≡ q
-one_rule r q e = one_number r q (ap (λ (x : Refusal). x.number) e)
+one_rule r q e = ap (λ (x : Refusal). x.rule) e
 
 pub number_from-1 : (r : Rule) → 1 ≤ number_of r
 number_from-1 TextTooLong = omega arith

@@ -158,10 +158,10 @@ undefined_decides n (d ∷ t) = go (eqb_decides d.symbol n) (undefined_decides n
     go (fails m) r = decides (λ h x. neither m h (among_cases Numbered x)) (λ h x. h (among_later Numbered x)) r
 
 -- RULES 12, refusal 13: an open call is of that symbol
-abbrev pub BeingDrawn : Chain → ℕ → Type 0
-BeingDrawn chain n = Among (λ (o : Placed ℕ). o.what ≡ n) chain
+abbrev pub IsBeingDrawn : Chain → ℕ → Type 0
+IsBeingDrawn chain n = Among (λ (o : Placed ℕ). o.what ≡ n) chain
 
-pub being_drawn_decides : (n : ℕ) (chain : Chain) → Decides (BeingDrawn chain n) (any (λ c. eqb c.what n) chain)
+pub being_drawn_decides : (n : ℕ) (chain : Chain) → Decides (IsBeingDrawn chain n) (any (λ c. eqb c.what n) chain)
 being_drawn_decides n chain = any_decides (λ (c : Placed ℕ). c.what ≡ n) (λ c. eqb c.what n) (λ c. eqb_decides c.what n) chain
 
 -- RULES 12, refusal 14

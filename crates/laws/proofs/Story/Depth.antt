@@ -24,7 +24,7 @@ use Rattle.definition.specs.Held.{words_in, held_to}
 use Rattle.definition.specs.Counts.{Counts, counts, End, finished, counted}
 use Rattle.laws.proofs.Lists.Range.{All, all-++, all_at}
 use Rattle.laws.proofs.Story.Moments.{Act, calling, drawing, entering, removing, Moment, moment, call_event, event_of, event_at, events, story-events, followed, step_moments, body_moments, call_moments, deed_moments, moments}
-use Rattle.laws.proofs.Story.Decides.{Decides, holds, fails, Among, Defined, BeingDrawn, any_decides, eqb_decides, among_first, among_later, among_none}
+use Rattle.laws.proofs.Story.Decides.{Decides, holds, fails, Among, Defined, IsBeingDrawn, any_decides, eqb_decides, among_first, among_later, among_none}
 use Rattle.laws.proofs.Rules.DrawingRules.{Breaks, undefined, being_drawn_lem, Met, goes_on, stops, met, FirstStop}
 use Rattle.laws.proofs.Story.Axes.{by_axes}
 use Rattle.laws.proofs.Story.Counting.{not_finished}
@@ -32,7 +32,7 @@ use Rattle.laws.proofs.Story.Counting.{not_finished}
 -- no symbol stands twice
 unfoldable pub Distinct : Chain → Type 0
 Distinct [] = Unit {0}
-Distinct (o ∷ chain) = (BeingDrawn chain o.what → ⊥) × Distinct chain
+Distinct (o ∷ chain) = (IsBeingDrawn chain o.what → ⊥) × Distinct chain
 
 pub record Opened (t : Table) (chain : Chain) : Type 0 where
   pub few : length chain ≤ deepest
@@ -71,7 +71,7 @@ among-last P l a h = go (Memᴰ.append_cases l h.listed)
     go (inl m) = inl (record { one = h.one; listed = m; so = h.so })
     go (inr m) = inr (subst P (Memᴰ.eq_of_singleton m) h.so)
 
-distinct_more : (chain : Chain) (o : Placed ℕ) → Distinct chain → (BeingDrawn chain o.what → ⊥) → Distinct (chain ++ (o ∷ []))
+distinct_more : (chain : Chain) (o : Placed ℕ) → Distinct chain → (IsBeingDrawn chain o.what → ⊥) → Distinct (chain ++ (o ∷ []))
 unfolding Distinct
 distinct_more [] o x new = (among_none (λ (u : Placed ℕ). u.what ≡ o.what), tt)
 distinct_more (a ∷ chain) o x new = (λ h. go (among-last Same chain o h), distinct_more chain o x.1 (λ h. new (among_later Other h)))
@@ -86,7 +86,7 @@ distinct_more (a ∷ chain) o x new = (λ h. go (among-last Same chain o h), dis
     go (inl h) = x.0 h
     go (inr e) = new (among_first Other (sym e))
 
-opened-more : (t : Table) (chain : Chain) (o : Placed ℕ) → Opened t chain → length chain < deepest → (BeingDrawn chain o.what → ⊥) → Defined t o.what
+opened-more : (t : Table) (chain : Chain) (o : Placed ℕ) → Opened t chain → length chain < deepest → (IsBeingDrawn chain o.what → ⊥) → Defined t o.what
     → Opened t (chain ++ (o ∷ []))
 unfolding All
 opened-more t chain o x room new known = record {

@@ -72,7 +72,7 @@ module _ (words : ℕ) where
 -- ---- no story is stopped by 25 of itself
 
 abbrev Other : Refusal → Type 0
-Other r = r.number ≡ number_of TooFewWords → ⊥
+Other r = r.rule ≡ TooFewWords → ⊥
 
 abbrev OtherEvent : Event → Type 0
 OtherEvent (refused r chain) = Other r
@@ -82,7 +82,7 @@ OtherEvent (entered d before) = Unit {0}
 OtherEvent (removed n before) = Unit {0}
 
 other_outputs : Outputs OtherEvent
-other_outputs = record { of_call = λ p chain d. tt; of_shape = λ d. tt; of_refusal = λ r p chain h e. later r h (one_number r TooFewWords e) }
+other_outputs = record { of_call = λ p chain d. tt; of_shape = λ d. tt; of_refusal = λ r p chain h e. later r h e }
   where
     later : (r : Rule) → ByOutput r → r ≡ TooFewWords → ⊥
     later r h e = omega (arith, h.least, ap rank e)
@@ -93,7 +93,7 @@ other_happens t (output s) = output-events OtherEvent other_outputs t s
 other_happens t (define d) = (go (ltb most_definitions (length (enter d t))), tt)
   where
     go : (b : Bool) → OtherEvent (if b then refused (refuse TooManyDefinitions d.place) [] else entered d t)
-    go true = λ e. omega arith
+    go true = λ e. omega (arith, ap rank e)
     go false = tt
 other_happens t (remove n) = (tt, tt)
 
@@ -112,12 +112,12 @@ other_counted c (called p chain d) h = go (ltb c.calls most_calls)
   where
     go : (b : Bool) → OtherEnd (if b then finished (counts (c.calls + 1) c.shapes c.redefinitions) else stopped (refuse TooManyCalls p) chain)
     go true = tt
-    go false = λ e. omega arith
+    go false = λ e. omega (arith, ap rank e)
 other_counted c (drew d) h = go (ltb c.shapes most_shapes)
   where
     go : (b : Bool) → OtherEnd (if b then finished (counts c.calls (c.shapes + 1) c.redefinitions) else stopped (refuse TooManyShapes d.place) d.chain)
     go true = tt
-    go false = λ e. omega arith
+    go false = λ e. omega (arith, ap rank e)
 other_counted c (entered d before) h = tt
 other_counted c (removed n before) h = tt
 other_counted c (refused r chain) h = h
