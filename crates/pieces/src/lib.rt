@@ -1,6 +1,6 @@
 // The pieces of a CIF text, one after another: what stands between its bytes and its commands. `next_mark` finds the letter that begins the next
 // piece, `read_number` reads on where that is a number. They give plain numbers back and not pieces: an enum that is handed up costs a reader more
-// than reading its bytes. Contracts speak of pieces, so that whoever reads them names no state.
+// than reading its bytes (measured: docs/DECISIONS.md 68). Contracts speak of pieces, so that whoever reads them names no state.
 #![tactic(auto)]
 
 ghost use Rattle.std.specs.Prelude.{◌≡◌, ◌+◌, ◌*◌, ◌<◌, ◌≤◌, ltb, length};
@@ -96,7 +96,8 @@ fn is_digit(b: u8) -> bool
     matches!(b, b'0'..=b'9')
 }
 
-// The rest of a number: behind its first digit every digit belongs to it, so the table is not asked.
+// The rest of a number: behind its first digit every digit belongs to it, so the table is not asked. Where a reader does not stand in the text it stays where
+// it is, so this is no `for` over the bytes that are left.
 pub fn read_number(text: &[u8], first: Begun) -> Numeral
     ensures step { (s : Spot) → Led text.now s first → Step text.now s (Number first.place (ltb first.place first.at) result.size) result.to }
     ensures value { result ≡ numeral_of text.now first }
