@@ -1,12 +1,11 @@
-// What a CIF text means stands in specs/, and what follows from it in proofs/. This crate has no code: only what readers give back is declared here, so
-// that contracts can say which one it is, and the limits of RULES 14, so that code has each under one name (specs/Limits.antt has them for definitions).
-
-// The farthest from zero that a number may be (RULES 12, refusals 3, 6, 16 and 20).
+// What a CIF text means stands in specs/, and what follows from it in proofs/. What readers give back is declared here, so that contracts can say which
+// one it is, and the limits of RULES 14, so that code has each under one name (specs/Limits.antt has them for definitions). The only code is a rule's number.
 #![tactic(auto)]
 
 ghost use Rattle.std.specs.Prelude.{◌≡◌};
 ghost use Rattle.definition.specs.Rules.{number_of};
 
+// The farthest from zero that a number may be (RULES 12, refusals 3, 6, 16 and 20).
 pub const LARGEST: usize = 16_777_215;
 // The longest text and the longest flat file (1 and 18).
 pub const MOST_BYTES: usize = 16_777_216;
