@@ -1,5 +1,4 @@
--- `LastE`, `Copied` and `Making` are what the code rests on. `Once` says that `join` answers in one way, and that accepted texts are joined.
+-- `LastE` and `Making` are what the code rests on. `Once` says that `join` answers in one way, and that accepted texts are joined.
 pub mod LastE
-pub mod Copied
 pub mod Making
 pub mod Once

@@ -1,41 +1,51 @@
 -- From what the parts of `join` promise to what it promises: one law for each way through the code.
 -- Assumes nothing.
-use Rattle.std.specs.Prelude.{if◌then◌else◌}
+use Rattle.std.specs.Prelude.{if◌then◌else◌, Err, Ok, Result}
 use mathlib.Core.Path.{◌≡◌, refl, sym, ap, ap₂, ◌∙◌, subst}
 use mathlib.Core.Bool.{Bool, true, false, ◌&&◌}
-use mathlib.Core.List.{List, ◌++◌}
+use mathlib.Core.List.{List, ◌++◌, append_assoc}
 use Prim.Native.Nat.{ℕ, ◌+◌, ◌≤◌, ◌<◌}
 use native.Mathlib.Omega.{arith}
 use borrow.Author.Tests.{le-leb, lt-leb}
 use lib.Dec.{leb}
 use lib.ListN.{length, take, length-append}
-use lib.Seq.{length-take-le, take-length}
-use Rattle.grammar.specs.Viable.{Judged}
+use lib.Seq.{length-take-le, sets-eq, drop-drop}
+use borrow.Rule.Slice.PartMut.{put_mid}
+use Rattle.grammar.specs.Steps.{verdict_of}
+use Rattle.grammar.specs.Viable.{Grammatical}
+use Rattle.grammar.proofs.Verdicts.{Bytes}
+use Rattle.grammar.proofs.Verdicts
 use Rattle.definition.specs.Limits.{most_bytes}
 use Rattle.definition.specs.Words.{bytes_of}
 use Rattle.definition.specs.declared.Rule.TheVariants.{NotInGrammar, FlatFileTooLong}
 use Rattle.joining.specs.Joined.{before_e, joined}
 use Rattle.digits.specs.Writes.{Writes}
-use Rattle.digits.proofs.Writing.{both, same_bytes, begins, measures}
-use Rattle.join.specs.Made.{CutAt, about, fitted, by_verdicts, Joining, judged, room_after, Made}
-use Rattle.std.specs.Prelude.{Err, Ok, Result}
+use Rattle.digits.proofs.Writing.{written, both, same_bytes, begins, measures}
+use Rattle.join.specs.Made.{CutAt, about, fitted, by_verdicts, LeavesAt, Joining, judged, room_after, Made}
 use Rattle.join.specs.declared.NotJoined.{NotJoined}
+use Rattle.join.specs.declared.Which.TheVariants.{Neither, First, Second}
+
+-- ---- a text copied to a part of the room
+
+pub copied : (room : List ℕ) (start many : ℕ) (t : List ℕ) {part : List ℕ} → many ≡ length t → start + length t ≤ length room → part ≡ t
+    → Writes room (put_mid start many room part) start (start + length t) t
+copied room start many t e fits is =
+    written
+    (rw (is, e) (ap (λ (r : List ℕ). take start room ++ (t ++ r)) (drop-drop (length t) start room) ∙ sym (append_assoc (take start room) t _) ∙ sym (sets-eq t room start fits)))
+    refl
 
 -- ---- the three parts of a joined text
 
-pub next_place : {old new : List ℕ} {start next : ℕ} (t : List ℕ) (end : ℕ) → Writes old new start next (take end t) → end ≤ length t → next ≡ start + end
-next_place t end w h = omega (arith, w.ends, length-take-le end t h)
-
 -- by whether it fits
 abbrev by_test : ℕ → Bool → Result ℕ NotJoined
-by_test n b = if b then Ok n else about 0 FlatFileTooLong 0
+by_test n b = if b then Ok n else about Neither FlatFileTooLong 0
 
 module _ {first : List ℕ} {end : ℕ} (cut : CutAt first end) (second : List ℕ) where
-  pub three_parts : {r₀ r₁ r₂ r₃ : List ℕ} {i j k : ℕ} → Writes r₀ r₁ 0 i (take end first) → Writes r₁ r₂ i j (bytes_of "DD0;") → Writes r₂ r₃ j k (take (length second) second)
+  pub three_parts : {r₀ r₁ r₂ r₃ : List ℕ} {i j k : ℕ} → Writes r₀ r₁ 0 i (take end first) → Writes r₁ r₂ i j (bytes_of "DD0;") → Writes r₂ r₃ j k second
       → Writes r₀ r₃ 0 k (joined first second)
   unfolding joined
   three_parts a b c =
-      same_bytes (ap₂ {C = List ℕ} (λ (u v : List ℕ). u ++ (bytes_of "DD0;" ++ v)) cut.before (take-length second)) (both a (both b c))
+      same_bytes (ap (λ (u : List ℕ). u ++ (bytes_of "DD0;" ++ second)) cut.before) (both a (both b c))
 
   joined_length : length (joined first second) ≡ end + 4 + length second
   unfolding joined bytes_of
@@ -54,17 +64,17 @@ module _ {first : List ℕ} {end : ℕ} (cut : CutAt first end) (second : List �
   bytes = length (joined first second)
 
   -- 18 leaves the room alone
-  eighteen : {r : Result ℕ NotJoined} (room : List ℕ) → r ≡ about 0 FlatFileTooLong 0 → (leb bytes (length room) && leb bytes most_bytes) ≡ false
+  eighteen : {r : Result ℕ NotJoined} (room : List ℕ) → r ≡ about Neither FlatFileTooLong 0 → (leb bytes (length room) && leb bytes most_bytes) ≡ false
       → (r ≡ fitted bytes (length room)) × (room ≡ room_after r (joined first second) room)
   eighteen room is test = (is ∙ ap (by_test bytes) (sym test), ap (λ (x : Result ℕ NotJoined). room_after x (joined first second) room) (sym is))
 
-  pub no_room : {r : Result ℕ NotJoined} (room : List ℕ) → r ≡ about 0 FlatFileTooLong 0 → length room < end + 4 + length second
+  pub no_room : {r : Result ℕ NotJoined} (room : List ℕ) → r ≡ about Neither FlatFileTooLong 0 → length room < end + 4 + length second
       → (r ≡ fitted bytes (length room)) × (room ≡ room_after r (joined first second) room)
   no_room room is h =
       let k : length room < bytes = omega (arith, h, joined_length) in
       eighteen room is (ap (λ (b : Bool). b && leb bytes most_bytes) (lt-leb bytes (length room) k))
 
-  pub beyond_limit : {r : Result ℕ NotJoined} (room : List ℕ) → r ≡ about 0 FlatFileTooLong 0 → most_bytes < end + 4 + length second
+  pub beyond_limit : {r : Result ℕ NotJoined} (room : List ℕ) → r ≡ about Neither FlatFileTooLong 0 → most_bytes < end + 4 + length second
       → (r ≡ fitted bytes (length room)) × (room ≡ room_after r (joined first second) room)
   beyond_limit room is h =
       let k : most_bytes < bytes = omega (arith, h, joined_length) in
@@ -79,7 +89,7 @@ module _ {first : List ℕ} {end : ℕ} (cut : CutAt first end) (second : List �
   fits {room} {left} {n} h k w =
       let h' : bytes ≤ length room = omega (arith, h, joined_length) in
       let k' : bytes ≤ most_bytes = omega (arith, k, joined_length) in (
-        ap Ok (measures w) ∙ ap₂ {C = (Result ℕ NotJoined)} (λ (a b : Bool). by_test bytes (a && b)) (sym (le-leb bytes (length room) h')) (sym (le-leb bytes most_bytes k')),
+        ap Ok (measures w) ∙ ap₂ {C = Result ℕ NotJoined} (λ (a b : Bool). by_test bytes (a && b)) (sym (le-leb bytes (length room) h')) (sym (le-leb bytes most_bytes k')),
         begins w h',
       )
 
@@ -91,22 +101,16 @@ left_alone {first} {second} {room} is j e = record {
   kept = sym (ap (λ (x : Result ℕ NotJoined). room_after x (joined first second) room) is ∙ e);
 }
 
-module _ (first second room : List ℕ) (v w : Result Unit ℕ) (h : length first ≤ most_bytes) (k : length second ≤ most_bytes) (one : Judged first v) (two : Judged second w) where
-  abbrev Allowed : Result ℕ NotJoined → Type 0
-  Allowed r = Joining first second (length room) r
+module _ {first second room : List ℕ} (h : length first ≤ most_bytes) (k : length second ≤ most_bytes) where
+  pub first-leaves : {e : NotJoined} {r : Result ℕ NotJoined} → Bytes second → LeavesAt first First e → r ≡ Err e → Made first second room r room
+  first-leaves bytes (n, is, leaves) q = left_alone (q ∙ ap Err is) (judged (Err n) (verdict_of 0 0 0 second) h k leaves (Verdicts.judged second bytes)) refl
 
-  abbrev by_these : Result Unit ℕ → Result Unit ℕ → Result ℕ NotJoined
-  by_these x y = by_verdicts x y (fitted (length (joined first second)) (length room))
+  pub second-leaves : {e : NotJoined} {r : Result ℕ NotJoined} → Grammatical first → LeavesAt second Second e → r ≡ Err e → Made first second room r room
+  second-leaves one (n, is, leaves) q = left_alone (q ∙ ap Err is) (judged (Ok tt) (Err n) h k one leaves) refl
 
-  pub first-stuck : {r : Result ℕ NotJoined} {n : ℕ} → r ≡ about 1 NotInGrammar n → v ≡ Err n → Made first second room r room
-  first-stuck is e = left_alone is (subst (λ (x : Result Unit ℕ). Allowed (by_these x w)) e (judged v w h k one two)) refl
-
-  pub second_stuck : {r : Result ℕ NotJoined} {n : ℕ} → r ≡ about 2 NotInGrammar n → v ≡ (Ok tt) → w ≡ Err n → Made first second room r room
-  second_stuck is e f = left_alone is (subst Allowed (ap₂ {C = (Result ℕ NotJoined)} (λ (x y : Result Unit ℕ). by_these x y) e f) (judged v w h k one two)) refl
-
-  pub both-sound : {r : Result ℕ NotJoined} {left : List ℕ} → v ≡ (Ok tt) → w ≡ (Ok tt) → r ≡ fitted (length (joined first second)) (length room)
+  pub both-sound : {r : Result ℕ NotJoined} {left : List ℕ} → Grammatical first → Grammatical second → r ≡ fitted (length (joined first second)) (length room)
       → left ≡ room_after r (joined first second) room → Made first second room r left
-  both-sound e f is left_so = record {
-    joining = subst Allowed (ap₂ {C = (Result ℕ NotJoined)} (λ (x y : Result Unit ℕ). by_these x y) e f ∙ sym is) (judged v w h k one two);
+  both-sound one two is left_so = record {
+    joining = subst (Joining first second (length room)) (sym is) (judged (Ok tt) (Ok tt) h k one two);
     kept = left_so;
   }

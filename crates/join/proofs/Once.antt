@@ -1,6 +1,6 @@
 -- What `join` answers is settled, and so is every byte of the room; and two accepted texts are joined wherever the joined text fits.
 -- Assumes nothing.
-use Rattle.std.specs.Prelude.{if◌then◌else◌}
+use Rattle.std.specs.Prelude.{if◌then◌else◌, Err, Ok, Result}
 use mathlib.Core.Path.{◌≡◌, refl, sym, ap, ap₂, ◌∙◌, subst}
 use mathlib.Core.Bool.{Bool, ◌&&◌}
 use mathlib.Core.List.{List, ◌++◌}
@@ -21,8 +21,8 @@ use Rattle.definition.specs.Answer.{accepted, Answers}
 use Rattle.laws.proofs.Rules.Outcomes.{acceptance}
 use Rattle.joining.specs.Joined.{joined}
 use Rattle.join.specs.Made.{about, fitted, by_verdicts, Joining, first_too_long, second_too_long, judged, room_after, Made}
-use Rattle.std.specs.Prelude.{Err, Ok, Result}
 use Rattle.join.specs.declared.NotJoined.{NotJoined}
+use Rattle.join.specs.declared.Which.TheVariants.{Neither}
 
 module _ (first second : List ℕ) (room : ℕ) where
   abbrev by_these : Result Unit ℕ → Result Unit ℕ → Result ℕ NotJoined
@@ -37,14 +37,14 @@ module _ (first second : List ℕ) (room : ℕ) where
   one_joining r r' (second_too_long a b) (judged v w c d j k) = absurd (omega (arith, b, d))
   one_joining r r' (judged v w a b j k) (first_too_long c) = absurd (omega (arith, a, c))
   one_joining r r' (judged v w a b j k) (second_too_long c d) = absurd (omega (arith, b, d))
-  one_joining r r' (judged v w a b j k) (judged v' w' c d j' k') = ap₂ {C = (Result ℕ NotJoined)} by_these (one_verdict first v v' j j') (one_verdict second w w' k k')
+  one_joining r r' (judged v w a b j k) (judged v' w' c d j' k') = ap₂ {C = Result ℕ NotJoined} by_these (one_verdict first v v' j j') (one_verdict second w w' k k')
 
   -- two texts of the grammar within the limit, whose joined text fits, are joined
   sound-joined : (r : Result ℕ NotJoined) → Joining first second room r → length first ≤ most_bytes → length second ≤ most_bytes → Grammatical first → Grammatical second
       → length (joined first second) ≤ room → length (joined first second) ≤ most_bytes → r ≡ Ok (length (joined first second))
   sound-joined r j a b g h fits within =
       one_joining r (by_these (Ok tt) (Ok tt)) j (judged (Ok tt) (Ok tt) a b g h)
-      ∙ ap₂ {C = (Result ℕ NotJoined)} (λ (x y : Bool). if x && y then Ok (length (joined first second)) else about 0 FlatFileTooLong 0)
+      ∙ ap₂ {C = Result ℕ NotJoined} (λ (x y : Bool). if x && y then Ok (length (joined first second)) else about Neither FlatFileTooLong 0)
       (le-leb (length (joined first second)) room fits) (le-leb (length (joined first second)) most_bytes within)
 
 module _ {first second room left left' : List ℕ} {r r' : Result ℕ NotJoined} where
