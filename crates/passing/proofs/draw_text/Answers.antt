@@ -1,5 +1,6 @@
 -- `draw_text` meets its contract: `Passing` holds before each command, and what is left of the text falls.
-use mathlib.Core.Path.{sym, ◌∙◌}
+use Rattle.std.specs.Prelude.{Err}
+use mathlib.Core.Path.{◌≡◌, sym, ◌∙◌}
 use native.Mathlib.Omega.{arith}
 use borrow.Author.Rules.{rules}
 use Rattle.passing.proofs.Reading.{read_one}
@@ -60,14 +61,16 @@ returns-in-Err c = passing_unkept c.loop-c.invariant c.requires.most_values_in_b
 pub draw_outer-requires : goal.draw_outer-requires
 draw_outer-requires c = record { ready = ready c.loop-c.invariant c.requires.most_values_in_bounds.1 c.requires.most_values_in_bounds.2; says = passing_says c.loop-c.invariant c.requires.most_values_in_bounds.0 (read_one c.read_command.ensures c.in-Some.is).1 c.if-kind-eq76.false c.if-kind-eq68.false c.if-kind-eq83.false (sym c.draws.ensures ∙ c.if-draws.true) }
 
-pub loop-c-smaller-in_ok-draw_outer : goal.loop-c-smaller-in_ok-draw_outer
-loop-c-smaller-in_ok-draw_outer c = omega (arith, (read_one c.read_command.ensures c.in-Some.is).1.ahead, (read_one c.read_command.ensures c.in-Some.is).1.fit.within)
+pub loop-c-smaller-then-draws : goal.loop-c-smaller-then-draws
+loop-c-smaller-then-draws c = omega (arith, (read_one c.read_command.ensures c.in-Some.is).1.ahead, (read_one c.read_command.ensures c.in-Some.is).1.fit.within)
 
-pub loop-c-preserved-in_ok-draw_outer : goal.loop-c-preserved-in_ok-draw_outer
-loop-c-preserved-in_ok-draw_outer c = passing_drawn c.loop-c.invariant c.requires.most_values_in_bounds.0 (read_one c.read_command.ensures c.in-Some.is).1 c.if-kind-eq76.false c.if-kind-eq68.false c.if-kind-eq83.false (sym c.draws.ensures ∙ c.if-draws.true) _ c.draw_outer.ensures c.in_ok-draw_outer.is c.draw_outer.auto.numbers c.draw_outer.auto.drawing
+pub loop-c-preserved-then-draws : goal.loop-c-preserved-then-draws
+loop-c-preserved-then-draws c = passing_drawn c.loop-c.invariant c.requires.most_values_in_bounds.0 (read_one c.read_command.ensures c.in-Some.is).1 c.if-kind-eq76.false c.if-kind-eq68.false c.if-kind-eq83.false (sym c.draws.ensures ∙ c.if-draws.true) _ c.draw_outer.ensures c.in_ok-ink-in-Some.was c.draw_outer.auto.numbers c.draw_outer.auto.drawing
 
-pub returns-in_err-draw_outer : goal.returns-in_err-draw_outer
-returns-in_err-draw_outer c = passing_stopped c.loop-c.invariant c.requires.most_values_in_bounds.0 (read_one c.read_command.ensures c.in-Some.is).1 c.if-kind-eq76.false c.if-kind-eq68.false c.if-kind-eq83.false (sym c.draws.ensures ∙ c.if-draws.true) _ c.draw_outer.ensures c.in_err-draw_outer.is
+pub returns-in_err-ink-in-Some : goal.returns-in_err-ink-in-Some
+returns-in_err-ink-in-Some c =
+    let e : c.from_residual.result ≡ Err c.in_err-ink-in-Some.field-0.0 = grind arith in
+    rw e (passing_stopped c.loop-c.invariant c.requires.most_values_in_bounds.0 (read_one c.read_command.ensures c.in-Some.is).1 c.if-kind-eq76.false c.if-kind-eq68.false c.if-kind-eq83.false (sym c.draws.ensures ∙ c.if-draws.true) _ c.draw_outer.ensures c.in_err-ink-in-Some.was)
 
 pub loop-c-smaller : goal.loop-c-smaller
 loop-c-smaller c = omega (arith, (read_one c.read_command.ensures c.in-Some.is).1.ahead, (read_one c.read_command.ensures c.in-Some.is).1.fit.within)
