@@ -145,10 +145,8 @@ pub fn words(answer: Answer) -> [u64; WORDS]
 {
     let chain = answer.chain;
     let mut told = first_words(answer);
-    let mut i = 0;
-    while i < definition::DEEPEST {
+    for i in 0..definition::DEEPEST {
         told[CHAIN + i] = chain[i] as u64;
-        i += 1;
     }
     told
 }
@@ -233,10 +231,8 @@ fn chain_by_words(told: &[u64; WORDS]) -> [usize; definition::DEEPEST]
     ensures { result ≡ chain_by told.now }
 {
     let mut chain = [0; definition::DEEPEST];
-    let mut i = 0;
-    while i < definition::DEEPEST {
+    for i in 0..definition::DEEPEST {
         chain[i] = told[CHAIN + i] as usize;
-        i += 1;
     }
     chain
 }

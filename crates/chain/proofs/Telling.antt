@@ -9,9 +9,8 @@ use native.Mathlib.Numerals.{add-one}
 use lib.Dec.{ltb}
 use lib.ListN.{length, get_or, set, replicate, length-map}
 use lib.Seq.{get_or-set_same, set_at, append_snoc}
+use Rattle.std.proofs.lemmas.List.{map-append}
 use borrow.Author.Tests.{lt-ltb, le-ltb, ltb-true, ltb-false}
-use Rattle.definition.specs.Words.{Placed}
-use Rattle.definition.specs.Drawing.{Chain}
 use Rattle.definition.specs.Position.{places_of, chain_told}
 use Rattle.chain.specs.Chain.{open_calls, stopped_at, chain_in, Stopped}
 use Rattle.chain.proofs.Runs.{one_more, so_many, kept_set, kept_open}
@@ -39,8 +38,8 @@ stopped run level h long =
     let k = kept_set run {level = level} 64 level (omega arith) in
     record { chain_is = ap (open_calls run') q ∙ kept_open run run' level k; kept = k }
 
-pub few-opened : (run : List ℕ) → length (chain_in run) ≤ 32
-few-opened run = by_test (ltb 32 (get_or run 64 0)) refl
+pub few_opened : (run : List ℕ) → length (chain_in run) ≤ 32
+few_opened run = by_test (ltb 32 (get_or run 64 0)) refl
   where
     by_test : (b : Bool) → ltb 32 (get_or run 64 0) ≡ b → length (chain_in run) ≤ 32
     by_test true e = omega (arith, many-opened run (ltb-true 32 (get_or run 64 0) e))
@@ -48,39 +47,29 @@ few-opened run = by_test (ltb 32 (get_or run 64 0)) refl
 
 -- ---- their places
 
--- the places of the first calls are told and so many are left, with zeros for them and after them
-pub record PlacesSoFar (run : List ℕ) (told : List ℕ) (next left : ℕ) : Type 0 where
-  pub in_all : next + left ≡ length (chain_in run)
+-- the places of the first calls are told, with zeros after them
+pub record PlacesSoFar (run : List ℕ) (told : List ℕ) (next : ℕ) : Type 0 where
   pub are : told ≡ places_of (open_calls run next) ++ replicate (32 - next) 0
 
-pub none_told : (run : List ℕ) (left : ℕ) → left ≡ length (chain_in run) → PlacesSoFar run (replicate 32 0) 0 left
+pub none_told : (run : List ℕ) → PlacesSoFar run (replicate 32 0) 0
 unfolding open_calls
-none_told run left e = record { in_all = omega arith; are = refl }
+none_told run = record { are = refl }
 
-pub few-told : {run told : List ℕ} {next left : ℕ} → PlacesSoFar run told next left → next + left ≤ 32
-few-told {run} h = omega (arith, h.in_all, few-opened run)
-
-last-place : (chain : Chain) (c : Placed ℕ) → places_of (chain ++ (c ∷ [])) ≡ places_of chain ++ (c.place ∷ [])
-last-place [] c = refl
-last-place (d ∷ chain) c = ap (λ (l : List ℕ). d.place ∷ l) (last-place chain c)
-
-pub one_told : {run told : List ℕ} {next left : ℕ} → PlacesSoFar run told next left → 0 < left → PlacesSoFar run (set told next (get_or run (2 * next) 0)) (next + 1) (left - 1)
+pub one_told : {run told : List ℕ} {next : ℕ} → PlacesSoFar run told next → next < 32 → PlacesSoFar run (set told next (get_or run (2 * next) 0)) (next + 1)
 one_told {run} {told} {next} h z =
     let p = get_or run (2 * next) 0 in
     let ps = places_of (open_calls run next) in
     let zeros : List ℕ = replicate (32 - (next + 1)) 0 in
-    let one_less : 32 - next ≡ suc (32 - (next + 1)) = omega (arith, few-told h, z) in
+    let one_less : 32 - next ≡ suc (32 - (next + 1)) = omega arith in
     let long : length ps ≡ next = length-map (open_calls run next) (λ c. c.place) ∙ so_many run next in
     let more : places_of (open_calls run (next + 1)) ≡ ps ++ (p ∷ []) =
-    ap (λ (i : ℕ). places_of (open_calls run i)) (add-one next) ∙ (ap places_of (one_more run next) ∙ last-place (open_calls run next) _) in
+    ap (λ (i : ℕ). places_of (open_calls run i)) (add-one next) ∙ (ap places_of (one_more run next) ∙ map-append _ (open_calls run next) _) in
     record {
-      in_all = omega (arith, h.in_all, z);
       are =
           ap (λ (l : List ℕ). set l next p) (h.are ∙ ap (λ (i : ℕ). ps ++ replicate i 0) one_less)
           ∙ (set_at ps 0 zeros p next long ∙ (sym (append_snoc ps p zeros) ∙ ap (λ (l : List ℕ). l ++ zeros) (sym more)));
     }
 
-pub all_told : {run told : List ℕ} {next left : ℕ} → PlacesSoFar run told next left → left ≤ 0 → told ≡ chain_told (chain_in run)
-all_told {run} {told} {next} h z =
-    let e : next ≡ length (chain_in run) = omega (arith, h.in_all, z) in
+pub all_told : {run told : List ℕ} {next : ℕ} → PlacesSoFar run told next → next ≡ length (chain_in run) → told ≡ chain_told (chain_in run)
+all_told {run} {told} {next} h e =
     h.are ∙ (ap (λ (i : ℕ). places_of (open_calls run i) ++ replicate (32 - next) 0) (e ∙ so_many run (stopped_at run)) ∙ ap (λ (i : ℕ). places_of (chain_in run) ++ replicate (32 - i) 0) e)

@@ -18,12 +18,10 @@ pub fn is_open(run: &[usize], level: usize, symbol: usize) -> bool
     requires { (level ≤ deepest) × (length run.now ≡ run_length) }
     ensures { result ≡ any (λ c. eqb c.what symbol) (open_calls run.now level) }
 {
-    let mut i = 0;
-    while i < level {
+    for i in 0..level {
         if run[2 * i + 1] == symbol {
             return true;
         }
-        i += 1;
     }
     false
 }
@@ -58,17 +56,15 @@ pub fn opened(run: &[usize]) -> usize
 }
 
 // Their places, and zeros after them.
+#[tactic(auto, using(crate::proofs::Telling::few_opened))]
 pub fn places(run: &[usize]) -> [usize; definition::DEEPEST]
     requires { length run.now ≡ run_length }
     ensures { result ≡ chain_told (chain_in run.now) }
 {
     let mut told = [0usize; definition::DEEPEST];
-    let mut next = 0;
-    let mut left = opened(run);
-    while 0 < left {
-        left -= 1;
+    let left = opened(run);
+    for next in 0..left {
         told[next] = run[2 * next];
-        next += 1;
     }
     told
 }

@@ -5,9 +5,9 @@ use mathlib.Core.Path.{◌≡◌, refl, sym, ap, ◌∙◌, subst}
 use mathlib.Core.Bool.{Bool, true, false, not, ◌&&◌, ◌||◌}
 use mathlib.Core.List.{List, [], ◌∷◌}
 use mathlib.Core.Logic.{◌⊎◌, ⊎_elim}
-use Prim.Native.Nat.{ℕ, ◌+◌, ◌*◌, ◌/◌, ◌%◌, ◌≤◌, ◌<◌}
+use Prim.Native.Nat.{ℕ, ◌+◌, ◌*◌, ◌%◌, ◌≤◌, ◌<◌}
 use native.Mathlib.Omega.{arith}
-use borrow.Author.Tests.{lt-ltb, le-ltb, ltb-false, eqb-false}
+use borrow.Author.Tests.{ltb-false, eqb-false}
 use lib.Dec.{ltb, eqb}
 use Rattle.grammar.specs.Notation.{lead, head}
 use Rattle.grammar.specs.Steps.{choose, number}
@@ -15,53 +15,18 @@ use Rattle.pieces.specs.Pieces.{too_large, stream, start, Fit, Step}
 use Rattle.pieces.specs.declared.Spot.{Spot}
 use Rattle.pieces.specs.declared.Piece.{Piece}
 use Rattle.pieces.specs.declared.Piece.TheVariants.{First, Second, Number, Word, Stop}
-use Rattle.rules.specs.Letters.{letter_d, letter_l, no_refusal, byte_unit}
+use Rattle.rules.specs.Letters.{letter_d, letter_l, no_refusal}
 use Rattle.pieces.specs.Pieces.{letter_s, letter_f}
-use Rattle.rules.specs.Written.{one, turning}
-use Rattle.rules.specs.Rules.{distance, scaleless, few, bare, many, scaled_by, rounded_by, scaled_to, number_refusal, whole_refusal}
-use Rattle.rules.specs.declared.AtScale.{AtScale}
+use Rattle.rules.specs.Written.{turning}
+use Rattle.rules.specs.Rules.{distance, scaleless, few, bare, many, whole_refusal}
 use Rattle.definition.specs.declared.Refusal.{Refusal}
 use Rattle.checking.specs.Account.{layer_of, refusal, scope, at_start}
-use Rattle.checking.specs.Along.{lower, blamed, kept, fresh, begun, idle, counted, worded, after_doing, finished, onward, runs, Fair, Sane}
+use Rattle.checking.specs.Along.{fresh, begun, idle, counted, worded, after_doing, finished, onward, runs, Fair, Sane}
 use Rattle.checking.specs.declared.Scope.{Scope}
 use Rattle.checking.specs.declared.Doing.{Doing}
 use Rattle.pieces.proofs.Finds.{Finds, none, some}
 use Rattle.names.proofs.Naming.{name-room}
 use Rattle.std.specs.Prelude.{Err, Ok, Result}
-
--- the end of a command
-module _ (s : Scope) (c : Doing) (hb : c.busy ≡ true) (y : ℕ) (ey : y ≡ layer_of s) (k : ℕ) (ek : k ≡ whole_refusal c.letter c.word c.count c.turns c.a c.b y) where
-  ek' : k ≡ whole_refusal c.letter c.word c.count c.turns c.a c.b (layer_of s)
-  ek' = ek ∙ ap (λ (x : ℕ). whole_refusal c.letter c.word c.count c.turns c.a c.b x) ey
-
-  pub finish-whole : k < c.no → Err (refusal k c.place) ≡ finished s c
-  unfolding finished
-  finish-whole h = rw (hb, ← ek', lt-ltb k c.no h)
-
-  pub finish-number : c.no ≤ k → c.no < no_refusal → Err (refusal c.no c.at) ≡ finished s c
-  unfolding finished
-  finish-number h l = rw (hb, ← ek', le-ltb k c.no h, lt-ltb c.no no_refusal l)
-
-  pub finish_then : c.no ≤ k → no_refusal ≤ c.no → (t : Scope) → t ≡ after_doing s c → Ok t ≡ finished s c
-  unfolding finished
-  finish_then h l t e = rw (hb, ← ek', le-ltb k c.no h, le-ltb c.no no_refusal l) (ap Ok e)
-
-pub finish_none : (s : Scope) (c : Doing) → c.busy ≡ false → Ok s ≡ finished s c
-unfolding finished
-finish_none s c hb = rw hb
-
-pub counted_is : (s : Scope) (c : Doing) (p n : ℕ) (v : AtScale) (k a b no' at : ℕ)
-    → v ≡ scaled_to (scaled_by s.a s.b c.letter c.word c.count n) (rounded_by s.a s.b c.letter c.word c.count n)
-    → k ≡ number_refusal c.letter c.word c.count c.zero n v.value
-    → a ≡ kept c.count 1 n c.a → b ≡ kept c.count 2 n c.b → no' ≡ lower k c.no → at ≡ blamed k c.no p c.place c.at
-    → record { busy = c.busy; place = c.place; letter = c.letter; word = c.word; count = c.count + 1; zero = eqb n 0; turns = c.turns; unit = c.unit; a = a; b = b; name = c.name; no = no'; at = at; rounded = c.rounded + v.rounded } ≡ counted s c p n
-unfolding counted
-counted_is s c p n v k a b no' at ev ek ea eb en et = rw (ea, eb, en, et, ek, ev)
-
-pub with_letter_is : (c : Doing) (w t v : ℕ) → t ≡ c.turns + one (turning w) → v ≡ c.name + w * c.unit
-    → record { busy = c.busy; place = c.place; letter = c.letter; word = w; count = c.count; zero = c.zero; turns = t; unit = c.unit / byte_unit; a = c.a; b = c.b; name = v; no = c.no; at = c.at; rounded = c.rounded } ≡ worded c w
-unfolding worded
-with_letter_is c w t v et ev = rw (et, ev)
 
 -- what the code needs is kept
 abbrev FairEnd : Result Scope Refusal → Type 0
@@ -117,11 +82,6 @@ kept_le false x y h k = k
 one_le : (b : Bool) → choose b 1 0 ≤ 1
 one_le true = omega arith
 one_le false = omega arith
-
-pub one_le_rounded : (s : Scope) (c : Doing) (n : ℕ) (v : AtScale)
-    → v ≡ scaled_to (scaled_by s.a s.b c.letter c.word c.count n) (rounded_by s.a s.b c.letter c.word c.count n) → v.rounded ≤ 1
-one_le_rounded s c n v e =
-    subst (λ (k : ℕ). k ≤ 1) (sym (ap (λ (x : AtScale). x.rounded) e)) (one_le (distance c.letter c.word c.count && not (eqb (s.a * n % s.b) 0)))
 
 sane_counted : (m : ℕ) (s : Scope) (c : Doing) (p n : ℕ) → n ≤ too_large → Sane m c → Sane (m + 1) (counted s c p n)
 unfolding counted

@@ -45,10 +45,7 @@ pub struct Doing {
 fn lower_of(k: usize, before: usize) -> usize
     ensures { result ≡ lower k before }
 {
-    if k < before {
-        return k;
-    }
-    before
+    if k < before { k } else { before }
 }
 
 // Where the lower of two refusals is placed: 7 at the command, any other at its number.
@@ -56,45 +53,32 @@ fn blamed_at(k: usize, n: usize, here: usize, place: usize, at: usize) -> usize
     ensures { result ≡ blamed k n here place at }
 {
     if k < n {
-        if k == 7 {
-            return place;
-        }
-        return here;
+        if k == 7 { place } else { here }
+    } else {
+        at
     }
-    at
 }
 
 fn keep(i: usize, k: usize, n: usize, old: usize) -> usize
     ensures { result ≡ kept i k n old }
 {
-    if i == k {
-        return n;
-    }
-    old
+    if i == k { n } else { old }
 }
 
 fn is_turning(b: u8) -> bool
     ensures { result ≡ turning b }
 {
-    if b == b'T' {
-        return true;
-    }
-    if b == b'M' {
-        return true;
-    }
-    b == b'R'
+    matches!(b, b'T' | b'M' | b'R')
 }
 
 fn more_turns(turns: usize, b: u8) -> usize
     requires { turns ≤ farthest }
     ensures { result ≡ turns + one (turning b) }
 {
-    if is_turning(b) {
-        return turns + 1;
-    }
-    turns
+    if is_turning(b) { turns + 1 } else { turns }
 }
 
+#[tactic(auto, unfolding(crate::specs::Along::fresh))]
 fn new_command(busy: bool, place: usize, letter: u8, rounded: usize) -> Doing
     ensures { result ≡ fresh busy place letter rounded }
 {
@@ -116,82 +100,47 @@ fn new_command(busy: bool, place: usize, letter: u8, rounded: usize) -> Doing
     }
 }
 
+#[tactic(auto, unfolding(crate::specs::Along::counted))]
 fn add_number(s: Scope, c: Doing, p: usize, n: usize) -> Doing
     requires { Fair s × Sane farthest c × (n ≤ too_large) }
     ensures { result ≡ counted s c p n }
 {
     let v = rules::scaled(s.a, s.b, c.letter, c.word, c.count, n);
     let k = rules::number_no(c.letter, c.word, c.count, c.zero, n, v.value);
-    let a = keep(c.count, 1, n, c.a);
-    let b = keep(c.count, 2, n, c.b);
-    let no = lower_of(k, c.no);
-    let at = blamed_at(k, c.no, p, c.place, c.at);
     Doing {
-        busy: c.busy,
-        place: c.place,
-        letter: c.letter,
-        word: c.word,
         count: c.count + 1,
         zero: n == 0,
-        turns: c.turns,
-        unit: c.unit,
-        a,
-        b,
-        name: c.name,
-        no,
-        at,
+        a: keep(c.count, 1, n, c.a),
+        b: keep(c.count, 2, n, c.b),
+        no: lower_of(k, c.no),
+        at: blamed_at(k, c.no, p, c.place, c.at),
         rounded: c.rounded + v.rounded,
+        ..c
     }
 }
 
+#[tactic(auto, unfolding(crate::specs::Along::worded))]
 fn add_letter(c: Doing, w: u8) -> Doing
     requires { Sane farthest c }
     ensures { result ≡ worded c w }
 {
-    let turns = more_turns(c.turns, w);
-    let name = names::longer_name(c.name, c.unit, w);
     Doing {
-        busy: c.busy,
-        place: c.place,
-        letter: c.letter,
         word: w,
-        count: c.count,
-        zero: c.zero,
-        turns,
+        turns: more_turns(c.turns, w),
         unit: c.unit / names::BYTE_UNIT,
-        a: c.a,
-        b: c.b,
-        name,
-        no: c.no,
-        at: c.at,
-        rounded: c.rounded,
+        name: names::longer_name(c.name, c.unit, w),
+        ..c
     }
 }
 
 fn layer_now(s: Scope) -> usize
     ensures { result ≡ layer_of s }
 {
-    let i = s.inside;
-    if i {
-        return s.inner;
-    }
-    s.outer
+    if s.inside { s.inner } else { s.outer }
 }
 
-// Within a definition, and outside of any.
-fn within(a: usize, b: usize, outer: usize, inner: usize) -> Scope
-    ensures { result ≡ scope true a b outer inner }
-{
-    Scope {
-        inside: true,
-        a,
-        b,
-        outer,
-        inner,
-    }
-}
-
-fn without(outer: usize) -> Scope
+// Outside of any definition.
+fn outside(outer: usize) -> Scope
     ensures { result ≡ scope false 1 1 outer 0 }
 {
     Scope {
@@ -203,61 +152,47 @@ fn without(outer: usize) -> Scope
     }
 }
 
-// What stands behind a command: DS opens a definition with no layer set, DF closes it, L sets a layer where it stands.
+// What stands after a command: DS opens a definition with no layer set, DF closes it, L sets a layer where it stands.
 fn after_command(s: Scope, c: Doing) -> Scope
     ensures { result ≡ after_doing s c }
 {
-    let l = c.letter;
-    let w = c.word;
-    let i = s.inside;
-    if l == b'D' {
-        if w == b'S' {
-            return within(c.a, c.b, s.outer, 0);
-        }
-        if w == b'F' {
-            return without(s.outer);
-        }
-        return s;
+    match (c.letter, c.word) {
+        (b'D', b'S') => Scope {
+            inside: true,
+            a: c.a,
+            b: c.b,
+            inner: 0,
+            ..s
+        },
+        (b'D', b'F') => outside(s.outer),
+        (b'L', _) if s.inside => Scope { inner: c.name, ..s },
+        (b'L', _) => Scope { outer: c.name, ..s },
+        _ => s,
     }
-    if l == b'L' {
-        if i {
-            return within(s.a, s.b, s.outer, c.name);
-        }
-        return Scope {
-            inside: false,
-            a: s.a,
-            b: s.b,
-            outer: c.name,
-            inner: s.inner,
-        };
-    }
-    s
 }
 
 // How a command ends: what stands then, or its refusal.
+#[tactic(auto, unfolding(crate::specs::Along::finished))]
 fn finish(s: Scope, c: Doing) -> Result<Scope, Refusal>
     ensures { result ≡ finished s c }
 {
-    let busy = c.busy;
-    if busy {
-        let layer = layer_now(s);
-        let k = rules::whole_no(c.letter, c.word, c.count, c.turns, c.a, c.b, layer);
-        let no = c.no;
-        if k < no {
-            return Err(Refusal {
-                rule: rules::rule_of(k),
-                place: c.place,
-            });
-        }
-        if no < rules::NO_REFUSAL {
-            return Err(Refusal {
-                rule: rules::rule_of(no),
-                place: c.at,
-            });
-        }
-        return Ok(after_command(s, c));
+    if !c.busy {
+        return Ok(s);
     }
-    Ok(s)
+    let k = rules::whole_no(c.letter, c.word, c.count, c.turns, c.a, c.b, layer_now(s));
+    if k < c.no {
+        return Err(Refusal {
+            rule: rules::rule_of(k),
+            place: c.place,
+        });
+    }
+    if c.no < rules::NO_REFUSAL {
+        return Err(Refusal {
+            rule: rules::rule_of(c.no),
+            place: c.at,
+        });
+    }
+    Ok(after_command(s, c))
 }
 
 // What is said of a text: nothing against it, and how many of its distances are rounded; or its first refusal.
@@ -265,7 +200,7 @@ pub fn checked(text: &[u8], recogniser: &grammar::Recogniser) -> Result<usize, R
     ensures { result ≡ runs (stream text.now start) at_start (idle 0) }
 {
     let mut spot = pieces::Spot { at: 0, state: 0 };
-    let mut s = without(0);
+    let mut s = outside(0);
     let mut c = new_command(false, 0, 0, 0);
     loop {
         let m = pieces::next_mark(text, recogniser, spot);
@@ -278,11 +213,10 @@ pub fn checked(text: &[u8], recogniser: &grammar::Recogniser) -> Result<usize, R
             c = add_letter(c, m.byte);
             spot = m.to;
         } else {
-            let t = finish(s, c)?;
+            s = finish(s, c)?;
             if mark == grammar::tables::SKIP {
                 return Ok(c.rounded);
             }
-            s = t;
             spot = m.to;
             if mark == grammar::tables::HEAD {
                 c = new_command(true, m.at, m.byte, c.rounded);

@@ -10,7 +10,7 @@ use native.Mathlib.Nat.{add-zero, zero-add, add-suc, suc-add, add_assoc}
 use native.Mathlib.Omega.{arith}
 use lib.Dec.{eqb}
 use lib.ListN.{length, set, length-append}
-use lib.Seq.{sets, length-sets, set_comm, set_out}
+use lib.Seq.{sets, length-sets, set_comm}
 use lib.IntN.{ℤ, pos, neg_ℤ, ◌-ℤ◌, +ℤ_idl}
 use lib.Signed.{mag}
 use mir.Syntax.{w32}
@@ -27,13 +27,11 @@ use Rattle.pieces.specs.declared.Piece.{Piece}
 use Rattle.pieces.specs.declared.Piece.TheVariants.{First, Second, Number, Word, Stop}
 use Rattle.rules.specs.Letters.{letter_c, letter_m, byte_unit, first_unit}
 use Rattle.rules.specs.Written.{Written, items_of, stops, written, written_at, letters, last_of, packed_by, one, inside_behind}
-use Rattle.rules.specs.Rules.{scaled_by, rounded_by, scaled_to}
-use Rattle.rules.specs.declared.AtScale.{AtScale}
-use Rattle.commands.specs.Words.{widest, held, signed, word, value_of, letter_words, body_of, tally, kind_by, framed, words_of, Writes, line_number, line_letter, Lined, closed, Closed, Tells, inside_first, preceding, letters_on, piece_end, pieces_on, ReadsCommand, ReadsItems}
+use Rattle.commands.specs.Words.{widest, held, signed, word, value_of, letter_words, body_of, tally, kind_by, framed, words_of, line_number, line_letter, Lined, closed, Closed, Tells, inside_first, preceding, letters_on, piece_end, pieces_on, ReadsCommand, ReadsItems}
 use Rattle.commands.specs.declared.Line.{Line}
 use Rattle.pieces.proofs.Finds.{Finds, none, some}
 use Rattle.names.proofs.Naming.{name-room}
-use Rattle.std.specs.Prelude.{None, Option, Some}
+use Rattle.std.specs.Prelude.{Some}
 use Rattle.commands.specs.declared.Decoded.{Decoded}
 
 never : false ≡ true → ⊥
@@ -61,9 +59,6 @@ pub word_plus : (σ : Bool) (n m : ℕ) → σ ≡ false → m ≡ held n → m 
 unfolding word
 word_plus σ n m e em h = below m h ∙ ap (λ (k : ℕ). pos k) em ∙ sym (ap (λ (s : Bool). signed s (held n)) e)
 
-pub back : (z : ℤ) → mag z < widest + 1 → to_z w32 (of_z w32 z) ≡ z
-back z h = to_z-of_z {w = w32} {z = z} (record { sfits = h })
-
 -- runs of stores
 pub sets_append : (a b l : List ℤ) (i : ℕ) → sets (sets l i a) (i + length a) b ≡ sets l i (a ++ b)
 sets_append [] b l i = ap (λ (k : ℕ). sets l k b) (add-zero i)
@@ -78,46 +73,6 @@ set-sets (x ∷ vs) l i k v h =
 framing : (ws body : List ℤ) (x y : ℤ) → sets (sets ws 2 body) 0 (x ∷ y ∷ []) ≡ sets ws 0 (x ∷ y ∷ body)
 framing ws body x y =
     ap (λ (m : List ℤ). set m 1 y) (set-sets body ws 0 2 x (omega arith)) ∙ set-sets body (set ws 0 x) 1 2 y (omega arith)
-
-pub nothing : (l : List ℤ) (at : ℕ) → Writes l at [] at l
-nothing l at = record { next = omega arith; laid = refl }
-
-pub same_words : {l : List ℤ} {at : ℕ} {xs ys : List ℤ} {r : ℕ} {l' : List ℤ} → xs ≡ ys → Writes l at xs r l' → Writes l at ys r l'
-same_words {l} {at} {xs} {ys} {r} {l'} e w = subst (λ (vs : List ℤ). Writes l at vs r l') e w
-
-pub both : {l m n : List ℤ} {at k r : ℕ} {xs ys : List ℤ} → Writes l at xs k m → Writes m k ys r n → Writes l at (xs ++ ys) r n
-both {l} {m} {n} {at} {k} {r} {xs} {ys} v w = record {
-  next = let p = v.next in let q = w.next in let s = length-append xs ys in omega arith;
-  laid = w.laid ∙ ap (λ (j : ℕ). sets m j ys) v.next ∙ ap (λ (z : List ℤ). sets z (at + length xs) ys) v.laid ∙ sets_append xs ys l at;
-}
-
-pub put_in : (l : List ℤ) (at : ℕ) (v r : ℤ) → mag r < widest + 1 → r ≡ v → Writes l at (v ∷ []) (at + 1) (set l at (to_z w32 (of_z w32 r)))
-put_in l at v r h e = record { next = refl; laid = ap (λ (z : ℤ). set l at z) (back r h ∙ e) }
-
-pub put_out : (l : List ℤ) (at : ℕ) (v : ℤ) → length l ≤ at → Writes l at (v ∷ []) (at + 1) l
-put_out l at v h = record { next = refl; laid = sym (set_out l at v h) }
-
-pub lined_number : (ws ws' : List ℤ) (c : Line) (a b l : ℕ) (σ : Bool) (n : ℕ) (v : AtScale) (at : ℕ) → v ≡ scaled_to (scaled_by a b l c.word c.count n) (rounded_by a b l c.word c.count n)
-    → Writes ws c.at (word σ v.value ∷ []) at ws'
-    → Lined ws c.at (value_of a b l c.word c.count σ n ∷ []) (line_number c) (record { at = at; word = c.word; count = c.count + 1; unit = c.unit; name = c.name }) ws'
-lined_number ws ws' c a b l σ n v at ev w = record {
-  line = ap (λ (k : ℕ). record { at = k; word = c.word; count = c.count + 1; unit = c.unit; name = c.name }) w.next;
-  laid = w.laid ∙ ap (λ (k : AtScale). sets ws c.at (word σ k.value ∷ [])) ev;
-}
-
-pub lined_letter : (ws ws' : List ℤ) (c : Line) (l x y at : ℕ) → y ≡ c.name + x * c.unit → Writes ws c.at (letter_words l x) at ws'
-    → Lined ws c.at (letter_words l x) (line_letter l c x) (record { at = at; word = x; count = c.count; unit = c.unit / byte_unit; name = y }) ws'
-lined_letter ws ws' c l x y at ey w = record {
-  line = rw (w.next, ey);
-  laid = w.laid;
-}
-
-pub closed_is : (ws ws₁ ws₂ : List ℤ) (l p : ℕ) (c : Line) (to : Spot) (end n k r : ℕ) → Writes ws c.at (closed l c) end ws₁ → n ≡ held (end - 2) → k ≡ kind_by l c.word → (y : ℕ) → y ≡ k
-    → Writes ws₁ 0 (word false (y + byte_unit * n) ∷ word false p ∷ []) r ws₂ → Closed ws l p c to (Some (record { kind = k; place = p; end = end; to = to })) ws₂
-closed_is ws ws₁ ws₂ l p c to end n k r w en ek y ey v = record {
-  is = rw (ek, w.next);
-  laid = v.laid ∙ rw (ey, ek, en, w.next, w.laid);
-}
 
 -- where a piece ends: a number behind its last digit, any other behind its letter
 module _ {t : List ℕ} {s : Spot} {m : Begun} (g : Begins t s m) where
@@ -346,7 +301,7 @@ module _ {t : List ℕ} {s₀ : Spot} {l a b : ℕ} {ws₀ : List ℤ} {s : Spot
     left_over k = ap (λ (z : List Piece). pieces_on t (length z + k) s) no_items ∙ ap (λ (j : ℕ). pieces_on t j s) (zero-add k)
 
     wording_done : (to : Spot) → to ≡ pieces_on t (one (stops (stream t s))) s → written (stream t s) ≡ written (stream t to) → Fit t to → s.at ≤ to.at → (stops (stream t s) ≡ true → to ≡ behind (inside s.state) to.at)
-        → (r : Option Decoded) (ws' : List ℤ) → Closed ws l p c to r ws' → ReadsItems t s₀ p l a b ws₀ r ws'
+        → (r : Decoded) (ws' : List ℤ) → Closed ws l p c to r ws' → ReadsItems t s₀ p l a b ws₀ r ws'
     wording_done to end ec f h st r ws' k =
         let D = g.drawn in
         let cl = closed l c in
@@ -354,7 +309,7 @@ module _ {t : List ℕ} {s₀ : Spot} {l a b : ℕ} {ws₀ : List ℤ} {s : Spot
         let m : c.at + length cl ≡ suc (suc (length (D ++ cl))) = let e = length-append D cl in let i = g.at_is in omega arith in
         let m₂ : c.at + length cl - 2 ≡ length (D ++ cl) = omega arith in
         let front : ℕ → List ℤ = λ n. word false (kind_by l c.word + byte_unit * held n) ∷ word false p ∷ [] in
-        let out : ReadsItems t s₀ p l a b ws₀ (Some (record { kind = (kind_by l c.word); place = p; end = (c.at + length cl); to = to })) ws' = record {
+        let out : ReadsItems t s₀ p l a b ws₀ (record { kind = kind_by l c.word; place = p; end = c.at + length cl; to = to }) ws' = record {
           is = sym g.rest ∙ ec;
           exact = end ∙ sym (left_over (one (stops (stream t s)))) ∙ g.onward (one (stops (stream t s))) ∙ ap (λ (z : Bool). pieces_on t (length (items_of (stream t s₀)) + one z) s₀) g.stopping;
           tells = record {
@@ -373,16 +328,16 @@ module _ {t : List ℕ} {s₀ : Spot} {l a b : ℕ} {ws₀ : List ℤ} {s : Spot
           fit = f;
           ahead = omega arith;
         } in
-        subst (λ (q : Option Decoded). ReadsItems t s₀ p l a b ws₀ q ws') (sym k.is) out
+        subst (λ (q : Decoded). ReadsItems t s₀ p l a b ws₀ q ws') (sym k.is) out
 
-  ended : {p : ℕ} {r : Option Decoded} {ws' : List ℤ} (xs : List Piece) → stream t s ≡ xs → items_of xs ≡ [] → stops xs ≡ false → Closed ws l p c s r ws' → ReadsItems t s₀ p l a b ws₀ r ws'
+  ended : {p : ℕ} {r : Decoded} {ws' : List ℤ} (xs : List Piece) → stream t s ≡ xs → items_of xs ≡ [] → stops xs ≡ false → Closed ws l p c s r ws' → ReadsItems t s₀ p l a b ws₀ r ws'
   unfolding pieces_on
   ended {p} {r} {ws'} xs e i o k =
       wording_done (ap (λ (z : List Piece). items_of z) e ∙ i) p s
       (sym (ap (λ (z : Bool). pieces_on t (one z) s) (ap (λ (z : List Piece). stops z) e ∙ o))) refl g.fit (omega arith) (λ h. absurd (never (sym (ap (λ (z : List Piece). stops z) e ∙ o) ∙ h))) r ws' k
 
   -- where no piece is left, or before the next command's first letter
-  pub wording_ended : {to : Spot} {n p : ℕ} {r : Option Decoded} {ws' : List ℤ} → Finds t s to n → (n ≡ number lead → ⊥) → n ≤ number head → (n ≡ number stop → ⊥) → Closed ws l p c s r ws' → ReadsItems t s₀ p l a b ws₀ r ws'
+  pub wording_ended : {to : Spot} {n p : ℕ} {r : Decoded} {ws' : List ℤ} → Finds t s to n → (n ≡ number lead → ⊥) → n ≤ number head → (n ≡ number stop → ⊥) → Closed ws l p c s r ws' → ReadsItems t s₀ p l a b ws₀ r ws'
   unfolding items_of stops
   wording_ended (none z h) d u e k = ended [] h refl refl k
   wording_ended {to} (some (First q y) z st) d u e k = ended (First q y ∷ stream t to) st.is refl refl k
@@ -391,7 +346,7 @@ module _ {t : List ℕ} {s₀ : Spot} {l a b : ℕ} {ws₀ : List ℤ} {s : Spot
   wording_ended (some (Word y) z st) d u e k = absurd (omega arith)
   wording_ended (some Stop z st) d u e k = absurd (e z)
 
-  pub wording_stop : {to : Spot} {p : ℕ} {r : Option Decoded} {ws' : List ℤ} → Step t s Stop to → to ≡ piece_end t (begun t s) → Closed ws l p c to r ws' → ReadsItems t s₀ p l a b ws₀ r ws'
+  pub wording_stop : {to : Spot} {p : ℕ} {r : Decoded} {ws' : List ℤ} → Step t s Stop to → to ≡ piece_end t (begun t s) → Closed ws l p c to r ws' → ReadsItems t s₀ p l a b ws₀ r ws'
   unfolding items_of written stops pieces_on
   wording_stop {to} {p} {r} {ws'} st end k =
       let h = st.ahead in
@@ -450,21 +405,20 @@ module _ {t : List ℕ} {s₀ s : Spot} (g : Seeking t s₀ s) where
   unfolding preceding letters_on
   first_on st = sym (ap (λ (z : List Piece). letters_on t (preceding z + 1) s) st.is) ∙ g.onward 1
 
-  pub seeking_found : {to : Spot} {p l : ℕ} {ws ws₁ : List ℤ} → Step t s (First p l) to → to ≡ (begun t s).to → ws₁ ≡ ws → (a b : ℕ) (r : Option Decoded) (ws' : List ℤ) → ReadsItems t to p l a b ws₁ r ws' → ReadsCommand t s₀ a b ws r ws'
+  pub seeking_found : {to : Spot} {p l : ℕ} {ws ws₁ : List ℤ} → Step t s (First p l) to → to ≡ (begun t s).to → ws₁ ≡ ws → (a b : ℕ) (d : Decoded) (ws' : List ℤ) → ReadsItems t to p l a b ws₁ d ws' → ReadsCommand t s₀ a b ws (Some d) ws'
   unfolding written
-  seeking_found {to} {p} {l} {ws} st x e a b (Some (record { kind = k; place = q; end = n; to = end })) ws' d =
+  seeking_found {to} {p} {l} {ws} st x e a b d ws' r =
       let c = written_at p l (stream t to) in
       let h₁ = st.ahead in
       let h₂ = g.from in
-      let h₃ = d.ahead in
-      let u : Tells a b c (inside to.state) ws k q n end ws' = subst (λ (z : List ℤ). Tells a b c (inside to.state) z k q n end ws') e d.tells in (
+      let h₃ = r.ahead in
+      let u : Tells a b c (inside to.state) ws d.kind d.place d.end d.to ws' = subst (λ (z : List ℤ). Tells a b c (inside to.state) z d.kind d.place d.end d.to ws') e r.tells in (
         c,
         record {
-          is = sym g.is ∙ ap (λ (z : List Piece). written z) st.is ∙ ap (λ (z : List Written). c ∷ z) d.is;
-          exact = d.exact ∙ ap (λ (z : Spot). pieces_on t (length c.items + one c.stopped) z) (x ∙ first_on st);
-          tells = subst (λ (i : Bool). Tells a b c i ws k q n end ws') (open_first st) u;
-          fit = d.fit;
+          is = sym g.is ∙ ap (λ (z : List Piece). written z) st.is ∙ ap (λ (z : List Written). c ∷ z) r.is;
+          exact = r.exact ∙ ap (λ (z : Spot). pieces_on t (length c.items + one c.stopped) z) (x ∙ first_on st);
+          tells = subst (λ (i : Bool). Tells a b c i ws d.kind d.place d.end d.to ws') (open_first st) u;
+          fit = r.fit;
           ahead = omega arith;
         },
       )
-  seeking_found st x e a b None ws' d = absurd d

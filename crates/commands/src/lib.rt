@@ -31,30 +31,18 @@ pub struct Decoded {
     pub to: pieces::Spot,
 }
 
-fn wide(b: u8) -> usize
-    ensures { result ≡ b }
-{
-    b as usize
-}
-
+#[tactic(auto, unfolding(crate::specs::Words::held))]
 fn held_of(n: usize) -> usize
     ensures { (result ≡ held n) × (result ≤ widest) }
 {
-    if WIDEST < n {
-        return WIDEST;
-    }
-    n
+    n.min(WIDEST)
 }
 
 fn word_of(minus: bool, n: usize) -> i32
     ensures { result ≡ word minus n }
 {
-    let m = held_of(n);
-    let v = m as i32;
-    if minus {
-        return -v;
-    }
-    v
+    let v = held_of(n) as i32;
+    if minus { -v } else { v }
 }
 
 // A word past the end of the run is dropped, and counted all the same: so a run of no words measures.
@@ -62,10 +50,8 @@ fn put_word(words: &mut [i32], at: usize, minus: bool, n: usize) -> usize
     requires { at ≤ outmost }
     ensures { Writes words.old at (word minus n ∷ []) result words.new }
 {
-    let v = word_of(minus, n);
     if at < words.len() {
-        words[at] = v;
-        return at + 1;
+        words[at] = word_of(minus, n);
     }
     at + 1
 }
@@ -78,21 +64,20 @@ fn put_two(words: &mut [i32], at: usize, x: usize, y: usize) -> usize
     put_word(words, m, false, y)
 }
 
+#[tactic(auto, unfolding(crate::specs::Words::letter_words))]
 fn put_letter(words: &mut [i32], at: usize, letter: u8, x: u8) -> usize
     requires { at ≤ outmost }
     ensures { Writes words.old at (letter_words letter x) result words.new }
 {
-    if letter == b'C' {
-        if x == b'M' {
-            return at;
-        }
-        let n = wide(x);
-        return put_word(words, at, false, n);
+    if letter == b'C' && x != b'M' {
+        put_word(words, at, false, x as usize)
+    } else {
+        at
     }
-    at
 }
 
 // What a command's end adds: a layer's name, a box's direction and a definition's scale where they are left out.
+#[tactic(auto, unfolding(crate::specs::Words::closing))]
 fn put_closing(
     words: &mut [i32],
     at: usize,
@@ -104,25 +89,12 @@ fn put_closing(
     requires { at < outmost }
     ensures { Writes words.old at (closing letter word count name) result words.new }
 {
-    if letter == b'L' {
-        return put_word(words, at, false, name);
+    match (letter, word, count) {
+        (b'L', _, _) => put_word(words, at, false, name),
+        (b'B', _, 4) => put_two(words, at, 1, 0),
+        (b'D', b'S', 1) => put_two(words, at, 1, 1),
+        _ => at,
     }
-    if letter == b'B' {
-        if count == 4 {
-            return put_two(words, at, 1, 0);
-        }
-        return at;
-    }
-    if letter == b'D' {
-        if word == b'S' {
-            if count == 1 {
-                return put_two(words, at, 1, 1);
-            }
-            return at;
-        }
-        return at;
-    }
-    at
 }
 
 fn line_number(
@@ -139,13 +111,10 @@ fn line_number(
     ensures { Lined words.old c.at (value_of a b letter c.word c.count minus n ∷ []) (line_number c) result words.new }
 {
     let v = rules::scaled(a, b, letter, c.word, c.count, n);
-    let at = put_word(words, c.at, minus, v.value);
     Line {
-        at,
-        word: c.word,
+        at: put_word(words, c.at, minus, v.value),
         count: c.count + 1,
-        unit: c.unit,
-        name: c.name,
+        ..c
     }
 }
 
@@ -153,24 +122,19 @@ fn line_letter(words: &mut [i32], c: Line, letter: u8, x: u8) -> Line
     requires { (c.at < outmost) × (c.name + byte_unit * c.unit ≤ byte_unit * first_unit) }
     ensures { Lined words.old c.at (letter_words letter x) (line_letter letter c x) result words.new }
 {
-    let at = put_letter(words, c.at, letter, x);
-    let name = names::longer_name(c.name, c.unit, x);
     Line {
-        at,
+        at: put_letter(words, c.at, letter, x),
         word: x,
-        count: c.count,
         unit: c.unit / names::BYTE_UNIT,
-        name,
+        name: names::longer_name(c.name, c.unit, x),
+        ..c
     }
 }
 
 fn kind_by(letter: u8, word: u8) -> u8
     ensures { result ≡ kind_by letter word }
 {
-    if letter == b'D' {
-        return word;
-    }
-    letter
+    if letter == b'D' { word } else { letter }
 }
 
 fn close(words: &mut [i32], letter: u8, place: usize, c: Line, to: pieces::Spot) -> Decoded
@@ -180,8 +144,7 @@ fn close(words: &mut [i32], letter: u8, place: usize, c: Line, to: pieces::Spot)
     let end = put_closing(words, c.at, letter, c.word, c.count, c.name);
     let n = held_of(end - 2);
     let kind = kind_by(letter, c.word);
-    let h = wide(kind) + names::BYTE_UNIT * n;
-    put_two(words, 0, h, place);
+    put_two(words, 0, kind as usize + names::BYTE_UNIT * n, place);
     Decoded {
         kind,
         place,
@@ -224,10 +187,9 @@ fn read_items(
         } else if grammar::tables::HEAD < mark {
             c = line_letter(words, c, letter, m.byte);
             spot = m.to;
+        } else if mark == grammar::tables::STOP {
+            return close(words, letter, place, c, m.to);
         } else {
-            if mark == grammar::tables::STOP {
-                return close(words, letter, place, c, m.to);
-            }
             return close(words, letter, place, c, spot);
         }
     }

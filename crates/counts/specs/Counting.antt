@@ -1,18 +1,17 @@
 -- What one more does to the running counts, and that this is how the definition's `counted` counts the event. A running account, not to be believed:
 -- what is counted, and where a limit refuses, is said by crates/definition.
 -- Assumes nothing.
-use Rattle.std.specs.Prelude.{◌≡◌, false, ℕ, ◌+◌, ltb, if◌then◌else◌}
+use Rattle.std.specs.Prelude.{◌≡◌, false, ℕ, ◌+◌, ltb, if◌then◌else◌, Result, Ok, Err}
 use Rattle.definition.specs.Words.{none?}
 use Rattle.definition.specs.Table.{Definition, Table, find}
 use Rattle.definition.specs.Drawing.{Chain, Drawn, called, drew, entered}
 use Rattle.definition.specs.Counts.{counts, End, finished, stopped, counted}
 use Rattle.definition.specs.Counts.{Counts as Tally}
 use Rattle.definition.specs.Limits.{most_calls, most_shapes}
-use Rattle.counts.specs.declared.Counts.{Counts}
-use Rattle.std.specs.Prelude.{Err, Ok, Result}
+use Rattle.definition.specs.Rules.{refuse}
 use Rattle.definition.specs.declared.Rule.{Rule}
 use Rattle.definition.specs.declared.Rule.TheVariants.{TooManyCalls, TooManyShapes}
-use Rattle.definition.specs.Rules.{refuse}
+use Rattle.counts.specs.declared.Counts.{Counts}
 
 -- the record, as the definition has it
 abbrev pub tally : Counts → Tally

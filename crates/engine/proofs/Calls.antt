@@ -1,5 +1,6 @@
 -- One call drawn: refused before its body, or its body drawn one level down with the call open, by what `open_call` answers.
 -- Assumes nothing.
+use Rattle.std.specs.Prelude.{Some, Result, Ok, Err}
 use mathlib.Core.Path.{◌≡◌, refl, sym, ap, ◌∙◌, subst}
 use mathlib.Core.List.{List, [], ◌∷◌, ◌++◌}
 use Prim.Native.Nat.{ℕ, zero, suc, ◌+◌, ◌-◌, ◌≤◌, ◌<◌}
@@ -25,9 +26,8 @@ use Rattle.chain.proofs.Runs.{kept-lower, kept-both}
 use Rattle.opening.specs.declared.Call.{Call}
 use Rattle.opening.specs.Opening.{Descent, Opens}
 use Rattle.opening.proofs.Opening.{called-first, counted-few}
-use Rattle.engine.specs.Draws.{open_at, Ready, BodyAt, Draws, CallDraws}
-use Rattle.std.specs.Prelude.{Err, Ok, Result, Some}
 use Rattle.opening.specs.declared.Entered.{Entered}
+use Rattle.engine.specs.Draws.{open_at, Ready, BodyAt, Draws, CallDraws}
 
 -- ---- one level down
 

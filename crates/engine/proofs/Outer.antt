@@ -1,5 +1,6 @@
 -- A command outside of definitions that draws: a call where none is open, or a shape where nothing is moved. `draw_outer` goes by it.
 -- Assumes nothing.
+use Rattle.std.specs.Prelude.{Result}
 use mathlib.Core.Path.{◌≡◌, sym, ◌∙◌, subst}
 use mathlib.Core.List.{List, []}
 use Prim.Native.Nat.{ℕ, ◌+◌, ◌≤◌}
@@ -8,6 +9,7 @@ use lib.IntN.{ℤ, nat_abs}
 use Rattle.definition.specs.Words.{at}
 use Rattle.definition.specs.Table.{Step, shape}
 use Rattle.definition.specs.Drawing.{Chain, output, drawn_step, drawn_call, happens}
+use Rattle.definition.specs.declared.Refusal.{Refusal}
 use Rattle.turns.specs.declared.Net.{Net}
 use Rattle.turns.specs.Nets.{Carries}
 use Rattle.names.specs.Names.{name_of}
@@ -22,8 +24,6 @@ use Rattle.opening.specs.Calls.{CalledAt, ReadsCall}
 use Rattle.engine.specs.Draws.{Ready, CallDraws}
 use Rattle.engine.specs.Outer.{Says, a_shape, a_call, OuterDraws}
 use Rattle.engine.proofs.Taking.{no_kind}
-use Rattle.std.specs.Prelude.{Result}
-use Rattle.definition.specs.declared.Refusal.{Refusal}
 
 -- what is ready for the outermost call is so with fewer levels left
 pub ready_at : {rows : List ℕ} {b : List ℤ} {live : ℕ} {numbers : List ℤ} {drawing : List ℕ} {outermost : ℕ} {ink : Ink} → Ready rows b live numbers drawing outermost ink

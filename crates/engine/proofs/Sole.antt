@@ -1,5 +1,6 @@
 -- Two outcomes that the contracts of this crate allow are one: the answer, every byte of the room, and where it is refused the chain that is told.
 -- Assumes nothing.
+use Rattle.std.specs.Prelude.{Result, Err}
 use mathlib.Core.Path.{◌≡◌}
 use mathlib.Core.List.{List}
 use Prim.Native.Nat.{ℕ}
@@ -16,7 +17,6 @@ use Rattle.opening.specs.declared.Call.{Call}
 use Rattle.opening.proofs.Witnesses.{some_list, turned_by, turned_so, turned_still}
 use Rattle.engine.specs.Draws.{Draws, CallDraws}
 use Rattle.engine.specs.Outer.{Says, OuterDraws}
-use Rattle.std.specs.Prelude.{Err, Result}
 
 module _ (rows : List ℕ) (b : List ℤ) (live : ℕ) (drawing : List ℕ) (left : ℕ) (ink : Ink) {room : List ℕ} {r s : Result Ink Refusal} {told other : Chain} {room' room'' : List ℕ} where
   pub draws_once : (net : Net) (from end : ℕ) → Draws rows b live drawing net left from end ink room told r room'

@@ -1,6 +1,7 @@
 -- What the loop of `draw_body` keeps: for every list that fits, what is left from here is what was to be drawn where these calls are open. The steps that
 -- are left are those whose words stand from here to the end.
 -- Assumes nothing.
+use Rattle.std.specs.Prelude.{Result, Ok, Err}
 use mathlib.Core.Path.{◌≡◌, refl, sym, ap, ◌∙◌, subst}
 use mathlib.Core.List.{List, [], ◌∷◌, ◌++◌}
 use Prim.Native.Nat.{ℕ, ◌+◌, ◌-◌, ◌*◌, ◌^◌, ◌≤◌, ◌<◌}
@@ -25,15 +26,14 @@ use Rattle.library.specs.Memory.{call_letter, layer_letter, words_at, layer_afte
 use Rattle.library.specs.Sound.{all_words, Proper}
 use Rattle.library.proofs.Decoded.{steps_are}
 use Rattle.engine.specs.declared.Head.{Head}
+use Rattle.engine.specs.Heads.{head_in}
+use Rattle.engine.specs.Draws.{open_at, Ready, BodyAt, Draws, CallDraws}
+use Rattle.engine.proofs.Taking.{Met, meets, two_words, layer_is, call_is, call_words, shape_is, shape_words}
 use Rattle.chain.specs.Chain.{Kept}
 use Rattle.chain.proofs.Runs.{kept_open, kept-both, untouched}
 use Rattle.opening.specs.declared.Call.{Call}
-use Rattle.engine.specs.Heads.{head_in}
 use Rattle.opening.specs.Calls.{CalledAt, ReadsCall}
-use Rattle.engine.specs.Draws.{open_at, Ready, BodyAt, Draws, CallDraws}
 use Rattle.opening.proofs.Witnesses.{some_list}
-use Rattle.engine.proofs.Taking.{Met, meets, two_words, layer_is, call_is, call_words, shape_is, shape_words}
-use Rattle.std.specs.Prelude.{Err, Ok, Result}
 
 pub record Underway (rows : List ℕ) (b : List ℤ) (live : ℕ) (net : Net) (left from end : ℕ) (ink₀ : Ink) (numbers₀ : List ℤ) (drawing₀ room₀ : List ℕ)
     (numbers : List ℤ) (drawing room : List ℕ) (here layer : ℕ) (ink : Ink) : Type 0 where

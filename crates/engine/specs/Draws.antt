@@ -1,11 +1,12 @@
 -- What a call and a body draw, in the table that the memory holds and where the first calls of the run are open, with the chain that is told where an
 -- event is refused. A running account, not to be believed: what is drawn is said by crates/definition's `drawn_body` and `drawn_call`.
 -- Assumes nothing.
-use Rattle.std.specs.Prelude.{◌≡◌, List, ◌++◌, ℕ, ◌+◌, ◌-◌, ◌≤◌, ℤ, length}
+use Rattle.std.specs.Prelude.{◌≡◌, List, ◌++◌, ℕ, ◌+◌, ◌-◌, ◌≤◌, ℤ, length, Result}
 use Rattle.definition.specs.Commands.{Turn}
 use Rattle.definition.specs.Limits.{deepest}
 use Rattle.definition.specs.Turns.{off_axes}
 use Rattle.definition.specs.Drawing.{Chain, drawn_body, drawn_call}
+use Rattle.definition.specs.declared.Refusal.{Refusal}
 use Rattle.turns.specs.declared.Net.{Net}
 use Rattle.turns.specs.Nets.{Carries}
 use Rattle.moves.specs.Moves.{most_values}
@@ -16,8 +17,6 @@ use Rattle.library.specs.Sound.{Sound, Stocked}
 use Rattle.library.specs.Rows.{Sorted}
 use Rattle.chain.specs.Chain.{run_length, open_calls}
 use Rattle.opening.specs.declared.Call.{Call}
-use Rattle.std.specs.Prelude.{Result}
-use Rattle.definition.specs.declared.Refusal.{Refusal}
 
 -- the calls that are open where so many levels are left
 abbrev pub open_at : List ℕ → (left : ℕ) → Chain

@@ -1,9 +1,10 @@
 -- A command outside of definitions that draws: what its words say, and that what happens is the definition's. A running account, not to be believed.
 -- Assumes nothing.
-use Rattle.std.specs.Prelude.{◌≡◌, List, ℕ, ℤ, nat_abs}
+use Rattle.std.specs.Prelude.{◌≡◌, List, ℕ, ℤ, nat_abs, Result}
 use Rattle.definition.specs.Words.{at}
 use Rattle.definition.specs.Table.{Step, shape, instance}
 use Rattle.definition.specs.Drawing.{output, happens}
+use Rattle.definition.specs.declared.Refusal.{Refusal}
 use Rattle.names.specs.Names.{name_of}
 use Rattle.moves.specs.Moves.{ShapedAt}
 use Rattle.shapes.specs.declared.Ink.{Ink}
@@ -11,8 +12,6 @@ use Rattle.shapes.specs.Painting.{Painted}
 use Rattle.library.specs.Memory.{call_letter, table_of}
 use Rattle.chain.specs.Chain.{chain_in}
 use Rattle.opening.specs.Calls.{CalledAt}
-use Rattle.std.specs.Prelude.{Result}
-use Rattle.definition.specs.declared.Refusal.{Refusal}
 
 -- the words after the first two, up to this place, are those of a shape, on the layer that stands, or of a call
 pub data Says (words : List ℤ) (kind end : ℕ) (l : List ℕ) : Step → Type 0 where

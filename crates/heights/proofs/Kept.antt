@@ -13,7 +13,10 @@ use lib.Bits.{bit_or}
 use lib.IntN.{ℤ}
 use lib.ListN.{length, get_or, set, replicate, length-set}
 use lib.Seq.{get_or-set_same, get_or-set_other}
+use Rattle.std.specs.Prelude.{Option as Maybe, Some, None, Result, Ok, Err, ok_or}
 use Rattle.definition.specs.Limits.{deepest}
+use Rattle.definition.specs.declared.Rule.{Rule}
+use Rattle.definition.specs.declared.Rule.TheVariants.{UndefinedSymbol, BeingDrawn, TooDeep}
 use Rattle.definition.specs.Words.{any}
 use Rattle.definition.specs.Table.{Definition}
 use Rattle.library.specs.Memory.{most, most_words, symbol_at, body_at, definition_at}
@@ -21,16 +24,14 @@ use Rattle.library.specs.Sound.{Stocked}
 use Rattle.library.specs.Rows.{Sorted, Finds}
 use Rattle.library.proofs.Cases.{by_row, side}
 use Rattle.library.proofs.Looking.{found, not_found}
+use Rattle.heights.specs.declared.Standing.{Standing}
+use Rattle.heights.specs.declared.Next.{Next}
+use Rattle.heights.specs.declared.Looked.{Looked}
+use Rattle.heights.specs.declared.Looked.TheVariants.{Known, Fresh}
 use Rattle.heights.specs.Calls.{calls_of, Remains, CallNext}
-use Rattle.heights.specs.Walk.{Node, Graph, thence, through, raised, enters, among, walk, free, within, set_from, node_of, graph_in}
+use Rattle.heights.specs.Walk.{Node, Graph, standing, thence, through, raised, enters, among, walk, free, within, set_from, node_of, graph_in}
 use Rattle.heights.specs.Kept.{open_mark, height_at, AtRow, Looks, undefined, is_open, too_tall, known, too_deep, fresh, Stood, Leads, Each, Ready, Opened, Inside, Keeps, KeepsIf, Replies, BodyReplies}
 use Rattle.heights.proofs.Walking.{is_within, is_beyond, thence_on, thence_bar, one_more, each, enters_on, no_taller, with_more, stands-free, known-answers, leads_on, leads-calls}
-use Rattle.std.specs.Prelude.{Err, None, Ok, Option, Result, Some}
-use Rattle.heights.specs.declared.Looked.{Looked}
-use Rattle.definition.specs.declared.Rule.{Rule}
-use Rattle.heights.specs.declared.Next.{Next}
-use Rattle.heights.specs.declared.Standing.{Standing}
-use Rattle.heights.specs.declared.Looked.TheVariants.{Known, Fresh}
 
 -- no height is the mark
 unmarked : (h : ℕ) → h ≤ deepest → eqb h open_mark ≡ false
@@ -38,10 +39,14 @@ unmarked h l = ne_eqb h open_mark (λ e. omega (arith, e))
 
 -- ---- a look-up
 
-pub not_live : (rows : List ℕ) (live n : ℕ) {r : Option ℕ} → Finds rows live n r → r ≡ None → Finds rows live n None
-not_live rows live n h e = subst (Finds rows live n) e h
+pub not_live : {rows : List ℕ} {live n : ℕ} {heights layers : List ℕ} {left : ℕ} {x : Maybe ℕ} {r : Rule} → Finds rows live n x → x ≡ None → ◌≡◌ {A = Result ℕ Rule} (Err r) (ok_or x UndefinedSymbol)
+    → Looks rows live heights layers n left (Err r)
+not_live {rows} {live} {n} {heights} {layers} {left} {r = r} h e f =
+    let g : ◌≡◌ {A = Result ℕ Rule} (Err r) (Err UndefinedSymbol) = f ∙ ap (λ (y : Maybe ℕ). ok_or y UndefinedSymbol) e in
+    let q : UndefinedSymbol ≡ r = cc in
+    subst (λ (k : Rule). Looks rows live heights layers n left (Err k)) q (undefined (subst (Finds rows live n) e h))
 
-pub at_row : (rows : List ℕ) (live n : ℕ) {r : Option ℕ} {i : ℕ} → Finds rows live n r → r ≡ Some i → AtRow rows live n i
+pub at_row : (rows : List ℕ) (live n : ℕ) {r : Maybe ℕ} {i : ℕ} → Finds rows live n r → r ≡ Some i → AtRow rows live n i
 at_row rows live n h e = record { finds = subst (Finds rows live n) e h }
 
 module _ {rows : List ℕ} {live n i : ℕ} (f : AtRow rows live n i) where
@@ -56,8 +61,8 @@ module _ {rows : List ℕ} {live n i : ℕ} (f : AtRow rows live n i) where
   symbol_is = f.finds.1
 
 -- the call that comes next
-pub next_is : (b : List ℤ) {at end : ℕ} {cs : List ℕ} {x : Option Next} {n next : ℕ} → CallNext b at end cs x → x ≡ Some (record { symbol = n; at = next })
-    → (rest : List ℕ) × (cs ≡ n ∷ rest) × Remains b next end rest × (at < next)
+pub next_is : (b : List ℤ) {at end : ℕ} {cs : List ℕ} {x : Maybe Next} {c : Next} → CallNext b at end cs x → x ≡ Some c
+    → (rest : List ℕ) × (cs ≡ c.symbol ∷ rest) × Remains b c.at end rest × (at < c.at)
 unfolding CallNext
 next_is b {at} {end} {cs} h e = subst (CallNext b at end cs) e h
 
@@ -91,17 +96,17 @@ module _ (rows : List ℕ) (b : List ℤ) (live : ℕ) (own : List ℕ) where
   no_node : (n : ℕ) → Finds rows live n None → g n ≡ none
   no_node n f = ap (λ (x : Option Definition). node_of x (set_from rows own n 0 live)) (not_found rows b n live None f refl)
 
-  undefined-bars : (left : ℕ) (o : List ℕ) (n : ℕ) → g n ≡ none → walk g left o n ≡ Err 12
+  undefined-bars : (left : ℕ) (o : List ℕ) (n : ℕ) → g n ≡ none → walk g left o n ≡ Err UndefinedSymbol
   unfolding walk enters
   undefined-bars zero o n e = rw e
   undefined-bars (suc left) o n e = rw e
 
-  open_bars : (left : ℕ) (o : List ℕ) (n : ℕ) {d : Node} → g n ≡ some d → among n o ≡ true → walk g left o n ≡ Err 13
+  open_bars : (left : ℕ) (o : List ℕ) (n : ℕ) {d : Node} → g n ≡ some d → among n o ≡ true → walk g left o n ≡ Err BeingDrawn
   unfolding walk enters
   open_bars zero o n e f = rw (e, f)
   open_bars (suc left) o n e f = rw (e, f)
 
-  none_left-bars : (left : ℕ) (o : List ℕ) (n : ℕ) {d : Node} → left ≡ 0 → g n ≡ some d → among n o ≡ false → walk g left o n ≡ Err 14
+  none_left-bars : (left : ℕ) (o : List ℕ) (n : ℕ) {d : Node} → left ≡ 0 → g n ≡ some d → among n o ≡ false → walk g left o n ≡ Err TooDeep
   unfolding walk
   none_left-bars left o n z e f = ap (λ (k : ℕ). walk g k o n) z ∙ enters_on _ e f
 
@@ -122,8 +127,8 @@ module _ (rows : List ℕ) (b : List ℤ) (live : ℕ) (own : List ℕ) where
     pub some_left : 0 < left
 
   abbrev Says : (heights : List ℕ) (n left : ℕ) → Result Looked Rule → Type 0
-  Says heights n left (Err k) = (o : List ℕ) → Opened rows b live own heights n o → Err k ≡ walk g left o n
-  Says heights n left (Ok (Known h s)) = (o : List ℕ) → Opened rows b live own heights n o → Ok (record { height = h; layers = s }) ≡ walk g left o n
+  Says heights n left (Err r) = (o : List ℕ) → Opened rows b live own heights n o → Err r ≡ walk g left o n
+  Says heights n left (Ok (Known h s)) = (o : List ℕ) → Opened rows b live own heights n o → standing h s ≡ walk g left o n
   Says heights n left (Ok (Fresh i)) = Untried heights n left i
 
   module _ {heights layers : List ℕ} {left : ℕ} (ready : Ready rows b live own heights layers left) where
@@ -150,10 +155,10 @@ module _ (rows : List ℕ) (b : List ℤ) (live : ℕ) (own : List ℕ) where
       it_says : {q : Result Looked Rule} → r ≡ q → Says heights n left q
       it_says e = subst (Says heights n left) e (says looks)
 
-      pub refused_says : {k : ℕ} → r ≡ Err k → Replies rows b live own heights n left (Err k) heights layers
+      pub refused_says : {k : Rule} → r ≡ Err k → Replies rows b live own heights n left (Err k) heights layers
       refused_says e = record { reply = it_says e; keeps = tt }
 
-      pub known-says : {h s : ℕ} → r ≡ Ok (Known h s) → Replies rows b live own heights n left (Ok (record { height = h; layers = s })) heights layers
+      pub known-says : {h s : ℕ} → r ≡ Ok (Known h s) → Replies rows b live own heights n left (standing h s) heights layers
       known-says e = record { reply = it_says e; keeps = kept_same }
 
       pub untried : {i : ℕ} → r ≡ Ok (Fresh i) → Untried heights n left i
@@ -218,15 +223,15 @@ module _ (rows : List ℕ) (b : List ℤ) (live : ℕ) (own : List ℕ) where
         body-tells : {q : Result Standing Rule} → r ≡ q → (o : List ℕ) → Opened rows b live own heights n o → raised q ≡ walk g left o n
         body-tells e o op = ap raised (sym e ∙ body.reply (n ∷ o) (inside o op)) ∙ sym (goes_in left o n u.some_left (node_at u.row) (closed op))
 
-        pub body_refused : {k : ℕ} → r ≡ Err k → Replies rows b live own heights n left (Err k) heights' layers'
+        pub body_refused : {k : Rule} → r ≡ Err k → Replies rows b live own heights n left (Err k) heights' layers'
         unfolding raised
         body_refused e = record { reply = body-tells e; keeps = tt }
 
-        module _ {k s : ℕ} (e : r ≡ Ok (record { height = k; layers = s })) (o : List ℕ) (op : Opened rows b live own heights n o) where
+        module _ {k s : ℕ} (e : r ≡ standing k s) (o : List ℕ) (op : Opened rows b live own heights n o) where
           abbrev h : ℕ
           h = k + 1
 
-          it_stands : (o : List ℕ) → Opened rows b live own heights n o → Ok (record { height = h; layers = s }) ≡ walk g left o n
+          it_stands : (o : List ℕ) → Opened rows b live own heights n o → standing h s ≡ walk g left o n
           unfolding raised
           it_stands = body-tells e
 
@@ -262,9 +267,9 @@ module _ (rows : List ℕ) (b : List ℤ) (live : ℕ) (own : List ℕ) where
           }
             where
               moved : {m m' a a' w w' : ℕ} → m ≡ m' → a ≡ a' → w ≡ w' → Stood g deepest m a w → Stood g deepest m' a' w'
-              moved x y v st = record { is = sym (ap (λ (k : ℕ). free g deepest k) x) ∙ (st.is ∙ ap₂ Ok (record { height = y; layers = v })) }
+              moved x y v st = record { is = sym (ap (λ (k : ℕ). free g deepest k) x) ∙ (st.is ∙ ap₂ standing y v) }
 
-          pub finished : Replies rows b live own heights n left (Ok (record { height = h; layers = s })) (set heights' i h) (set layers' i s)
+          pub finished : Replies rows b live own heights n left (standing h s) (set heights' i h) (set layers' i s)
           finished = record { reply = it_stands; keeps = kept-after }
 
   -- ---- the calls of a body, one after another
@@ -291,7 +296,7 @@ module _ (rows : List ℕ) (b : List ℤ) (live : ℕ) (own : List ℕ) where
 
   module _ {row left : ℕ} {heights₀ : List ℕ} {end : ℕ} {heights layers : List ℕ} {here tallest set : ℕ} (w : WalkedSoFar row left heights₀ end heights layers here tallest set) where
     -- no call is left
-    pub all_done : {x : Option Next} → CallNext b here end w.rest x → x ≡ None → BodyReplies rows b live own heights₀ row left (Ok (record { height = tallest; layers = set })) heights layers
+    pub all_done : {x : Maybe Next} → CallNext b here end w.rest x → x ≡ None → BodyReplies rows b live own heights₀ row left (standing tallest set) heights layers
     unfolding CallNext through
     all_done h e = record {
       reply = λ o ins. sym (w.along o ins ∙ ap (through (walk g left o) tallest set) (subst (CallNext b here end w.rest) e h));
@@ -327,10 +332,10 @@ module _ (rows : List ℕ) (b : List ℤ) (live : ℕ) (own : List ℕ) where
             ∙ ap (λ (x : Result Standing Rule). thence x (λ k u. through (walk g left o) (max tallest k) (bit_or set u) rest')) (sym (told.reply o (opened_on o ins)) ∙ e))
 
         -- the first bar ends it
-        pub barred : {k : ℕ} → r ≡ Err k → BodyReplies rows b live own heights₀ row left (Err k) heights' layers'
+        pub barred : {k : Rule} → r ≡ Err k → BodyReplies rows b live own heights₀ row left (Err k) heights' layers'
         barred {k} e = record { reply = λ o ins. sym (call_next o ins (Err k) e ∙ thence_bar _ refl); keeps = tt }
 
-        pub went_on : {h u next : ℕ} → r ≡ Ok (record { height = h; layers = u }) → Remains b next end rest' → (o : List ℕ) → Inside rows b live own heights₀ row o → {tallest' : ℕ} → tallest' ≡ max tallest h
+        pub went_on : {h u next : ℕ} → r ≡ standing h u → Remains b next end rest' → (o : List ℕ) → Inside rows b live own heights₀ row o → {tallest' : ℕ} → tallest' ≡ max tallest h
             → WalkedSoFar row left heights₀ end heights' layers' next tallest' (bit_or set u)
         unfolding Each
         went_on {h} {u} {next} e rem o₀ ins₀ {tallest'} q =
@@ -339,7 +344,7 @@ module _ (rows : List ℕ) (b : List ℤ) (live : ℕ) (own : List ℕ) where
             record {
               rest = rest';
               remains = rem;
-              along = λ o ins. call_next o ins (Ok (record { height = h; layers = u })) e ∙ (thence_on _ refl ∙ ap (λ (x : ℕ). through (walk g left o) x (bit_or set u) rest') (sym q));
+              along = λ o ins. call_next o ins (standing h u) e ∙ (thence_on _ refl ∙ ap (λ (x : ℕ). through (walk g left o) x (bit_or set u) rest') (sym q));
               leads = λ o ins m p. (subst (Each (Leads g m)) are (w.leads o ins m p)).1;
               low = subst (λ (x : ℕ). x ≤ left) (sym q) (max-le w.low (no_taller g st));
               keeps = record {

@@ -6,6 +6,7 @@ use Prim.Native.Nat.{ℕ, suc, ◌+◌, ◌-◌, ◌≤◌, ◌<◌}
 use native.Mathlib.Omega.{arith}
 use lib.IntN.{ℤ, pos, nat_abs}
 use lib.ListN.{length, get_or}
+use Rattle.std.specs.Prelude.{Some, None}
 use Rattle.definition.specs.Table.{Step, shape, instance, setting}
 use Rattle.library.specs.Memory.{call_letter, most_words, words_at, start_at, length_at, body_at}
 use Rattle.library.specs.Sound.{letter_of_step, values_of, Stocked}
@@ -15,7 +16,6 @@ use Rattle.engine.specs.Heads.{head_in}
 use Rattle.engine.proofs.Taking.{Met, meets, two_words, values-call, call_is}
 use Rattle.engine.proofs.Underway.{none_left}
 use Rattle.heights.specs.Calls.{call_in, calls_of, Remains, CallNext}
-use Rattle.std.specs.Prelude.{None, Some}
 
 no_call : (s : Step) (cs : List ℕ) → (letter_of_step s ≡ call_letter → ⊥) → call_in s cs ≡ cs
 unfolding call_in letter_of_step

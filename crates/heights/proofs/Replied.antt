@@ -1,6 +1,6 @@
 -- The walk is the definition's `reply_to`: the rule's number, or the height and the set of the layers, where the set beside each row is that of its own layers.
 -- Assumes nothing.
-use Rattle.std.specs.Prelude.{if◌then◌else◌}
+use Rattle.std.specs.Prelude.{Result, Ok, Err, if◌then◌else◌}
 use mathlib.Core.Path.{◌≡◌, refl, sym, ap, ap₂, ◌∙◌}
 use mathlib.Core.Bool.{Bool, true, false, ◌||◌}
 use mathlib.Core.List.{List, [], ◌∷◌, ◌++◌, flat_map}
@@ -14,8 +14,8 @@ use lib.IntN.{ℤ}
 use lib.ListN.{get_or}
 use Rattle.definition.specs.Limits.{deepest}
 use Rattle.definition.specs.Words.{Placed, at, any}
+use Rattle.definition.specs.declared.Rule.{Rule}
 use Rattle.definition.specs.declared.Rule.TheVariants.{TooDeep}
-use Rattle.definition.specs.Rules.{number_of}
 use Rattle.definition.specs.Table.{Step, shape, instance, setting, Definition, Table, find}
 use Rattle.definition.specs.Drawing.{Chain, barred, leads, passage_to}
 use Rattle.definition.specs.Summary as summary
@@ -24,12 +24,10 @@ use Rattle.definition.specs.Marks.{set_of_layers}
 use Rattle.laws.proofs.Story.Marks.{any-++, set-joined}
 use Rattle.library.specs.Memory.{symbol_at, body_at, definition_at, table_from, table_of}
 use Rattle.heights.specs.Calls.{call_in, calls_of}
-use Rattle.heights.specs.Walk.{Node, Graph, through, raised, enters, among, walk, set_from, node_of, graph_in}
+use Rattle.heights.specs.declared.Standing.{Standing}
+use Rattle.heights.specs.Walk.{Node, Graph, standing, through, raised, enters, among, walk, set_from, node_of, graph_in}
 use Rattle.heights.specs.Replies.{ReplyOf, SymbolReplies}
 use Rattle.heights.proofs.Walking.{thence_on, thence_bar}
-use Rattle.std.specs.Prelude.{Err, Ok, Result}
-use Rattle.heights.specs.declared.Standing.{Standing}
-use Rattle.definition.specs.declared.Rule.{Rule}
 
 -- ---- sets joined in any order
 
@@ -69,8 +67,8 @@ or_swap a b c = sym (or_assoc a b c) ∙ (ap (λ (x : ℕ). bit_or x c) (or_comm
 
 module _ (ns : Names) where
   abbrev pub told : summary.Reply → Result Standing Rule
-  told (bars rule) = Err (number_of rule)
-  told (stands h ls) = Ok (record { height = h; layers = (set_of_layers ns ls) })
+  told (bars rule) = Err rule
+  told (stands h ls) = standing h (set_of_layers ns ls)
 
   pub reply_of : (x : summary.Reply) {r : Result Standing Rule} → r ≡ told x → ReplyOf ns x r
   unfolding ReplyOf
@@ -86,11 +84,11 @@ module _ (ns : Names) where
     -- the callees' layers are this set
     record Gathered (ss : List (Placed Step)) (k : ℕ) (ls : Names) : Type 0 where
       theirs : ℕ
-      goes : (h s : ℕ) → through f h s (calls_of ss) ≡ Ok (record { height = (max h k); layers = (bit_or s theirs) })
+      goes : (h s : ℕ) → through f h s (calls_of ss) ≡ standing (max h k) (bit_or s theirs)
       sets : set_of_layers ns ls ≡ bit_or (own_set ss) theirs
 
     abbrev Gathers : List (Placed Step) → summary.Reply → Type 0
-    Gathers ss (bars rule) = (h s : ℕ) → through f h s (calls_of ss) ≡ Err (number_of rule)
+    Gathers ss (bars rule) = (h s : ℕ) → through f h s (calls_of ss) ≡ Err rule
     Gathers ss (stands k ls) = Gathered ss k ls
 
     own-more : (s : Placed Step) (ss : List (Placed Step)) → own_set (s ∷ ss) ≡ bit_or (set_of_layers ns (layers_of s.what)) (own_set ss)
@@ -104,7 +102,7 @@ module _ (ns : Names) where
     idle s ss e (bars rule) g = λ h u. ap (through f h u) e ∙ g h u
     idle s ss e (stands k ls) g = record {
       theirs = g.theirs;
-      goes = λ h u. ap (through f h u) e ∙ (g.goes h u ∙ ap (λ (x : ℕ). Ok (record { height = (max h x); layers = (bit_or u g.theirs) })) (omega arith));
+      goes = λ h u. ap (through f h u) e ∙ (g.goes h u ∙ ap (λ (x : ℕ). standing (max h x) (bit_or u g.theirs)) (omega arith));
       sets =
           set-joined ns (layers_of s.what) ls
           ∙ (ap (bit_or (set_of_layers ns (layers_of s.what))) g.sets
@@ -122,7 +120,7 @@ module _ (ns : Names) where
       goes =
           λ h u. thence_on _ (sym e)
           ∙ (g.goes (max h k) (bit_or u (set_of_layers ns ls))
-          ∙ ap₂ Ok (record { height = (max_assoc h k m); layers = (or_assoc u (set_of_layers ns ls) g.theirs) }));
+          ∙ ap₂ standing (max_assoc h k m) (or_assoc u (set_of_layers ns ls) g.theirs));
       sets =
           set-joined ns ls ms
           ∙ (ap (bit_or (set_of_layers ns ls)) g.sets
@@ -143,7 +141,7 @@ module _ (ns : Names) where
     unfolding body_reply calls_of through own_layers flat_map
     gathers [] = record {
       theirs = 0;
-      goes = λ h u. ap₂ Ok (record { height = (omega arith); layers = (sym (or_zero_r u)) });
+      goes = λ h u. ap₂ standing (omega arith) (sym (or_zero_r u));
       sets = sym (or_zero_r (set_of_layers ns []));
     }
     gathers (s ∷ ss) = one_step s.place s.what ss (body_reply ask ss) (gathers ss)
@@ -154,7 +152,7 @@ module _ (ns : Names) where
       where
         go : (x : summary.Reply) → Gathers ss x → told (higher x) ≡ raised (through f 0 (own_set ss) (calls_of ss))
         go (bars rule) g = sym (ap raised (g 0 (own_set ss)))
-        go (stands k ls) g = ap₂ (λ (x y : ℕ). Ok (record { height = (x + 1); layers = y })) (omega arith) g.sets ∙ sym (ap raised (g.goes 0 (own_set ss)))
+        go (stands k ls) g = ap₂ (λ (x y : ℕ). standing (x + 1) y) (omega arith) g.sets ∙ sym (ap raised (g.goes 0 (own_set ss)))
 
   -- ---- a symbol
 
@@ -196,8 +194,8 @@ module _ (ns : Names) where
     agrees : (left : ℕ) (chain : Chain) (o : List ℕ) (p n : ℕ) → SameOpen chain o → told (reply_to left t chain p n) ≡ walk g left o n
     unfolding reply_to walk
     agrees zero chain o p n h =
-        entered 0 chain n (among n o) (h n) (find n t) (λ d. stands 0 []) (λ d. Err 14) (λ d. refl)
-        ∙ sym (ap (λ (y : Option Node). enters y (among n o) (λ d. Err 14)) (nodes n))
+        entered 0 chain n (among n o) (h n) (find n t) (λ d. stands 0 []) (λ d. Err TooDeep) (λ d. refl)
+        ∙ sym (ap (λ (y : Option Node). enters y (among n o) (λ d. Err TooDeep)) (nodes n))
     agrees (suc left) chain o p n h =
         let deeper : Chain = chain ++ (at p n ∷ []) in
         let ask : Definition → summary.Reply = λ d. body_reply (reply_to left t deeper) d.body in

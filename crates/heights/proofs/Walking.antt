@@ -11,49 +11,63 @@ use native.Mathlib.Omega.{arith}
 use borrow.Author.Tests.{lt-ltb, le-ltb, eqb-true}
 use lib.Dec.{eqb}
 use lib.Bits.{bit_or}
+use Rattle.std.specs.Prelude.{Result, Ok, Err}
+use Rattle.definition.specs.declared.Rule.{Rule}
+use Rattle.definition.specs.declared.Rule.TheVariants.{TooDeep}
 use Rattle.definition.specs.Words.{any}
 use Rattle.library.proofs.Cases.{by_place}
-use Rattle.heights.specs.Walk.{Node, Graph, thence, through, raised, enters, among, walk, free, within}
-use Rattle.heights.specs.Kept.{Stood, NotAt, Leads, Each}
-use Rattle.std.specs.Prelude.{Err, Ok, Result}
 use Rattle.heights.specs.declared.Standing.{Standing}
-use Rattle.definition.specs.declared.Rule.{Rule}
+use Rattle.heights.specs.Walk.{Node, Graph, standing, thence, through, raised, enters, among, walk, free, within}
+use Rattle.heights.specs.Kept.{Stood, NotAt, Leads, Each}
 
-pub no_bar : {n h s : ℕ} → Err n ≡ Ok (record { height = h; layers = s }) → ⊥
-no_bar e = let z : ◌≡◌ {A = ℕ} 0 1 = cc in omega arith
+pub no_bar : {r : Rule} {h s : ℕ} → Err r ≡ standing h s → ⊥
+no_bar e = cc
 
-same_height : {h s k u : ℕ} → Ok (record { height = h; layers = s }) ≡ Ok (record { height = k; layers = u }) → h ≡ k
-same_height e = cc
+height_in : Result Standing Rule → ℕ
+height_in (Err r) = 0
+height_in (Ok x) = x.height
+
+layers_in : Result Standing Rule → ℕ
+layers_in (Err r) = 0
+layers_in (Ok x) = x.layers
+
+same_height : {h s k u : ℕ} → standing h s ≡ standing k u → h ≡ k
+unfolding height_in
+same_height e = ap height_in e
+
+same_layers : {h s k u : ℕ} → standing h s ≡ standing k u → s ≡ u
+unfolding layers_in
+same_layers e = ap layers_in e
 
 -- ---- within an allowance
 
-pub is_within : {left h : ℕ} (s : ℕ) → h ≤ left → within left h s ≡ Ok (record { height = h; layers = s })
+pub is_within : {left h : ℕ} (s : ℕ) → h ≤ left → within left h s ≡ standing h s
 is_within {left} {h} s l = rw (le-ltb left h l)
 
-pub is_beyond : {left h : ℕ} (s : ℕ) → left < h → within left h s ≡ Err 14
+pub is_beyond : {left h : ℕ} (s : ℕ) → left < h → within left h s ≡ Err TooDeep
 is_beyond {left} {h} s l = rw (lt-ltb left h l)
 
-within_low : (left h s : ℕ) {k u : ℕ} → within left h s ≡ Ok (record { height = k; layers = u }) → h ≤ left
+within_low : (left h s : ℕ) {k u : ℕ} → within left h s ≡ standing k u → h ≤ left
 within_low left h s e = by_place (h ≤ left) left h (λ l. absurd (no_bar (sym (is_beyond s l) ∙ e))) (λ l. l)
 
 -- ---- calls one after another
 
 -- a reply that stands, and what followed
-thence-stands : (r : Result Standing Rule) (go : ℕ → ℕ → Result Standing Rule) {m u : ℕ} → thence r go ≡ Ok (record { height = m; layers = u }) → (k : ℕ) × (w : ℕ) × (r ≡ Ok (record { height = k; layers = w })) × (go k w ≡ Ok (record { height = m; layers = u }))
+thence-stands : (r : Result Standing Rule) (go : ℕ → ℕ → Result Standing Rule) {m u : ℕ} → thence r go ≡ standing m u → (k : ℕ) × (w : ℕ) × (r ≡ standing k w) × (go k w ≡ standing m u)
 unfolding thence
-thence-stands (Err n) go e = absurd (no_bar e)
-thence-stands (Ok (record { height = k; layers = w })) go e = (k, w, refl, e)
+thence-stands (Err r) go e = absurd (no_bar e)
+thence-stands (Ok x) go e = (x.height, x.layers, refl, e)
 
-pub thence_on : {r : Result Standing Rule} {k w : ℕ} (go : ℕ → ℕ → Result Standing Rule) → r ≡ Ok (record { height = k; layers = w }) → thence r go ≡ go k w
+pub thence_on : {r : Result Standing Rule} {k w : ℕ} (go : ℕ → ℕ → Result Standing Rule) → r ≡ standing k w → thence r go ≡ go k w
 unfolding thence
 thence_on go e = ap (λ (x : Result Standing Rule). thence x go) e
 
-pub thence_bar : {r : Result Standing Rule} {n : ℕ} (go : ℕ → ℕ → Result Standing Rule) → r ≡ Err n → thence r go ≡ Err n
+pub thence_bar : {x : Result Standing Rule} {r : Rule} (go : ℕ → ℕ → Result Standing Rule) → x ≡ Err r → thence x go ≡ Err r
 unfolding thence
 thence_bar go e = ap (λ (x : Result Standing Rule). thence x go) e
 
 -- the whole is as tall as every call passed
-above : (f : ℕ → Result Standing Rule) (h s : ℕ) (cs : List ℕ) {m u : ℕ} → through f h s cs ≡ Ok (record { height = m; layers = u }) → h ≤ m
+above : (f : ℕ → Result Standing Rule) (h s : ℕ) (cs : List ℕ) {m u : ℕ} → through f h s cs ≡ standing m u → h ≤ m
 unfolding through
 above f h s [] e = omega (arith, same_height e)
 above f h s (c ∷ cs) e =
@@ -61,8 +75,8 @@ above f h s (c ∷ cs) e =
     omega (arith, above f (max h k) (bit_or s w) cs q, le-max_left h k)
 
 -- functions that agree on calls no taller than the whole give the same
-module _ (e f g : ℕ → Result Standing Rule) (m u : ℕ) (same : (c k w : ℕ) → e c ≡ Ok (record { height = k; layers = w }) → k ≤ m → f c ≡ g c) where
-  agree : (h s h' s' : ℕ) (cs : List ℕ) → through e h' s' cs ≡ Ok (record { height = m; layers = u }) → through f h s cs ≡ through g h s cs
+module _ (e f g : ℕ → Result Standing Rule) (m u : ℕ) (same : (c k w : ℕ) → e c ≡ standing k w → k ≤ m → f c ≡ g c) where
+  agree : (h s h' s' : ℕ) (cs : List ℕ) → through e h' s' cs ≡ standing m u → through f h s cs ≡ through g h s cs
   unfolding through
   agree h s h' s' [] p = refl
   agree h s h' s' (c ∷ cs) p =
@@ -73,12 +87,12 @@ module _ (e f g : ℕ → Result Standing Rule) (m u : ℕ) (same : (c k w : ℕ
     where
       go : (x : Result Standing Rule) → ((k u : ℕ) → through f (max h k) (bit_or s u) cs ≡ through g (max h k) (bit_or s u) cs)
           → thence x (λ k u. through f (max h k) (bit_or s u) cs) ≡ thence x (λ k u. through g (max h k) (bit_or s u) cs)
-      go (Err n) r = unfold thence in refl
-      go (Ok (record { height = k; layers = w })) r = unfold thence in r k w
+      go (Err b) r = unfold thence in refl
+      go (Ok x) r = unfold thence in r x.height x.layers
 
 -- with an allowance instead, the first call that is too tall bars
-module _ (f g : ℕ → Result Standing Rule) (left : ℕ) (cut : (c k w : ℕ) → f c ≡ Ok (record { height = k; layers = w }) → g c ≡ within left k w) where
-  cut-through : (h s : ℕ) (cs : List ℕ) {m u : ℕ} → h ≤ left → through f h s cs ≡ Ok (record { height = m; layers = u }) → through g h s cs ≡ within left m u
+module _ (f g : ℕ → Result Standing Rule) (left : ℕ) (cut : (c k w : ℕ) → f c ≡ standing k w → g c ≡ within left k w) where
+  cut-through : (h s : ℕ) (cs : List ℕ) {m u : ℕ} → h ≤ left → through f h s cs ≡ standing m u → through g h s cs ≡ within left m u
   unfolding through
   cut-through h s [] {m} {u} l e = sym (is_within {left = left} {h = m} u (omega (arith, same_height e)) ∙ sym e)
   cut-through h s (c ∷ cs) {m} {u} l e =
@@ -110,10 +124,10 @@ swap I P (c ∷ cs) f = (λ i. (f i).0, swap I P cs (λ i. (f i).1))
 
 -- ---- a symbol
 
-raised-stands : (x : Result Standing Rule) {h s : ℕ} → raised x ≡ Ok (record { height = h; layers = s }) → (k : ℕ) × (x ≡ Ok (record { height = k; layers = s })) × (h ≡ k + 1)
+raised-stands : (x : Result Standing Rule) {h s : ℕ} → raised x ≡ standing h s → (k : ℕ) × (x ≡ standing k s) × (h ≡ k + 1)
 unfolding raised
-raised-stands (Err n) e = absurd (no_bar e)
-raised-stands (Ok (record { height = k; layers = u })) e = (k, cc, sym (same_height e))
+raised-stands (Err r) e = absurd (no_bar e)
+raised-stands (Ok x) e = (x.height, ap (standing x.height) (same_layers e), sym (same_height e))
 
 raised-within : (left m u : ℕ) → raised (within left m u) ≡ within (suc left) (m + 1) u
 unfolding raised
@@ -122,8 +136,8 @@ raised-within left m u =
     (λ l. ap raised (is_beyond u l) ∙ sym (is_beyond {left = suc left} {h = m + 1} u (omega arith)))
     (λ l. ap raised (is_within u l) ∙ sym (is_within {left = suc left} {h = m + 1} u (omega arith)))
 
-enters-stands : (x : Option Node) (busy : Bool) (go : Node → Result Standing Rule) {h s : ℕ} → enters x busy go ≡ Ok (record { height = h; layers = s })
-    → (d : Node) × (x ≡ some d) × (busy ≡ false) × (go d ≡ Ok (record { height = h; layers = s }))
+enters-stands : (x : Option Node) (busy : Bool) (go : Node → Result Standing Rule) {h s : ℕ} → enters x busy go ≡ standing h s
+    → (d : Node) × (x ≡ some d) × (busy ≡ false) × (go d ≡ standing h s)
 unfolding enters
 enters-stands none busy go e = absurd (no_bar e)
 enters-stands (some d) true go e = absurd (no_bar e)
@@ -135,19 +149,19 @@ enters_on {busy = busy} {d = d} go e f = ap (λ (y : Option Node). enters y busy
 
 module _ (g : Graph) where
   -- what a symbol that stands has: a definition, whose calls stand one level down
-  pub record Standing (n h s : ℕ) : Type 0 where
+  pub record Footing (n h s : ℕ) : Type 0 where
     pub node : Node
     pub defined : g n ≡ some node
     pub below : ℕ
     pub tallest : ℕ
-    pub body : through (free g below) 0 node.own node.calls ≡ Ok (record { height = tallest; layers = s })
+    pub body : through (free g below) 0 node.own node.calls ≡ standing tallest s
     pub taller : h ≡ tallest + 1
 
-  standing : {a n h s : ℕ} → Stood g a n h s → Standing n h s
+  footing : {a n h s : ℕ} → Stood g a n h s → Footing n h s
   unfolding free
-  standing {a} {n} {h} {s} e = go a e.is
+  footing {a} {n} {h} {s} e = go a e.is
     where
-      go : (a : ℕ) → free g a n ≡ Ok (record { height = h; layers = s }) → Standing n h s
+      go : (a : ℕ) → free g a n ≡ standing h s → Footing n h s
       go zero p = let (d, x, t, y) = enters-stands (g n) false _ p in absurd (no_bar y)
       go (suc a) p =
           let (d, x, t, y) = enters-stands (g n) false _ p in
@@ -155,9 +169,9 @@ module _ (g : Graph) where
           record { node = d; defined = x; below = a; tallest = k; body = z; taller = q }
 
   pub some_height : {a n h s : ℕ} → Stood g a n h s → 0 < h
-  some_height e = let st = standing e in omega (arith, st.taller)
+  some_height e = let st = footing e in omega (arith, st.taller)
 
-  free_none_left : (n : ℕ) {d : Node} → g n ≡ some d → free g 0 n ≡ Err 14
+  free_none_left : (n : ℕ) {d : Node} → g n ≡ some d → free g 0 n ≡ Err TooDeep
   unfolding free
   free_none_left n x = enters_on _ x refl
 
@@ -166,7 +180,7 @@ module _ (g : Graph) where
   free-below left n x = enters_on _ x refl
 
   -- a height that is known for one allowance is known for all
-  for_all : (a n h s : ℕ) → free g a n ≡ Ok (record { height = h; layers = s }) → (left : ℕ) → free g left n ≡ within left h s
+  for_all : (a n h s : ℕ) → free g a n ≡ standing h s → (left : ℕ) → free g left n ≡ within left h s
   unfolding free
   for_all zero n h s e left = let (d, x, t, y) = enters-stands (g n) false _ e in absurd (no_bar y)
   for_all (suc a) n h s e zero =
@@ -214,9 +228,9 @@ module _ (g : Graph) where
   as_free : (a : ℕ) {A n h s : ℕ} {o : List ℕ} → Stood g A n h s → Tall h o → walk g a o n ≡ free g a n
   unfolding walk
   as_free zero {n = n} e t =
-      let st = standing e in enters_on _ st.defined (not_open t (with_more e (omega arith))) ∙ sym (free_none_left n st.defined)
+      let st = footing e in enters_on _ st.defined (not_open t (with_more e (omega arith))) ∙ sym (free_none_left n st.defined)
   as_free (suc a) {n = n} {h} {s} {o} e t =
-      let st = standing e in
+      let st = footing e in
       let d = st.node in
       enters_on _ st.defined (not_open t (with_more e (omega arith)))
       ∙ (ap raised (agree (free g st.below) (walk g a (n ∷ o)) (free g a) st.tallest s
@@ -224,7 +238,7 @@ module _ (g : Graph) where
       ∙ sym (free-below a n st.defined))
 
   -- a symbol that stands while others are open stands without them
-  free_too : (a n h s : ℕ) (o : List ℕ) → walk g a o n ≡ Ok (record { height = h; layers = s }) → free g a n ≡ Ok (record { height = h; layers = s })
+  free_too : (a n h s : ℕ) (o : List ℕ) → walk g a o n ≡ standing h s → free g a n ≡ standing h s
   unfolding walk
   free_too zero n h s o e = let (d, x, f, y) = enters-stands (g n) (among n o) _ e in absurd (no_bar y)
   free_too (suc a) n h s o e =
@@ -234,7 +248,7 @@ module _ (g : Graph) where
       ∙ (ap raised (agree (walk g a (n ∷ o)) (free g a) (walk g a (n ∷ o)) k s (λ c i w p l. free_too a c i w (n ∷ o) p ∙ sym p) 0 d.own 0 d.own d.calls z)
       ∙ y)
 
-  pub stands-free : (a n h s : ℕ) (o : List ℕ) → walk g a o n ≡ Ok (record { height = h; layers = s }) → Stood g a n h s
+  pub stands-free : (a n h s : ℕ) (o : List ℕ) → walk g a o n ≡ standing h s → Stood g a n h s
   stands-free a n h s o e = record { is = free_too a n h s o e }
 
   -- every open symbol leads to one that stands, so none stands at its height
@@ -251,7 +265,7 @@ module _ (g : Graph) where
   -- ---- a symbol leads to those that it calls, and to those that they lead to
 
   -- a call of a body that stands stands too
-  calls_stand : (left h s : ℕ) (cs : List ℕ) {m u : ℕ} → through (free g left) h s cs ≡ Ok (record { height = m; layers = u }) → Each (λ c. NotAt g left c → ⊥) cs
+  calls_stand : (left h s : ℕ) (cs : List ℕ) {m u : ℕ} → through (free g left) h s cs ≡ standing m u → Each (λ c. NotAt g left c → ⊥) cs
   unfolding through Each
   calls_stand left h s [] e = tt
   calls_stand left h s (c ∷ cs) e =

@@ -1,11 +1,10 @@
 -- The calls of a body, and the next of them in its words. A running account, not to be believed.
 -- Assumes nothing.
-use Rattle.std.specs.Prelude.{◌≡◌, List, [], ◌∷◌, ℕ, ◌-◌, ◌≤◌, ◌<◌, ℤ, length}
+use Rattle.std.specs.Prelude.{◌≡◌, List, [], ◌∷◌, ℕ, Option, Some, None, ◌-◌, ◌≤◌, ◌<◌, ℤ, length}
 use Rattle.definition.specs.Words.{Placed}
 use Rattle.definition.specs.Table.{Step, shape, instance, setting}
 use Rattle.library.specs.Memory.{most_words, words_at}
 use Rattle.library.specs.Sound.{all_words, Proper}
-use Rattle.std.specs.Prelude.{None, Option, Some}
 use Rattle.heights.specs.declared.Next.{Next}
 
 unfoldable pub call_in : Step → List ℕ → List ℕ
@@ -31,5 +30,5 @@ pub record Remains (b : List ℤ) (from end : ℕ) (cs : List ℕ) : Type 0 wher
 
 -- the contract of `next_call`
 unfoldable pub CallNext : List ℤ → (from end : ℕ) → List ℕ → Option Next → Type 0
-CallNext b from end cs (Some (record { symbol = n; at = next })) = (rest : List ℕ) × (cs ≡ n ∷ rest) × Remains b next end rest × (from < next)
+CallNext b from end cs (Some c) = (rest : List ℕ) × (cs ≡ c.symbol ∷ rest) × Remains b c.at end rest × (from < c.at)
 CallNext b from end cs None = cs ≡ []

@@ -1,19 +1,18 @@
 -- What is kept beside the rows while bodies are gone through: the height of each finished symbol and the set of its layers, and which symbols are open.
 -- A running account, not to be believed.
 -- Assumes nothing.
-use Rattle.std.specs.Prelude.{◌≡◌, true, List, [], ◌∷◌, ℕ, ◌+◌, ◌≤◌, ◌<◌, eqb, ℤ, length, get_or}
+use Rattle.std.specs.Prelude.{◌≡◌, true, List, [], ◌∷◌, ℕ, Some, None, Result, Ok, Err, ◌+◌, ◌≤◌, ◌<◌, eqb, ℤ, length, get_or}
 use Rattle.definition.specs.Limits.{deepest}
+use Rattle.definition.specs.declared.Rule.{Rule}
+use Rattle.definition.specs.declared.Rule.TheVariants.{UndefinedSymbol, BeingDrawn, TooDeep}
 use Rattle.library.specs.Memory.{most, most_words, symbol_at, body_at}
 use Rattle.library.specs.Sound.{Stocked}
 use Rattle.library.specs.Rows.{Sorted, Finds}
 use Rattle.heights.specs.Calls.{calls_of}
-use Rattle.heights.specs.Walk.{Graph, graph_in, among, walk, free, through}
-use Rattle.std.specs.Prelude.{Err, None, Ok, Result, Some}
-use Rattle.heights.specs.declared.Looked.{Looked}
-use Rattle.definition.specs.declared.Rule.{Rule}
 use Rattle.heights.specs.declared.Standing.{Standing}
+use Rattle.heights.specs.declared.Looked.{Looked}
 use Rattle.heights.specs.declared.Looked.TheVariants.{Known, Fresh}
-use Rattle.definition.specs.declared.Rule.TheVariants.{UndefinedSymbol, BeingDrawn, TooDeep}
+use Rattle.heights.specs.Walk.{Graph, graph_in, among, standing, walk, free, through}
 
 -- the mark of a symbol that is open
 abbrev pub open_mark : ℕ
@@ -38,7 +37,7 @@ pub data Looks (rows : List ℕ) (live : ℕ) (heights layers : List ℕ) (n lef
 
 -- a symbol stands where so many levels are left, whatever is open
 pub record Stood (g : Graph) (left n h s : ℕ) : Type 0 where
-  pub is : free g left n ≡ Ok (record { height = h; layers = s })
+  pub is : free g left n ≡ standing h s
 
 abbrev pub NotAt : Graph → ℕ → ℕ → Type 0
 NotAt g left n = (h s : ℕ) → Stood g left n h s → ⊥
@@ -89,8 +88,8 @@ pub record Keeps (rows : List ℕ) (b : List ℤ) (live : ℕ) (own heights heig
   pub remembered : Remembered rows b live own heights' layers'
 
 abbrev pub KeepsIf : Result Standing Rule → Type 0 → Type 0
-KeepsIf (Err n) K = Unit {0}
-KeepsIf (Ok (record { height = h; layers = s })) K = K
+KeepsIf (Err r) K = Unit {0}
+KeepsIf (Ok x) K = K
 
 -- the contract of `reply_to`
 pub record Replies (rows : List ℕ) (b : List ℤ) (live : ℕ) (own heights : List ℕ) (n left : ℕ) (r : Result Standing Rule) (heights' layers' : List ℕ) : Type 0 where

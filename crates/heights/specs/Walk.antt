@@ -2,16 +2,16 @@
 -- symbols that are open, as crates/definition has (`reply_to`), and `free` does without: a symbol that stands has no cycle below it, so the two agree on
 -- it, and its height answers for any allowance (proofs/Walking.antt). A running account, not to be believed: proofs/Replied.antt says that it is `reply_to`.
 -- Assumes nothing.
-use Rattle.std.specs.Prelude.{Bool, true, false, List, [], ◌∷◌, ℕ, zero, suc, ◌+◌, max, eqb, ltb, ℤ, get_or, if◌then◌else◌}
+use Rattle.std.specs.Prelude.{Bool, true, false, List, [], ◌∷◌, ℕ, zero, suc, ◌+◌, Result, Ok, Err, max, eqb, ltb, ℤ, get_or, if◌then◌else◌}
 use Rattle.std.proofs.Math.Option.{Option, none, some}
 use Rattle.std.specs.Int.Bits.{bit_or}
 use Rattle.definition.specs.Words.{any}
+use Rattle.definition.specs.declared.Rule.{Rule}
+use Rattle.definition.specs.declared.Rule.TheVariants.{UndefinedSymbol, BeingDrawn, TooDeep}
 use Rattle.definition.specs.Table.{Definition, find}
 use Rattle.library.specs.Memory.{symbol_at, table_of}
 use Rattle.heights.specs.Calls.{calls_of}
-use Rattle.std.specs.Prelude.{Err, Ok, Result}
 use Rattle.heights.specs.declared.Standing.{Standing}
-use Rattle.definition.specs.declared.Rule.{Rule}
 
 -- a live symbol: the symbols that its body calls, in written order, and the set of its own layers
 pub record Node : Type 0 where
@@ -21,44 +21,48 @@ pub record Node : Type 0 where
 abbrev pub Graph : Type 0
 Graph = ℕ → Option Node
 
+-- the reply of a symbol of this height and with this set
+abbrev pub standing : (height layers : ℕ) → Result Standing Rule
+standing h s = Ok (record { height = h; layers = s })
+
 -- a callee's reply, and what follows where it stands
 unfoldable pub thence : Result Standing Rule → (ℕ → ℕ → Result Standing Rule) → Result Standing Rule
-thence (Err n) go = Err n
-thence (Ok (record { height = k; layers = u })) go = go k u
+thence (Err r) go = Err r
+thence (Ok x) go = go x.height x.layers
 
 -- calls one after another: the tallest so far, and the layers so far
 unfoldable pub through : (ℕ → Result Standing Rule) → (tallest set : ℕ) → List ℕ → Result Standing Rule
-through f h s [] = Ok (record { height = h; layers = s })
+through f h s [] = standing h s
 through f h s (c ∷ cs) = thence (f c) (λ k u. through f (max h k) (bit_or s u) cs)
 
 -- one more than the tallest callee
 unfoldable pub raised : Result Standing Rule → Result Standing Rule
-raised (Err n) = Err n
-raised (Ok (record { height = h; layers = s })) = Ok (record { height = (h + 1); layers = s })
+raised (Err r) = Err r
+raised (Ok x) = standing (x.height + 1) x.layers
 
--- 12, 13, or what its node leads to
+-- undefined, being drawn, or what its node leads to
 unfoldable pub enters : Option Node → (busy : Bool) → (Node → Result Standing Rule) → Result Standing Rule
-enters none busy go = Err 12
-enters (some d) true go = Err 13
+enters none busy go = Err UndefinedSymbol
+enters (some d) true go = Err BeingDrawn
 enters (some d) false go = go d
 
 -- a symbol is one of those that are open
 abbrev pub among : ℕ → List ℕ → Bool
 among n o = any (λ m. eqb m n) o
 
--- 14 where no level is left, and else its body is gone through one level down, with the symbol open
+-- too deep where no level is left, and else its body is gone through one level down, with the symbol open
 unfoldable pub walk : Graph → (left : ℕ) → List ℕ → ℕ → Result Standing Rule
-walk g zero o n = enters (g n) (among n o) (λ d. Err 14)
+walk g zero o n = enters (g n) (among n o) (λ d. Err TooDeep)
 walk g (suc left) o n = enters (g n) (among n o) (λ d. raised (through (walk g left (n ∷ o)) 0 d.own d.calls))
 
--- the same, whatever is open: a symbol that calls itself comes to 14
+-- the same, whatever is open: a symbol that calls itself comes to be too deep
 unfoldable pub free : Graph → (left : ℕ) → ℕ → Result Standing Rule
-free g zero n = enters (g n) false (λ d. Err 14)
+free g zero n = enters (g n) false (λ d. Err TooDeep)
 free g (suc left) n = enters (g n) false (λ d. raised (through (free g left) 0 d.own d.calls))
 
--- a known height and set, where so many levels are left: 14 where the height is larger
+-- a known height and set, where so many levels are left: too deep where the height is larger
 abbrev pub within : (left : ℕ) → ℕ → ℕ → Result Standing Rule
-within left h s = if ltb left h then Err 14 else Ok (record { height = h; layers = s })
+within left h s = if ltb left h then Err TooDeep else standing h s
 
 -- ---- the table that memory holds, with a set beside each row
 

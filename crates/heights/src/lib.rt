@@ -3,7 +3,7 @@
 // (proofs/Walking.antt).
 #![tactic(auto)]
 
-ghost use Rattle.std.specs.Prelude.{◌≡◌, List, [], ℕ, ◌≤◌, max, length};
+ghost use Rattle.std.specs.Prelude.{◌≡◌, List, [], ℕ, ◌≤◌, length};
 ghost use Rattle.definition.specs.Limits.{deepest};
 ghost use Rattle.library.specs.Memory.{most_words};
 ghost use Rattle.library.specs.Sound.{Stocked};
@@ -40,16 +40,6 @@ enum Looked {
 const OPEN: usize = 33;
 
 const UNKNOWN: usize = 0;
-
-// The larger of two heights.
-fn taller(one: usize, two: usize) -> usize
-    ensures { result ≡ max one two }
-{
-    if one < two {
-        return two;
-    }
-    one
-}
 
 // The first call from a place of a body on: shapes and L commands are passed over.
 fn next_call(bodies: &[i32], from: usize, end: usize) -> Option<Next>
@@ -163,7 +153,7 @@ fn reply_of_body(
             Some(next) => {
                 at = next.at;
                 let called = reply_to(bodies, rows, live, own, heights, layers, next.symbol, left)?;
-                tallest = taller(tallest, called.height);
+                tallest = tallest.max(called.height);
                 set = set | called.layers;
             }
         }

@@ -1,5 +1,6 @@
 -- What `keep_command` answers, from what `read_command` left in the part of the run after the words used, which is put back.
 -- Assumes nothing.
+use Rattle.std.specs.Prelude.{Option, Some, None}
 use mathlib.Core.Path.{◌≡◌, sym, ap, ◌∙◌, subst}
 use mathlib.Core.Bool.{Bool, true, false, ◌&&◌}
 use mathlib.Core.List.{List, [], ◌++◌, append-nil}
@@ -14,12 +15,12 @@ use Rattle.pieces.specs.Pieces.{letter_f, Fit}
 use Rattle.pieces.specs.declared.Spot.{Spot}
 use Rattle.rules.specs.Letters.{letter_l}
 use Rattle.rules.specs.Written.{Written}
-use Rattle.commands.specs.Words.{DecodedOne, ReadsCommand}
-use Rattle.keeping.specs.declared.Stored.TheVariants.{More, Last, Tight}
-use Rattle.keeping.specs.Growth.{steps, Storable, Stores, Ready, KeepsBy, KeepsCommand}
-use Rattle.keeping.proofs.Onward.{size, keeps_none, keeps-last, keeps_by, keeps-tight, storable, keeps-stored, stored-size}
-use Rattle.std.specs.Prelude.{None, Option, Some}
 use Rattle.commands.specs.declared.Decoded.{Decoded}
+use Rattle.commands.specs.Words.{DecodedOne, ReadsCommand}
+use Rattle.library.specs.Storing.{Storable, Stores}
+use Rattle.keeping.specs.declared.Stored.TheVariants.{More, Last, Tight}
+use Rattle.keeping.specs.Growth.{steps, Ready, KeepsBy, KeepsCommand}
+use Rattle.keeping.proofs.Onward.{size, keeps_none, keeps-last, keeps_by, keeps-tight, storable, keeps-stored, stored-size}
 
 module _ (words : List ℤ) (used : ℕ) where
   -- the part lent, and the run with it put back
@@ -49,7 +50,7 @@ module _ {t : List ℕ} {from : Spot} {a b : ℕ} {rows : List ℕ} {words : Lis
       whole : length (take used words ++ drop used words) ≡ length words
       whole = ap length (take-append-drop used words)
 
-  module _ (r : Option Decoded) (part : List ℤ) (x : ReadsCommand t from a b (lent words used) r part) {k p n : ℕ} {to : Spot} (q : r ≡ Some (record { kind = k; place = p; end = n; to = to })) where
+  module _ (r : Option Decoded) (part : List ℤ) (x : ReadsCommand t from a b (lent words used) r part) {k p n : ℕ} {to : Spot} (q : r ≡ Some record { kind = k; place = p; end = n; to = to }) where
     account : Written
     account = (subst (λ (r : Option Decoded). ReadsCommand t from a b (lent words used) r part) q x).0
 
@@ -77,7 +78,7 @@ module _ {t : List ℕ} {from : Spot} {a b : ℕ} {rows : List ℕ} {words : Lis
         pub answers_storable : Storable rows (back words used part) row used n idle
         answers_storable = storable g one (back words used part) (back_is words used part) on (sym step ∙ e) (omega (arith, h, same)) layer layer_is fit idle idle_is
 
-        pub answers-stored : {used'' : ℕ} {rows'' : List ℕ} {words'' : List ℤ} → Stores rows (back words used part) row used n idle used'' rows'' words''
+        pub answers-stored : {used'' : ℕ} {rows'' : List ℕ} {words'' : List ℤ} → Stores idle rows (back words used part) row used n rows'' words'' used''
             → KeepsCommand t from a b rows words live row used layered (More used'' layer to) rows'' words''
         unfolding KeepsBy
         answers-stored {used''} {rows''} {words''} s = record {

@@ -1,7 +1,7 @@
 -- A definition begun, filled and entered: the memory holds the table that it is entered in, the words counted are those that the live definitions need,
 -- and a redefinition is counted (refusals 10 and 25 otherwise).
 -- Assumes nothing.
-use Rattle.std.specs.Prelude.{if◌then◌else◌}
+use Rattle.std.specs.Prelude.{if◌then◌else◌, Option as Maybe, Some, None, Result, Ok, Err}
 use mathlib.Core.Path.{◌≡◌, refl, sym, ap, ◌∙◌, subst}
 use mathlib.Core.Bool.{Bool, true, false}
 use mathlib.Core.List.{List, [], ◌∷◌}
@@ -12,6 +12,8 @@ use borrow.Author.Tests.{eqb-false, ne_eqb}
 use lib.Dec.{eqb, ltb}
 use lib.IntN.{ℤ}
 use lib.ListN.{length}
+use Rattle.definition.specs.declared.Rule.{Rule}
+use Rattle.definition.specs.declared.Rule.TheVariants.{TooManyDefinitions, TooFewWords}
 use Rattle.definition.specs.Limits.{most_bytes, most_definitions}
 use Rattle.definition.specs.Words.{none?}
 use Rattle.definition.specs.Table.{Definition, Table, find, enter}
@@ -23,6 +25,8 @@ use Rattle.laws.proofs.Story.Lean.{lean-find}
 use Rattle.pieces.specs.declared.Spot.{Spot}
 use Rattle.counts.specs.declared.Counts.{Counts}
 use Rattle.counts.specs.Counting.{tally, CountsRedefinition}
+use Rattle.library.specs.declared.Begun.{Begun}
+use Rattle.library.specs.declared.Begun.TheVariants.{Replaced, Added}
 use Rattle.library.specs.Memory.{table_of, symbol_at, needed_at, needed_in, most_words}
 use Rattle.library.specs.Rows.{bare, before, Entry}
 use Rattle.library.specs.Rows.{Begins as BeginsRow}
@@ -32,16 +36,11 @@ use Rattle.library.proofs.Entering.{begun, begun-empty, needed-over, needed_in_l
 use Rattle.library.proofs.Holding.{held-table, held-needed, holds-over, holds_in}
 use Rattle.keeping.specs.declared.Start.{Start}
 use Rattle.keeping.specs.declared.Stock.{Stock}
+use Rattle.keeping.specs.declared.Taken.{Taken}
+use Rattle.keeping.specs.declared.Whole.{Whole}
 use Rattle.keeping.specs.Growth.{with_body, Adds, Within, Ready, KeepsWhole, TooFew, KeepsBodyBy, KeepsBody}
 use Rattle.keeping.specs.Keeping.{Kept, Open, definition_of, Begins, Defines, DefinesAt, Filling, FillsBy, FillsAt}
 use Rattle.keeping.proofs.Growing.{enter-more, enter_long}
-use Rattle.std.specs.Prelude.{Err, None, Ok, Option, Result, Some}
-use Rattle.library.specs.declared.Begun.{Begun}
-use Rattle.keeping.specs.declared.Whole.{Whole}
-use Rattle.keeping.specs.declared.Taken.{Taken}
-use Rattle.definition.specs.declared.Rule.{Rule}
-use Rattle.library.specs.declared.Begun.TheVariants.{Replaced, Added}
-use Rattle.definition.specs.declared.Rule.TheVariants.{TooManyDefinitions, TooFewWords}
 
 -- ---- the body of a row that was entered
 
@@ -71,14 +70,14 @@ module _ {t : List ℕ} {rows : List ℕ} {b : List ℤ} {stock : Stock} {row : 
   by_symbol : (P : ℕ → Type 0) → P start.symbol → P (symbol_at rows row)
   by_symbol P x = subst P (sym g.symbol_is) x
 
-  module _ {r : Option Whole} {rows' : List ℕ} {b' : List ℤ} (k : KeepsBody t from start.a start.b rows b stock.live row r rows' b') where
-    pub as_whole : {used' : ℕ} {to : Spot} → r ≡ Some (record { used = used'; to = to }) → KeepsWhole t from start.a start.b rows b stock.live row used' to rows' b'
+  module _ {r : Maybe Whole} {rows' : List ℕ} {b' : List ℤ} (k : KeepsBody t from start.a start.b rows b stock.live row r rows' b') where
+    as_whole : {body : Whole} → r ≡ Some body → KeepsWhole t from start.a start.b rows b stock.live row body.used body.to rows' b'
     unfolding KeepsBodyBy
-    as_whole e = subst (λ (x : Option Whole). KeepsBodyBy t from start.a start.b rows b stock.live row x rows' b') e k.by
+    as_whole e = subst (λ (x : Maybe Whole). KeepsBodyBy t from start.a start.b rows b stock.live row x rows' b') e k.by
 
     as_lacking : r ≡ None → TooFew t from start.a start.b rows b stock.live row
     unfolding KeepsBodyBy
-    as_lacking e = subst (λ (x : Option Whole). KeepsBodyBy t from start.a start.b rows b stock.live row x rows' b') e k.by
+    as_lacking e = subst (λ (x : Maybe Whole). KeepsBodyBy t from start.a start.b rows b stock.live row x rows' b') e k.by
 
     pub fills_lacking : r ≡ None → {counts : Counts} → FillsAt t rows b stock from start counts (Err TooFewWords) rows' b'
     unfolding FillsBy
@@ -91,8 +90,8 @@ module _ {t : List ℕ} {rows : List ℕ} {b : List ℤ} {stock : Stock} {row : 
           (by_symbol (λ n. Holds rows b stock.live (enter (bare n start.place) table)) holds)));
     }
 
-    module _ {used' : ℕ} {to : Spot} (e : r ≡ Some (record { used = used'; to = to })) (more : ℕ) (more_is : more ≡ needed_at rows' row) where
-      abbrev whole : KeepsWhole t from start.a start.b rows b stock.live row used' to rows' b'
+    module _ {body : Whole} (e : r ≡ Some body) (more : ℕ) (more_is : more ≡ needed_at rows' row) where
+      abbrev whole : KeepsWhole t from start.a start.b rows b stock.live row body.used body.to rows' b'
       whole = as_whole e
 
       pub sum_fits : stock.needed + more ≤ 5 * most_words
@@ -103,7 +102,7 @@ module _ {t : List ℕ} {rows : List ℕ} {b : List ℤ} {stock : Stock} {row : 
         abbrev d : Definition
         d = definition_of h start.symbol start.place
 
-        added : Adds rows b stock.live row (retained h.standing h.commands) rows' b' used' whole.layered
+        added : Adds rows b stock.live row (retained h.standing h.commands) rows' b' body.used whole.layered
         added = whole.adds h.standing h.commands (open_within h)
 
         -- the words counted
@@ -117,7 +116,7 @@ module _ {t : List ℕ} {rows : List ℕ} {b : List ℤ} {stock : Stock} {row : 
             subst (λ (n : ℕ). Holds rows' b' stock.live (enter (with_body n start.place (retained h.standing h.commands)) table)) g.symbol_is
             (added.holds start.place [] table (by_symbol (λ n. Holds rows b stock.live (enter (bare n start.place) table)) holds))
 
-        kept_so : stock.needed + more ≤ length b' → Kept rows' b' (record { live = stock.live; used = used'; needed = stock.needed + more }) (enter d table)
+        kept_so : stock.needed + more ≤ length b' → Kept rows' b' (record { live = stock.live; used = body.used; needed = stock.needed + more }) (enter d table)
         kept_so m = record {
           holds = held;
           stocked = added.growing.stocked;
@@ -134,7 +133,7 @@ module _ {t : List ℕ} {rows : List ℕ} {b : List ℤ} {stock : Stock} {row : 
       fills-short l = record { size = k.size; fills = λ h table holds needs. omega (arith, l, sum_is h table holds needs) }
 
       pub fills-taken : stock.needed + more ≤ length b' → {counts : Counts}
-          → FillsAt t rows b stock from start counts (Ok (record { stock = (record { live = stock.live; used = used'; needed = stock.needed + more }); counts = counts; to = to })) rows' b'
+          → FillsAt t rows b stock from start counts (Ok record { stock = record { live = stock.live; used = body.used; needed = stock.needed + more }; counts = counts; to = body.to }) rows' b'
       unfolding FillsBy
       fills-taken l = record {
         size = k.size;
@@ -208,19 +207,19 @@ module _ {t : List ℕ} (rows : List ℕ) (b : List ℤ) {from : Spot} {start : 
   by_fill : (r : Result Taken Rule) → FillsBy t rows b from start after_it h table r → Recounts counts after_it (definition_of h start.symbol start.place) table
       → length (enter (bare start.symbol start.place) table) ≤ most_definitions → Defines t rows b from start counts h table r
   unfolding FillsBy Defines
-  by_fill (Ok (record { stock = stock; counts = c; to = to })) f n l = record {
+  by_fill (Ok taken) f n l = record {
     kept = f.kept;
     few = omega (arith, f.kept.holds.many, f.kept.sorted.few);
     counts_so = n.ends ∙ ap (λ (x : Counts). finished (tally x)) (sym f.same_counts);
     same_calls = ap (λ (x : Counts). x.calls) f.same_counts ∙ n.calls_same;
     same_shapes = ap (λ (x : Counts). x.shapes) f.same_counts ∙ n.shapes-same;
-    redefined = let e : c.redefinitions ≡ after_it.redefinitions = ap (λ (x : Counts). x.redefinitions) f.same_counts in omega (arith, e, n.at_most_one);
+    redefined = let e : taken.counts.redefinitions ≡ after_it.redefinitions = ap (λ (x : Counts). x.redefinitions) f.same_counts in omega (arith, e, n.at_most_one);
     passes = f.passes;
     fit = f.fit;
     ahead = f.ahead;
   }
-  by_fill (Err TooManyDefinitions) f n l = absurd f
   by_fill (Err TooFewWords) f n l = (let e = enter_long start.symbol start.place (retained h.standing h.commands) [] table in omega (arith, e, l), f)
+  by_fill (Err _) f n l = absurd f
 
 -- the stock after the row was entered
 abbrev pub stock_over : Stock → ℕ → Stock
@@ -230,12 +229,12 @@ abbrev pub stock_in : Stock → Stock
 stock_in stock = record { live = stock.live + 1; used = stock.used; needed = stock.needed }
 
 module _ {t : List ℕ} {rows : List ℕ} {b : List ℤ} {stock : Stock} {from : Spot} {start : Start} (g : Begins t rows b stock from start) (text_short : length t ≤ most_bytes)
-    (r : Option Begun) (rows' : List ℕ) (k : BeginsRow rows stock.live start.symbol start.place r rows') where
+    (r : Maybe Begun) (rows' : List ℕ) (k : BeginsRow rows stock.live start.symbol start.place r rows') where
   -- instead of one of its number
   module _ {i freed : ℕ} (e : r ≡ Some (Replaced i freed)) where
     over : Entry rows stock.live start.symbol start.place rows' stock.live i (λ j. j) × (freed ≡ needed_at rows i) × (symbol_at rows i ≡ start.symbol) × ((b : List ℤ) → find start.symbol (table_of rows b stock.live) ≡ none → ⊥)
     unfolding BeginsRow
-    over = subst (λ (x : Option Begun). BeginsRow rows stock.live start.symbol start.place x rows') e k
+    over = subst (λ (x : Maybe Begun). BeginsRow rows stock.live start.symbol start.place x rows') e k
 
     sums : (table : Table) → Kept rows b stock table → needed_in rows' stock.live + freed ≡ stock.needed
     sums table h = omega (arith, needed-over rows stock.live start.symbol start.place rows' i over.0, over.1, held-needed h.holds, h.needs)
@@ -270,7 +269,7 @@ module _ {t : List ℕ} {rows : List ℕ} {b : List ℤ} {stock : Stock} {from :
   module _ {i : ℕ} (e : r ≡ Some (Added i)) where
     beside : Entry rows stock.live start.symbol start.place rows' (stock.live + 1) i (before i) × ((b : List ℤ) → find start.symbol (table_of rows b stock.live) ≡ none)
     unfolding BeginsRow
-    beside = subst (λ (x : Option Begun). BeginsRow rows stock.live start.symbol start.place x rows') e k
+    beside = subst (λ (x : Maybe Begun). BeginsRow rows stock.live start.symbol start.place x rows') e k
 
     pub filling_in : Filling t rows' b (stock_in stock) i from start
     filling_in = record {
@@ -299,7 +298,7 @@ module _ {t : List ℕ} {rows : List ℕ} {b : List ℤ} {stock : Stock} {from :
   pub defines_full : r ≡ None → {counts : Counts} → DefinesAt t rows b stock from start counts (Err TooManyDefinitions) rows' b
   unfolding BeginsRow Defines
   defines_full e =
-      let f = subst (λ (x : Option Begun). BeginsRow rows stock.live start.symbol start.place x rows') e k in
+      let f = subst (λ (x : Maybe Begun). BeginsRow rows stock.live start.symbol start.place x rows') e k in
       record {
         size = refl;
         defines = λ h table kept.

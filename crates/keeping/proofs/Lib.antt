@@ -2,5 +2,5 @@ pub mod Spoken
 pub mod Growing
 pub mod Onward
 pub mod Answered
-pub mod Whole
+pub mod Bodies
 pub mod Entered

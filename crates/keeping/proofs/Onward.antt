@@ -21,12 +21,12 @@ use Rattle.rules.specs.Written.{Written, written, last_letter}
 use Rattle.commands.specs.Words.{words_of, kind_by, DecodedOne}
 use Rattle.library.specs.Memory.{body_at, start_at, length_at, needed_at, row_numbers}
 use Rattle.library.specs.Sound.{step_words, Fair}
-use Rattle.library.specs.Storing.{start_of, extended, layer_words, Relayered, layer_now, is_layer, Grows, Put}
+use Rattle.library.specs.Storing.{start_of, extended, layer_words, Relayered, Storable, Stores, layer_now, is_layer, Grows, Put}
 use Rattle.library.proofs.Laying.{put_by}
 use Rattle.library.proofs.Adding.{layer_words_lem}
 use Rattle.library.proofs.Storing.{three_before, grown-after, grown_in_place}
 use Rattle.keeping.specs.Voices.{Told, none_told}
-use Rattle.keeping.specs.Growth.{steps, Storable, Stores, Adds, Within, Ready, Keeps, KeepsMore, KeepsLast, KeepsTight}
+use Rattle.keeping.specs.Growth.{steps, Adds, Within, Ready, Keeps, KeepsMore, KeepsLast, KeepsTight}
 use Rattle.keeping.proofs.Spoken.{OneStep, one_step, is_finish, is_nothing, First, first-told, none_told_of, placed, words_are, few-values, retains_it, deeds_on, retains_none, deeds_none, retains_end, deeds_end}
 use Rattle.keeping.proofs.Growing.{adds_none, adds_one}
 
@@ -35,15 +35,6 @@ pub within_same : {t : List ℕ} {spot : Spot} {a b : ℕ} {rows : List ℕ} {wo
     → Adds rows words live row [] rows' words' used' layered' → {σ : Standing} {cs : List (Placed Command)} → Within t spot a b rows words row σ cs → Within t spot a b rows' words' row σ cs
 unfolding layer_now
 within_same f w = record { told = w.told; opened = w.opened; same_a = w.same_a; same_b = w.same_b; layer_now_lem = f.layers ∙ w.layer_now_lem }
-
--- what `store` answers
-pub stores_idle : (rows : List ℕ) (b : List ℤ) (row used n : ℕ) {idle : Bool} {rows' : List ℕ} {b' : List ℤ} → idle ≡ true → Relayered rows b row used rows' b' → Stores rows b row used n idle used rows' b'
-unfolding Stores
-stores_idle rows b row used n {idle} {rows'} {b'} e r = subst (λ (x : Bool). Stores rows b row used n x used rows' b') (sym e) (refl, r)
-
-pub stores_plain : (rows : List ℕ) (b : List ℤ) (row used n : ℕ) {idle : Bool} {rows' : List ℕ} → idle ≡ false → rows' ≡ extended rows row used n → Stores rows b row used n idle (used + n) rows' b
-unfolding Stores
-stores_plain rows b row used n {idle} {rows'} e r = subst (λ (x : Bool). Stores rows b row used n x (used + n) rows' b) (sym e) (refl, r, refl)
 
 both_true : (x y : Bool) → (x && y) ≡ true → (x ≡ true) × (y ≡ true)
 both_true true true e = (refl, refl)
@@ -237,12 +228,10 @@ module _ {t : List ℕ} {from : Spot} {a b : ℕ} {rows : List ℕ} {words : Lis
           pub storable : (fit : Fit t from) (idle : Bool) → idle ≡ (layered && layer) → Storable rows words' row used n idle
           storable fit idle q = record {
             here = omega (arith, g.growing.here, g.growing.laid.few);
-            length_fits = omega (arith, short, long, fits, g.run_short);
-            needed_fits = omega (arith, short, long, fits, g.run_short, g.few_needed, fit.within, g.text_short);
-            used_fits = omega (arith, fits, g.growing.fits, g.run_short);
-            three_before = λ z. three_before g.growing (both_true layered layer (sym q ∙ z)).0;
-            three_after = λ z. let m = three (both_true layered layer (sym q ∙ z)).1 in omega (arith, m, fits, g.growing.fits, size);
-            three_fit = λ z. omega (arith, short, long, g.run_short, g.few_needed, fit.within, g.text_short);
+            stored = omega (arith, short, long, fits, g.run_short);
+            needed = omega (arith, short, long, fits, g.run_short, g.few_needed, fit.within, g.text_short);
+            within = omega (arith, fits, g.growing.fits, size);
+            layer = λ z. let both = both_true layered layer (sym q ∙ z) in (three both.1, three_before g.growing both.0);
           }
             where
               short : start_at rows row + length_at rows row ≤ length words
@@ -350,12 +339,12 @@ module _ {t : List ℕ} {from : Spot} {a b : ℕ} {rows : List ℕ} {words : Lis
                 few : layer ≡ true → needed_at rows'' row + length_at rows row ≤ needed_at rows row + length_at rows'' row + 3
                 few q = omega (arith, same_length, three_more)
 
-            pub keeps-stored : (idle : Bool) → idle ≡ (layered && layer) → Stores rows words' row used n idle used'' rows'' words'' → KeepsMore t from a b rows words live row used'' layer to rows'' words''
+            pub keeps-stored : (idle : Bool) → idle ≡ (layered && layer) → Stores idle rows words' row used n rows'' words'' used'' → KeepsMore t from a b rows words live row used'' layer to rows'' words''
             unfolding Stores
-            keeps-stored true q s = keeps_in_place (sym q) s.0 s.1
-            keeps-stored false q s = keeps-after (sym q) s.0 s.1 s.2
+            keeps-stored true q s = keeps_in_place (sym q) s.1 s.0
+            keeps-stored false q s = keeps-after (sym q) s.2 s.0 s.1
 
-            pub stored-size : (idle : Bool) → Stores rows words' row used n idle used'' rows'' words'' → length words'' ≡ length words
+            pub stored-size : (idle : Bool) → Stores idle rows words' row used n rows'' words'' used'' → length words'' ≡ length words
             unfolding Stores
-            stored-size true s = s.1.moved.size ∙ size
-            stored-size false s = ap length s.2 ∙ size
+            stored-size true s = s.0.moved.size ∙ size
+            stored-size false s = ap length s.1 ∙ size

@@ -1,7 +1,7 @@
 -- A body that grows command by command, as it is decoded into the run: the contracts of the functions below `define`. A running account, not to be
 -- believed.
 -- Assumes nothing.
-use Rattle.std.specs.Prelude.{◌≡◌, Bool, true, false, ◌||◌, List, [], ◌∷◌, ◌++◌, ℕ, ◌+◌, ◌*◌, ◌^◌, ◌≤◌, ◌<◌, eqb, ℤ, length}
+use Rattle.std.specs.Prelude.{◌≡◌, Bool, true, false, ◌||◌, List, [], ◌∷◌, ◌++◌, ℕ, ◌+◌, ◌*◌, ◌≤◌, ◌<◌, eqb, ℤ, length, Option, Some, None}
 use Rattle.definition.specs.Limits.{most_bytes}
 use Rattle.definition.specs.Words.{Placed}
 use Rattle.definition.specs.Commands.{Command}
@@ -14,16 +14,15 @@ use Rattle.pieces.specs.declared.Spot.{Spot}
 use Rattle.rules.specs.Letters.{letter_c, letter_l}
 use Rattle.rules.specs.Rules.{shapely}
 use Rattle.rules.specs.Written.{written}
-use Rattle.library.specs.Memory.{body_at, symbol_at, length_at, needed_at, most, most_words}
+use Rattle.library.specs.Memory.{body_at, symbol_at, length_at, needed_at, most_words}
 use Rattle.library.specs.Sound.{step_words}
 use Rattle.library.specs.Rows.{bare}
-use Rattle.library.specs.Storing.{extended, layer_words, Relayered, layer_now, Growing}
+use Rattle.library.specs.Storing.{layer_now, Growing}
 use Rattle.library.specs.Holds.{Holds}
 use Rattle.keeping.specs.Voices.{Told}
+use Rattle.keeping.specs.declared.Whole.{Whole}
 use Rattle.keeping.specs.declared.Stored.{Stored}
 use Rattle.keeping.specs.declared.Stored.TheVariants.{More, Last, Tight}
-use Rattle.std.specs.Prelude.{None, Option, Some}
-use Rattle.keeping.specs.declared.Whole.{Whole}
 
 -- the letters of the commands that are steps of a body: L, C, and those of the shapes
 abbrev pub steps : ℕ → Bool
@@ -31,21 +30,6 @@ steps k = eqb k letter_l || (eqb k letter_c || shapely k)
 
 abbrev pub with_body : ℕ → ℕ → List (Placed Step) → Definition
 with_body symbol place ss = record { symbol = symbol; place = place; body = ss }
-
--- ---- a step taken into the body of a row
-
-pub record Storable (rows : List ℕ) (b : List ℤ) (row used n : ℕ) (idle : Bool) : Type 0 where
-  pub here : row < most
-  pub length_fits : length_at rows row + n < 2 ^ 64
-  pub needed_fits : needed_at rows row + n < 2 ^ 64
-  pub used_fits : used + n < 2 ^ 64
-  pub three_before : idle ≡ true → layer_words ≤ used
-  pub three_after : idle ≡ true → used + layer_words ≤ length b
-  pub three_fit : idle ≡ true → needed_at rows row + layer_words < 2 ^ 64
-
-unfoldable pub Stores : (rows : List ℕ) (b : List ℤ) (row used n : ℕ) (idle : Bool) (r : ℕ) (rows' : List ℕ) (b' : List ℤ) → Type 0
-Stores rows b row used n true r rows' b' = (r ≡ used) × Relayered rows b row used rows' b'
-Stores rows b row used n false r rows' b' = (r ≡ used + n) × (rows' ≡ extended rows row used n) × (b' ≡ b)
 
 -- ---- a body between two commands
 
@@ -150,7 +134,7 @@ pub record TooFew (t : List ℕ) (from : Spot) (a b : ℕ) (rows : List ℕ) (wo
       → Holds rows words live (enter (bare (symbol_at rows row) place) table) → length words < words_in (enter (with_body (symbol_at rows row) place (retained σ cs)) table)
 
 unfoldable pub KeepsBodyBy : (t : List ℕ) (from : Spot) (a b : ℕ) (rows : List ℕ) (words : List ℤ) (live row : ℕ) → Option Whole → (rows' : List ℕ) (words' : List ℤ) → Type 0
-KeepsBodyBy t from a b rows words live row (Some (record { used = used'; to = to })) rows' words' = KeepsWhole t from a b rows words live row used' to rows' words'
+KeepsBodyBy t from a b rows words live row (Some whole) rows' words' = KeepsWhole t from a b rows words live row whole.used whole.to rows' words'
 KeepsBodyBy t from a b rows words live row None rows' words' = TooFew t from a b rows words live row
 
 -- the contract of `keep_body`

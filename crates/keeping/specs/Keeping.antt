@@ -1,7 +1,9 @@
 -- The memory that the pass over a text keeps, and what it makes of it to take one definition: its body is decoded once, into the words lent, and the
 -- definition is entered. A running account, not to be believed: what happens is said in crates/definition's events, and the pass joins it to the story.
 -- Assumes nothing.
-use Rattle.std.specs.Prelude.{◌≡◌, true, false, List, [], ℕ, ◌+◌, ◌≤◌, ◌<◌, ℤ, length}
+use Rattle.std.specs.Prelude.{◌≡◌, true, false, List, [], ℕ, ◌+◌, ◌≤◌, ◌<◌, ℤ, length, Result, Ok, Err}
+use Rattle.definition.specs.declared.Rule.{Rule}
+use Rattle.definition.specs.declared.Rule.TheVariants.{TooManyDefinitions, TooFewWords}
 use Rattle.definition.specs.Limits.{most_bytes, most_definitions}
 use Rattle.definition.specs.Words.{Placed}
 use Rattle.definition.specs.Commands.{Command}
@@ -26,10 +28,7 @@ use Rattle.keeping.specs.Voices.{Told}
 pub use Rattle.keeping.specs.Growth.{Passes}
 use Rattle.keeping.specs.declared.Start.{Start}
 use Rattle.keeping.specs.declared.Stock.{Stock}
-use Rattle.std.specs.Prelude.{Err, Ok, Result}
 use Rattle.keeping.specs.declared.Taken.{Taken}
-use Rattle.definition.specs.declared.Rule.{Rule}
-use Rattle.definition.specs.declared.Rule.TheVariants.{TooManyDefinitions, TooFewWords}
 
 -- the memory holds a table: how many definitions are live, how many words are used, and how many the live definitions need, which is at most those lent
 pub record Kept (rows : List ℕ) (b : List ℤ) (stock : Stock) (t : Table) : Type 0 where
@@ -78,10 +77,11 @@ pub record Takes (t : List ℕ) (rows : List ℕ) (b : List ℤ) (from : Spot) (
 
 -- or it is the 513th (refusal 10); or, where it is not, the live definitions need more words than are lent (refusal 25)
 unfoldable pub Defines : (t : List ℕ) (rows : List ℕ) (b : List ℤ) (from : Spot) (start : Start) (counts : Counts) → Open t from start.a start.b → Table → Result Taken Rule → Type 0
-Defines t rows b from start counts h table (Ok (record { stock = stock; counts = after_it; to = to })) = Takes t rows b from start counts h table stock after_it to
+Defines t rows b from start counts h table (Ok taken) = Takes t rows b from start counts h table taken.stock taken.counts taken.to
 Defines t rows b from start counts h table (Err TooManyDefinitions) = most_definitions < length (enter (definition_of h start.symbol start.place) table)
 Defines t rows b from start counts h table (Err TooFewWords) =
     (length (enter (definition_of h start.symbol start.place) table) ≤ most_definitions) × (length b < words_in (enter (definition_of h start.symbol start.place) table))
+Defines t rows b from start counts h table (Err _) = ⊥
 
 -- the contract of `define`, for every table that is held and whatever is told
 pub record DefinesAt (t : List ℕ) (rows : List ℕ) (b : List ℤ) (stock : Stock) (from : Spot) (start : Start) (counts : Counts) (r : Result Taken Rule) (rows' : List ℕ) (b' : List ℤ) : Type 0 where
@@ -109,9 +109,9 @@ pub record Fills (t : List ℕ) (rows : List ℕ) (b : List ℤ) (from : Spot) (
   pub ahead : from.at ≤ to.at
 
 unfoldable pub FillsBy : (t : List ℕ) (rows : List ℕ) (b : List ℤ) (from : Spot) (start : Start) (counts : Counts) → Open t from start.a start.b → Table → Result Taken Rule → Type 0
-FillsBy t rows b from start counts h table (Ok (record { stock = stock; counts = after_it; to = to })) = Fills t rows b from start counts h table stock after_it to
-FillsBy t rows b from start counts h table (Err TooManyDefinitions) = ⊥
+FillsBy t rows b from start counts h table (Ok taken) = Fills t rows b from start counts h table taken.stock taken.counts taken.to
 FillsBy t rows b from start counts h table (Err TooFewWords) = length b < words_in (enter (definition_of h start.symbol start.place) table)
+FillsBy t rows b from start counts h table (Err _) = ⊥
 
 pub record FillsAt (t : List ℕ) (rows : List ℕ) (b : List ℤ) (stock : Stock) (from : Spot) (start : Start) (counts : Counts) (r : Result Taken Rule) (rows' : List ℕ) (b' : List ℤ) : Type 0 where
   pub size : length b' ≡ length b

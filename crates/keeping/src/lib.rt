@@ -3,11 +3,10 @@
 // were lent (refusal 25).
 #![tactic(auto)]
 
-ghost use Rattle.std.specs.Prelude.{◌≡◌, ℕ, ◌+◌, ◌≤◌, false, ◌&&◌, eqb, length};
+ghost use Rattle.std.specs.Prelude.{◌≡◌, ℕ, ◌+◌, ◌≤◌, false, length};
 ghost use Rattle.definition.specs.Limits.{most_bytes};
 ghost use Rattle.pieces.specs.Pieces.{too_large, Fit};
-ghost use Rattle.rules.specs.Letters.{letter_l};
-ghost use Rattle.keeping.specs.Growth.{steps, Storable, Stores, Ready, KeepsCommand, KeepsBody};
+ghost use Rattle.keeping.specs.Growth.{steps, Ready, KeepsCommand, KeepsBody};
 ghost use Rattle.keeping.specs.Keeping.{Begins, DefinesAt, Filling, FillsAt};
 
 use definition::Rule;
@@ -57,49 +56,7 @@ struct Whole {
 fn is_step(kind: u8) -> bool
     ensures { result ≡ steps kind }
 {
-    if kind == b'L' {
-        return true;
-    }
-    if kind == b'C' {
-        return true;
-    }
-    rules::is_shape(kind)
-}
-
-fn is_layer(kind: u8) -> bool
-    ensures { result ≡ eqb kind letter_l }
-{
-    kind == b'L'
-}
-
-fn both(first: bool, second: bool) -> bool
-    ensures { result ≡ (first && second) }
-{
-    if first {
-        return second;
-    }
-    false
-}
-
-// Takes the words of a step, which stand after those used, into the body of a row: an L command directly after an L command takes its place. How many
-// words are used then.
-fn store(
-    rows: &mut [usize; library::ROW_NUMBERS],
-    bodies: &mut [i32],
-    row: usize,
-    used: usize,
-    n: usize,
-    idle: bool,
-) -> usize
-    requires { Storable rows.old bodies.old row used n idle }
-    ensures { Stores rows.old bodies.old row used n idle result rows.new bodies.new }
-{
-    if idle {
-        library::replace_layer(rows, bodies, row, used);
-        return used;
-    }
-    library::extend(rows, row, used, n);
-    used + n
+    kind == b'L' || kind == b'C' || rules::is_shape(kind)
 }
 
 // Decodes the next command of a body after the words used, and keeps it if it is a step.
@@ -132,9 +89,9 @@ fn keep_command(
                 if bodies.len() - used < n {
                     return Stored::Tight;
                 }
-                let layer = is_layer(kind);
-                let idle = both(layered, layer);
-                let more = store(rows, bodies, row, used, n, idle);
+                let layer = kind == b'L';
+                let idle = layered && layer;
+                let more = library::store(rows, bodies, row, used, n, idle);
                 return Stored::More(more, layer, to);
             }
             Stored::More(used, layered, to)

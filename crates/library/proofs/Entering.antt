@@ -18,7 +18,8 @@ use Rattle.library.specs.Sound.{Sound, Stocked, Proper, all_words}
 use Rattle.library.specs.Moving.{Laid}
 use Rattle.library.specs.Rows.{bare, Sorted, Parted, SameAt, before, Shifted, with_row, Entry, Begins}
 use Rattle.library.specs.Storing.{last_sets, Growing}
-use Rattle.library.specs.declared.Begun.TheVariants.{Replaced, Added, Full}
+use Rattle.std.specs.Prelude.{Some, None}
+use Rattle.library.specs.declared.Begun.TheVariants.{Replaced, Added}
 use Rattle.library.proofs.Runs.{same-table}
 use Rattle.library.proofs.Looking.{none_from, some_from}
 use Rattle.library.proofs.Seeking.{standing, not_standing, above_strict}
@@ -403,15 +404,15 @@ module _ (rows : List ℕ) (live n p i : ℕ) (sorted : Sorted rows live) (sized
   pub at_place : t ≡ true → i < most
   at_place e = omega (arith, (there e).0, sorted.few)
 
-  pub begins_over : t ≡ true → (freed : ℕ) → freed ≡ needed_at rows i → Begins rows live n p (Replaced i freed) (with_row rows i n p)
+  pub begins_over : t ≡ true → (freed : ℕ) → freed ≡ needed_at rows i → Begins rows live n p (Some (Replaced i freed)) (with_row rows i n p)
   unfolding Begins
   begins_over e freed f = (entry_over rows live n p i sorted sized parted (there e).0 (there e).1, f, (there e).1, was_there rows live n p i sorted sized parted (there e).0 (there e).1)
 
-  pub begins_full : t ≡ false → live ≡ most → Begins rows live n p Full rows
+  pub begins_full : t ≡ false → live ≡ most → Begins rows live n p None rows
   unfolding Begins
   begins_full e q = (refl, q, was_not_there rows live n p i sorted sized parted (not_at e))
 
-  pub begins_in : t ≡ false → (live ≡ most → ⊥) → (rows' : List ℕ) → Shifted rows live i rows' → Begins rows live n p (Added i) (with_row rows' i n p)
+  pub begins_in : t ≡ false → (live ≡ most → ⊥) → (rows' : List ℕ) → Shifted rows live i rows' → Begins rows live n p (Some (Added i)) (with_row rows' i n p)
   unfolding Begins
   begins_in e q rows' s =
       let f : ¬ (live ≡ most) = q in

@@ -8,11 +8,10 @@ use native.Mathlib.Nat.{not-suc-le-zero}
 use native.Mathlib.Omega.{arith}
 use borrow.Author.Tests.{eq-eqb, ne_eqb}
 use lib.IntN.{ℤ}
+use Rattle.std.specs.Prelude.{Option, Some, None}
 use Rattle.definition.specs.Table.{find}
 use Rattle.library.specs.Memory.{symbol_at, definition_at, table_from, table_of}
 use Rattle.library.specs.Rows.{Nearest, Finds}
-use Rattle.library.specs.declared.Found.{Found}
-use Rattle.library.specs.declared.Found.TheVariants.{Live, Nothing}
 use Rattle.library.proofs.Cases.{side}
 
 module _ (rows : List ℕ) (b : List ℤ) (n : ℕ) where
@@ -33,23 +32,23 @@ module _ (rows : List ℕ) (b : List ℤ) (n : ℕ) where
       rw (ne_eqb (symbol_at rows j) n (h j (omega arith) (omega arith)))
       (some_from d m (j + 1) i (omega arith) (omega arith) (λ k a c. h k (omega arith) c) q)
 
-  pub not_found : (live : ℕ) (r : Found) → Finds rows live n r → r ≡ Nothing → find n (table_of rows b live) ≡ none
+  pub not_found : (live : ℕ) (r : Option ℕ) → Finds rows live n r → r ≡ None → find n (table_of rows b live) ≡ none
   not_found live r h e =
       let f : (k : ℕ) → k < live → symbol_at rows k ≡ n → ⊥ = unfold Finds in subst (Finds rows live n) e h in
       none_from live 0 (λ k l q. f k (omega arith))
 
-  pub found : (live : ℕ) (r : Found) (i : ℕ) → Finds rows live n r → r ≡ Live i → (i < live) × (find n (table_of rows b live) ≡ some (definition_at rows b i))
+  pub found : (live : ℕ) (r : Option ℕ) (i : ℕ) → Finds rows live n r → r ≡ Some i → (i < live) × (find n (table_of rows b live) ≡ some (definition_at rows b i))
   found live r i h e =
       let f : (i < live) × (symbol_at rows i ≡ n) × ((k : ℕ) → k < i → symbol_at rows k ≡ n → ⊥) = unfold Finds in subst (Finds rows live n) e h in
       (f.0, some_from i live 0 i (omega arith) f.0 (λ k a c. f.2 k c) f.1)
 
 -- ---- what `find` answers
 
-pub here : (rows : List ℕ) (live n i : ℕ) → Nearest rows live n i → (i < live) × (symbol_at rows i ≡ n) → Finds rows live n (Live i)
+pub here : (rows : List ℕ) (live n i : ℕ) → Nearest rows live n i → (i < live) × (symbol_at rows i ≡ n) → Finds rows live n (Some i)
 unfolding Finds
 here rows live n i h g = (g.0, g.1, λ k l e. let a = h.below k l in omega arith)
 
-pub nowhere : (rows : List ℕ) (live n i : ℕ) → Nearest rows live n i → (i < live → symbol_at rows i ≡ n → ⊥) → Finds rows live n Nothing
+pub nowhere : (rows : List ℕ) (live n i : ℕ) → Nearest rows live n i → (i < live → symbol_at rows i ≡ n → ⊥) → Finds rows live n None
 unfolding Finds
 nowhere rows live n i h g k m e =
     side ⊥ k i (λ l. let a = h.below k l in omega arith) (λ f. g (omega arith) (subst (λ (x : ℕ). symbol_at rows x ≡ n) f e)) (λ l. let a = h.above k l m in omega arith)

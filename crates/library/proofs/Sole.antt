@@ -12,10 +12,9 @@ use lib.IntN.{ℤ, pos}
 use lib.ListN.{length, get_or}
 use lib.Seq.{ext_get_or}
 use Rattle.definition.specs.Table.{Definition, Table}
-use Rattle.library.specs.declared.Found.{Found}
-use Rattle.library.specs.declared.Found.TheVariants.{Live, Nothing}
+use Rattle.std.specs.Prelude.{Option, Some, None}
 use Rattle.library.specs.declared.Begun.{Begun}
-use Rattle.library.specs.declared.Begun.TheVariants.{Replaced, Added, Full}
+use Rattle.library.specs.declared.Begun.TheVariants.{Replaced, Added}
 use Rattle.library.specs.Memory.{words_at, table_from, symbol_at, start_at, length_at, needed_at, row_numbers}
 use Rattle.library.specs.Moving.{Moved, Compacted}
 use Rattle.library.specs.Rows.{Finds, Forgets, SameAt, before, Entry, Begins}
@@ -24,12 +23,12 @@ use Rattle.library.proofs.Cases.{by_row, by_place, side, none_or_some}
 
 -- ---- find and forget
 
-pub finds_sole : (rows : List ℕ) (live n : ℕ) (r s : Found) → Finds rows live n r → Finds rows live n s → r ≡ s
+pub finds_sole : (rows : List ℕ) (live n : ℕ) (r s : Option ℕ) → Finds rows live n r → Finds rows live n s → r ≡ s
 unfolding Finds
-finds_sole rows live n (Live i) (Live j) x y = ap Live (side (i ≡ j) i j (λ h. absurd (y.2 i h x.1)) (λ e. e) (λ h. absurd (x.2 j h y.1)))
-finds_sole rows live n (Live i) Nothing x y = absurd (y i x.0 x.1)
-finds_sole rows live n Nothing (Live j) x y = absurd (x j y.0 y.1)
-finds_sole rows live n Nothing Nothing x y = refl
+finds_sole rows live n (Some i) (Some j) x y = ap {B = Option ℕ} Some (side (i ≡ j) i j (λ h. absurd (y.2 i h x.1)) (λ e. e) (λ h. absurd (x.2 j h y.1)))
+finds_sole rows live n (Some i) None x y = absurd (y i x.0 x.1)
+finds_sole rows live n None (Some j) x y = absurd (x j y.0 y.1)
+finds_sole rows live n None None x y = refl
 
 table-length : (rows : List ℕ) (b : List ℤ) (n i : ℕ) → length (table_from rows b i n) ≡ n
 unfolding table_from
@@ -108,19 +107,19 @@ module _ {rows : List ℕ} {live n p : ℕ} (source : ℕ → ℕ → ℕ) {x y 
   entry_sole : (i j : ℕ) → Entry rows live n p x live' i (source i) → Entry rows live n p y live' j (source j) → (i ≡ j) × (x ≡ y)
   entry_sole i j e f = let q = row_sole i j e f in (q, same_entry i e (subst (λ (m : ℕ). Entry rows live n p y live' m (source m)) (sym q) f))
 
-pub begins_sole : (rows : List ℕ) (live n p : ℕ) (r s : Begun) (x y : List ℕ) → Begins rows live n p r x → Begins rows live n p s y → (r ≡ s) × (x ≡ y)
+pub begins_sole : (rows : List ℕ) (live n p : ℕ) (r s : Option Begun) (x y : List ℕ) → Begins rows live n p r x → Begins rows live n p s y → (r ≡ s) × (x ≡ y)
 unfolding Begins
-begins_sole rows live n p (Replaced i c) (Replaced j d) x y e f =
+begins_sole rows live n p (Some (Replaced i c)) (Some (Replaced j d)) x y e f =
     let q = entry_sole (λ a b. b) i j e.0 f.0 in
-    (ap₂ {C = Begun} (λ (a b : ℕ). Replaced a b) q.0 (e.1 ∙ (ap (needed_at rows) q.0 ∙ sym f.1)), q.1)
-begins_sole rows live n p (Added i) (Added j) x y e f = let q = entry_sole before i j e.0 f.0 in (ap Added q.0, q.1)
-begins_sole rows live n p Full Full x y e f = (refl, e.0 ∙ sym f.0)
-begins_sole rows live n p (Replaced i c) (Added j) x y e f = absurd (e.3 [] (f.1 []))
-begins_sole rows live n p (Replaced i c) Full x y e f = absurd (e.3 [] (f.2 []))
-begins_sole rows live n p (Added i) (Replaced j d) x y e f = absurd (f.3 [] (e.1 []))
-begins_sole rows live n p Full (Replaced j d) x y e f = absurd (f.3 [] (e.2 []))
-begins_sole rows live n p (Added i) Full x y e f = absurd (omega (arith, e.0.sorted.few, f.1))
-begins_sole rows live n p Full (Added j) x y e f = absurd (omega (arith, f.0.sorted.few, e.1))
+    (ap₂ {C = Option Begun} (λ (a b : ℕ). Some (Replaced a b)) q.0 (e.1 ∙ (ap (needed_at rows) q.0 ∙ sym f.1)), q.1)
+begins_sole rows live n p (Some (Added i)) (Some (Added j)) x y e f = let q = entry_sole before i j e.0 f.0 in (ap {B = Option Begun} (λ (a : ℕ). Some (Added a)) q.0, q.1)
+begins_sole rows live n p None None x y e f = (refl, e.0 ∙ sym f.0)
+begins_sole rows live n p (Some (Replaced i c)) (Some (Added j)) x y e f = absurd (e.3 [] (f.1 []))
+begins_sole rows live n p (Some (Replaced i c)) None x y e f = absurd (e.3 [] (f.2 []))
+begins_sole rows live n p (Some (Added i)) (Some (Replaced j d)) x y e f = absurd (f.3 [] (e.1 []))
+begins_sole rows live n p None (Some (Replaced j d)) x y e f = absurd (f.3 [] (e.2 []))
+begins_sole rows live n p (Some (Added i)) None x y e f = absurd (omega (arith, e.0.sorted.few, f.1))
+begins_sole rows live n p None (Some (Added j)) x y e f = absurd (omega (arith, f.0.sorted.few, e.1))
 
 -- ---- words
 

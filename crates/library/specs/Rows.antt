@@ -1,13 +1,11 @@
 -- Rows by number: where the numbers part, and what it leaves to begin a definition and to forget some. A running account, not to be believed.
 -- Assumes nothing.
-use Rattle.std.specs.Prelude.{◌≡◌, List, [], ℕ, ◌+◌, ◌-◌, ◌*◌, ◌≤◌, ◌<◌, ltb, ℤ, length, get_or, set, if◌then◌else◌}
+use Rattle.std.specs.Prelude.{◌≡◌, List, [], ℕ, Option, Some, None, ◌+◌, ◌-◌, ◌*◌, ◌≤◌, ◌<◌, ltb, ℤ, length, get_or, set, if◌then◌else◌}
 use Rattle.std.proofs.Math.Option.{none}
 use Rattle.definition.specs.Table.{Definition, find, enter, forget}
 use Rattle.library.specs.Memory.{symbol_at, place_at, start_at, length_at, needed_at, table_of, most, row_numbers}
-use Rattle.library.specs.declared.Found.{Found}
-use Rattle.library.specs.declared.Found.TheVariants.{Live, Nothing}
 use Rattle.library.specs.declared.Begun.{Begun}
-use Rattle.library.specs.declared.Begun.TheVariants.{Replaced, Added, Full}
+use Rattle.library.specs.declared.Begun.TheVariants.{Replaced, Added}
 
 -- each number is below those after it, and there are at most 512
 pub record Sorted (rows : List ℕ) (live : ℕ) : Type 0 where
@@ -27,9 +25,9 @@ pub record Parted (rows : List ℕ) (live symbol i : ℕ) : Type 0 where
   pub above : (k : ℕ) → i ≤ k → k < live → symbol ≤ symbol_at rows k
 
 -- what a look-up answers: the first live row of a number (proofs/Looking.antt: it is what crates/definition finds in the table)
-unfoldable pub Finds : List ℕ → ℕ → ℕ → Found → Type 0
-Finds rows live n (Live i) = (i < live) × (symbol_at rows i ≡ n) × ((k : ℕ) → k < i → symbol_at rows k ≡ n → ⊥)
-Finds rows live n Nothing = (k : ℕ) → k < live → symbol_at rows k ≡ n → ⊥
+unfoldable pub Finds : List ℕ → ℕ → ℕ → Option ℕ → Type 0
+Finds rows live n (Some i) = (i < live) × (symbol_at rows i ≡ n) × ((k : ℕ) → k < i → symbol_at rows k ≡ n → ⊥)
+Finds rows live n None = (k : ℕ) → k < live → symbol_at rows k ≡ n → ⊥
 
 -- DD: whatever the bodies are
 pub record Forgets (rows : List ℕ) (live symbol left : ℕ) : Type 0 where
@@ -86,7 +84,7 @@ pub record Entry (rows : List ℕ) (live symbol place : ℕ) (rows' : List ℕ) 
   pub table : (b : List ℤ) → table_of rows' b live' ≡ enter (bare symbol place) (table_of rows b live)
 
 -- instead of one of its number, whose words are free; beside the others; or not at all, since 512 others are live
-unfoldable pub Begins : List ℕ → ℕ → ℕ → ℕ → Begun → List ℕ → Type 0
-Begins rows live n p (Replaced i freed) rows' = Entry rows live n p rows' live i (λ j. j) × (freed ≡ needed_at rows i) × (symbol_at rows i ≡ n) × ((b : List ℤ) → find n (table_of rows b live) ≡ none → ⊥)
-Begins rows live n p (Added i) rows' = Entry rows live n p rows' (live + 1) i (before i) × ((b : List ℤ) → find n (table_of rows b live) ≡ none)
-Begins rows live n p Full rows' = (rows' ≡ rows) × (live ≡ most) × ((b : List ℤ) → find n (table_of rows b live) ≡ none)
+unfoldable pub Begins : List ℕ → ℕ → ℕ → ℕ → Option Begun → List ℕ → Type 0
+Begins rows live n p (Some (Replaced i freed)) rows' = Entry rows live n p rows' live i (λ j. j) × (freed ≡ needed_at rows i) × (symbol_at rows i ≡ n) × ((b : List ℤ) → find n (table_of rows b live) ≡ none → ⊥)
+Begins rows live n p (Some (Added i)) rows' = Entry rows live n p rows' (live + 1) i (before i) × ((b : List ℤ) → find n (table_of rows b live) ≡ none)
+Begins rows live n p None rows' = (rows' ≡ rows) × (live ≡ most) × ((b : List ℤ) → find n (table_of rows b live) ≡ none)

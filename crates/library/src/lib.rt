@@ -31,20 +31,11 @@ const AT_ONCE: usize = 4;
 // The words of an L command.
 pub const LAYER_WORDS: usize = 3;
 
-// The row of a number, if it is live.
-#[derive(Clone, Copy)]
-pub enum Found {
-    Live(usize),
-    Nothing,
-}
-
-// How a definition was begun: its row, instead of one of its number, with the words which that needed, or beside the others; or not at all, since 512
-// others are live.
+// How a definition was begun: its row, instead of one of its number, with the words which that needed, or beside the others.
 #[derive(Clone, Copy)]
 pub enum Begun {
     Replaced(usize, usize),
     Added(usize),
-    Full,
 }
 
 // Where the body of a row starts, how many words are stored of it, and how many its definition needs.
@@ -294,16 +285,16 @@ fn nearest(rows: &[usize; ROW_NUMBERS], live: usize, symbol: usize) -> usize
     at
 }
 
-// The live row of a number (refusal 12 where there is none): nine comparisons to come to the nearest number, one to see whether it is this.
-pub fn find(rows: &[usize; ROW_NUMBERS], live: usize, symbol: usize) -> Found
+// The row of a number, if it is live (refusal 12 where it is not): nine comparisons to come to the nearest number, one to see whether it is this.
+pub fn find(rows: &[usize; ROW_NUMBERS], live: usize, symbol: usize) -> Option<usize>
     requires { Sorted rows.now live }
     ensures { Finds rows.now live symbol result }
 {
     let i = nearest(rows, live, symbol);
     if stands(rows, live, i, symbol) {
-        return Found::Live(i);
+        return Some(i);
     }
-    Found::Nothing
+    None
 }
 
 // The first row whose number is not below this one, or `live`: that of the nearest number, or the one after it.
@@ -455,9 +446,14 @@ fn put_row(rows: &mut [usize; ROW_NUMBERS], i: usize, symbol: usize, place: usiz
     rows[PER_ROW * i + NEEDED] = 0;
 }
 
-// Begins a definition: its row is entered under its number, in the place of one of that number or between the others, with no body yet (refusal 10
-// where it would be the 513th).
-pub fn begin(rows: &mut [usize; ROW_NUMBERS], live: usize, symbol: usize, place: usize) -> Begun
+// Begins a definition: its row is entered under its number, in the place of one of that number or between the others, with no body yet. None where 512
+// others are live (refusal 10).
+pub fn begin(
+    rows: &mut [usize; ROW_NUMBERS],
+    live: usize,
+    symbol: usize,
+    place: usize,
+) -> Option<Begun>
     requires { Sorted rows.old live × (length rows.old ≡ row_numbers) }
     ensures { Begins rows.old live symbol place result rows.new }
 {
@@ -465,12 +461,12 @@ pub fn begin(rows: &mut [usize; ROW_NUMBERS], live: usize, symbol: usize, place:
     if stands(rows, live, i, symbol) {
         let freed = needed_at(rows, i);
         put_row(rows, i, symbol, place);
-        return Begun::Replaced(i, freed);
+        return Some(Begun::Replaced(i, freed));
     }
     if live == MOST {
-        return Begun::Full;
+        return None;
     }
     shift(rows, live, i);
     put_row(rows, i, symbol, place);
-    Begun::Added(i)
+    Some(Begun::Added(i))
 }

@@ -1,12 +1,12 @@
 -- Counts stay within the bytes read, and a name within 32 bits: by these laws a loop over a flat file's bytes keeps what `after` asks for.
 -- Assumes nothing.
-use Rattle.std.specs.Prelude.{if◌then◌else◌}
+use Rattle.std.specs.Prelude.{Option, Some, None, if◌then◌else◌}
 use mathlib.Core.Bool.{Bool, true, false}
 use Prim.Native.Nat.{ℕ, ◌+◌, ◌*◌, ◌/◌, ◌≤◌, ◌<◌}
 use native.Mathlib.Nat.{mul-le-mul_right}
 use native.Mathlib.Omega.{arith}
 use lib.Dec.{eqb}
-use Rattle.lines.specs.Followed.{line, fresh, opened, named, line_after, numeral, pushed, ends, numeral_after}
+use Rattle.lines.specs.Followed.{line, fresh, letter_at, opened, named, within, line_after, numeral, pushed, ends, numeral_after}
 use Rattle.lines.specs.declared.Line.{Line}
 use Rattle.lines.specs.declared.Numeral.{Numeral}
 
@@ -16,22 +16,22 @@ pub record Kept (s r : Line) : Type 0 where
 
 pub line_kept : (s : Line) (b : ℕ) → b < 256 → s.layer + 256 * s.unit ≤ 4294967296 → Kept s (line_after s b)
 unfolding line_after opened named
-line_kept s b h k = go (eqb b 10) (eqb s.letter 0) (eqb b 76) (eqb b 69) (eqb s.letter 76) (eqb b 59)
+line_kept s b h k = go (eqb b 10) s.letter
   where
-    go : (feed start layer end naming stop : Bool)
-        → Kept s
-        (if feed then fresh s.count s.layer
-        else if start then (if layer then line s.count 0 16777216 b else if end then line s.count s.layer s.unit b else line (s.count + 1) s.layer s.unit b)
-        else if naming then (if stop then s else line s.count (s.layer + b * s.unit) (s.unit / 256) s.letter)
-        else s)
-    go true start layer end naming stop = record { few = omega arith; name = omega arith }
-    go false true true end naming stop = record { few = omega arith; name = omega arith }
-    go false true false true naming stop = record { few = omega arith; name = k }
-    go false true false false naming stop = record { few = omega arith; name = k }
-    go false false layer end true true = record { few = omega arith; name = k }
-    go false false layer end true false =
-        let m : b * s.unit ≤ 255 * s.unit = mul-le-mul_right s.unit (omega arith) in record { few = omega arith; name = omega arith }
-    go false false layer end false stop = record { few = omega arith; name = k }
+    starts : (layer end : Bool) → Kept s (if layer then line s.count 0 16777216 (letter_at b) else if end then line s.count s.layer s.unit (letter_at b) else line (s.count + 1) s.layer s.unit (letter_at b))
+    starts true end = record { few = omega arith; name = omega arith }
+    starts false true = record { few = omega arith; name = k }
+    starts false false = record { few = omega arith; name = k }
+
+    names : (naming stop : Bool) → Kept s (if naming then (if stop then s else line s.count (s.layer + b * s.unit) (s.unit / 256) s.letter) else s)
+    names false stop = record { few = omega arith; name = k }
+    names true true = record { few = omega arith; name = k }
+    names true false = let m : b * s.unit ≤ 255 * s.unit = mul-le-mul_right s.unit (omega arith) in record { few = omega arith; name = omega arith }
+
+    go : (feed : Bool) (c : Option ℕ) → Kept s (if feed then fresh s.count s.layer else within c s b)
+    go true c = record { few = omega arith; name = omega arith }
+    go false None = starts (eqb b 76) (eqb b 69)
+    go false (Some c) = names (eqb c 76) (eqb b 59)
 
 pub index_kept : (n : Numeral) (b : ℕ) → (numeral_after n b).index ≤ n.index + 1
 unfolding numeral_after

@@ -1,39 +1,45 @@
 -- What is known of a flat file after each of its bytes, of any bytes whatever: a running account, not to be believed. proofs/Agrees.antt of listing,
 -- above, shows that along the flat file of a text it gives the definition's lines and window.
 -- Assumes nothing.
-use Rattle.std.specs.Prelude.{Bool, true, false, ℕ, ◌+◌, ◌-◌, ◌*◌, ◌/◌, ◌%◌, ◌≤◌, eqb, ltb, ℤ, pos, neg_ℤ, ◌+ℤ◌, ◌-ℤ◌, ◌*ℤ◌, if◌then◌else◌}
-use Rattle.std.specs.Int.Signed.{le_z}
+use Rattle.std.specs.Prelude.{Bool, true, false, Option, Some, None, ℕ, ◌+◌, ◌-◌, ◌*◌, ◌/◌, ◌%◌, ◌≤◌, eqb, ltb, ℤ, pos, neg_ℤ, ◌+ℤ◌, ◌-ℤ◌, ◌*ℤ◌, if◌then◌else◌}
+use Rattle.std.specs.Int.{int_min, int_max}
 use Rattle.definition.specs.Limits.{largest}
 use Rattle.names.specs.Names.{byte_unit, first_unit, longer}
+use Rattle.lines.specs.declared.Axis.{Axis}
+use Rattle.lines.specs.declared.Axis.TheVariants.{X, Y}
 use Rattle.lines.specs.declared.Line.{Line}
 use Rattle.lines.specs.declared.Numeral.{Numeral}
 use Rattle.lines.specs.declared.Span.{Span}
+use Rattle.lines.specs.declared.Window.{Window}
 use Rattle.lines.specs.declared.Lead.{Lead}
 use Rattle.lines.specs.declared.Seen.{Seen}
 
 -- ---- the line that is being read
 
-abbrev pub line : (count layer unit letter : ℕ) → Line
+abbrev pub line : (count layer unit : ℕ) → (letter : Option ℕ) → Line
 line n l u c = record { count = n; layer = l; unit = u; letter = c }
 
 abbrev pub fresh : (count layer : ℕ) → Line  -- at a line's start
-fresh n l = line n l 0 0
+fresh n l = line n l 0 None
+
+abbrev pub letter_at : ℕ → Option ℕ  -- a byte 0 is no letter
+letter_at b = if eqb b 0 then None else Some b
 
 unfoldable pub opened : Line → ℕ → Line  -- with its letter
 opened s b =
-    if eqb b 76 then line s.count 0 first_unit b
-    else if eqb b 69 then line s.count s.layer s.unit b
-    else line (s.count + 1) s.layer s.unit b
+    if eqb b 76 then line s.count 0 first_unit (letter_at b)
+    else if eqb b 69 then line s.count s.layer s.unit (letter_at b)
+    else line (s.count + 1) s.layer s.unit (letter_at b)
 
 unfoldable pub named : Line → ℕ → Line  -- with a letter of a layer's name, which is packed
 named s b = if eqb b 59 then s else line s.count (longer s.layer s.unit b) (s.unit / byte_unit) s.letter
 
+abbrev pub within : Option ℕ → Line → ℕ → Line  -- the letter's line, or before it
+within None s b = opened s b
+within (Some c) s b = if eqb c 76 then named s b else s
+
 unfoldable pub line_after : Line → ℕ → Line
-line_after s b =
-    if eqb b 10 then fresh s.count s.layer
-    else if eqb s.letter 0 then opened s b
-    else if eqb s.letter 76 then named s b
-    else s
+line_after s b = if eqb b 10 then fresh s.count s.layer else within s.letter s b
 
 -- what the code keeps so that nothing wraps: a count within the bytes read, and a name within 32 bits
 pub record Fits (s : Line) : Type 0 where
@@ -61,39 +67,38 @@ numeral_after n b =
 abbrev pub value_of : Numeral → ℤ
 value_of n = if n.negative then neg_ℤ (pos n.value) else pos n.value
 
--- ---- the window: the lowest and the highest of numbers, of which there is one or not
+-- ---- the window: the lowest and the highest of numbers, if there are some
 
-abbrev pub span : Bool → ℤ → ℤ → Span
-span s l h = record { some = s; low = l; high = h }
+abbrev pub span : (low high : ℤ) → Span
+span l h = record { low = l; high = h }
 
-abbrev pub nowhere : Span
-nowhere = span false (pos 0) (pos 0)
+unfoldable pub widened : Option Span → Span → Span  -- with a stretch more
+widened None m = m
+widened (Some s) m = span (int_min s.low m.low) (int_max s.high m.high)
 
-abbrev pub lower : ℤ → ℤ → ℤ
-lower a b = if le_z a b then a else b
+unfoldable pub stretched : Option Span → (middle reach : ℤ) → Span  -- what lies about a number, in half units
+stretched s m r = widened s (span (pos 2 *ℤ m -ℤ r) (pos 2 *ℤ m +ℤ r))
 
-abbrev pub higher : ℤ → ℤ → ℤ
-higher a b = if le_z b a then a else b
+-- which number of a line of this letter is an x of a point, or a y, or neither: sizes stand before the points
+abbrev pub alternate : ℕ → Axis
+alternate i = if eqb (i % 2) 0 then X else Y
 
-unfoldable pub widened : Span → ℤ → ℤ → Span  -- with a stretch more
-widened s l h = if s.some then span true (lower s.low l) (higher s.high h) else span true l h
+abbrev pub after_size : ℕ → Option Axis
+after_size i = if eqb i 0 then None else Some (alternate (i + 1))
 
-unfoldable pub stretched : Span → (middle reach : ℤ) → Span  -- what lies about a number, in half units
-stretched s m r = widened s (pos 2 *ℤ m -ℤ r) (pos 2 *ℤ m +ℤ r)
-
--- which number of a line of this letter is an x of a point, 1, or a y, 2, or neither: sizes stand before the points
-abbrev pub alternate : ℕ → ℕ
-alternate i = if eqb (i % 2) 0 then 1 else 2
-
-abbrev pub after_size : ℕ → ℕ
-after_size i = if eqb i 0 then 0 else alternate (i + 1)
-
-unfoldable pub axis_of : (letter index : ℕ) → ℕ
+unfoldable pub axis_of : (letter index : ℕ) → Option Axis
 axis_of c i =
-    if eqb c 80 then alternate i
+    if eqb c 80 then Some (alternate i)
     else if eqb c 82 then after_size i
     else if eqb c 87 then after_size i
-    else 0
+    else None
+
+abbrev pub is_axis : Option Axis → Axis → Bool
+is_axis None axis = false
+is_axis (Some X) X = true
+is_axis (Some X) Y = false
+is_axis (Some Y) X = false
+is_axis (Some Y) Y = true
 
 -- the first numbers of a line
 abbrev pub lead : (first second : ℕ) → (x y : Numeral) → (dx : ℕ) → Lead
@@ -118,37 +123,42 @@ lead_after h n b = if eqb b 10 then blank else if ends b then kept h n else h
 abbrev pub reach_by : (letter first : ℕ) → ℤ
 reach_by c a = if eqb c 80 then pos 0 else pos a
 
-abbrev pub along_by : (axis x y : ℕ) → ℕ
-along_by axis x y = if eqb axis 1 then x else y
+abbrev pub along_by : Axis → (x y : ℕ) → ℕ
+along_by X x y = x
+along_by Y x y = y
 
-abbrev pub box_reach_by : (axis first second dx dy : ℕ) → ℤ
+abbrev pub box_reach_by : Axis → (first second dx dy : ℕ) → ℤ
 box_reach_by axis a b dx dy = if eqb dy 0 then pos (along_by axis a b) else if eqb dx 0 then pos (along_by axis b a) else pos (a + b)
 
-abbrev pub centre_of : (axis : ℕ) → Lead → ℤ
-centre_of axis h = if eqb axis 1 then value_of h.x else value_of h.y
+abbrev pub centre_of : Axis → Lead → ℤ
+centre_of X h = value_of h.x
+centre_of Y h = value_of h.y
 
-unfoldable pub box_taken : (axis : ℕ) → Lead → Span → Numeral → Span
-box_taken axis h s n = if eqb n.index 5 then stretched s (centre_of axis h) (box_reach_by axis h.first h.second h.dx n.value) else s
+unfoldable pub box_taken : Axis → Lead → Option Span → Numeral → Option Span
+box_taken axis h s n = if eqb n.index 5 then Some (stretched s (centre_of axis h) (box_reach_by axis h.first h.second h.dx n.value)) else s
 
-unfoldable pub taken : (axis letter : ℕ) → Lead → Span → Numeral → Span  -- a number that ends
+unfoldable pub taken : Axis → (letter : ℕ) → Lead → Option Span → Numeral → Option Span  -- a number that ends
 taken axis c h s n =
     if eqb c 66 then box_taken axis h s n
-    else if eqb (axis_of c n.index) axis then stretched s (value_of n) (reach_by c h.first)
+    else if is_axis (axis_of c n.index) axis then Some (stretched s (value_of n) (reach_by c h.first))
     else s
 
-unfoldable pub span_after : (axis : ℕ) → Span → (letter : ℕ) → Lead → Numeral → ℕ → Span
-span_after axis s c h n b = if ends b then taken axis c h s n else s
+unfoldable pub span_after : Axis → Option Span → (letter : Option ℕ) → Lead → Numeral → ℕ → Option Span
+span_after axis s None h n b = s
+span_after axis s (Some c) h n b = if ends b then taken axis c h s n else s
 
 -- ---- all of it
 
 abbrev pub unread : Seen
-unread = record { line = fresh 1 0; number = numeral 0 false 0; lead = blank; xs = nowhere; ys = nowhere }
+unread = record { line = fresh 1 0; number = numeral 0 false 0; lead = blank; window = record { xs = None; ys = None } }
 
 unfoldable pub seen_after : Seen → ℕ → Seen
 seen_after s b = record {
   line = line_after s.line b;
   number = numeral_after s.number b;
   lead = lead_after s.lead s.number b;
-  xs = span_after 1 s.xs s.line.letter s.lead s.number b;
-  ys = span_after 2 s.ys s.line.letter s.lead s.number b;
+  window = record {
+    xs = span_after X s.window.xs s.line.letter s.lead s.number b;
+    ys = span_after Y s.window.ys s.line.letter s.lead s.number b;
+  };
 }

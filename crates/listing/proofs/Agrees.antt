@@ -1,5 +1,6 @@
 -- The account is the definition's listing, for the answer and the flat file of every text; and it is short.
 -- Assumes nothing.
+use Rattle.std.specs.Prelude.{Option, None}
 use mathlib.Core.Path.{◌≡◌, refl, sym, ap, ap₂, ◌∙◌, subst}
 use mathlib.Core.Bool.{Bool, true, false}
 use mathlib.Core.List.{List, [], ◌∷◌, ◌++◌, map, flat_map}
@@ -29,10 +30,12 @@ use Rattle.laws.proofs.Demands.Demand1.{located}
 use Rattle.digits.specs.Writes.{Writes}
 use Rattle.pen.specs.Names.{packed_by, packed}
 use Rattle.digits.proofs.Writing.{nothing, both, same_bytes, one_outcome}
-use Rattle.lines.specs.Followed.{fresh, nowhere}
+use Rattle.lines.specs.Followed.{fresh}
+use Rattle.lines.specs.declared.Axis.TheVariants.{X, Y}
+use Rattle.lines.specs.declared.Span.{Span}
 use Rattle.warning.specs.Warned.{WarnedAny, WarnsAny}
 use Rattle.warning.proofs.Any.{one_any, accepted_any}
-use Rattle.listing.specs.Account.{printed, span_of, total_line, window_of, tabbed, refused_line, account, ending}
+use Rattle.listing.specs.Account.{printed, window_along, total_line, window_of, tabbed, refused_line, account, ending}
 use Rattle.listing.specs.Listed.{Walks, Along, Listed}
 use Rattle.listing.specs.declared.Walked.{Walked}
 use Rattle.listing.proofs.Lines.{lines-printed}
@@ -46,10 +49,10 @@ shapes-printed : (ds : List Drawn) → All Sound ds → printed (fresh 1 0) (fla
 unfolding flat packed packed_by
 shapes-printed ds h = lines-printed 1 [] ds h
 
-window_printed : (ds : List Drawn) → All Sound ds → window_of (span_of 1 (flat ds)) (span_of 2 (flat ds)) ≡ window_line (Window.window_of (map (λ (d : Drawn). d.itself) ds))
+window_printed : (ds : List Drawn) → All Sound ds → window_of (window_along (flat ds)) ≡ window_line (Window.window_of (map (λ (d : Drawn). d.itself) ds))
 unfolding flat packed packed_by
 window_printed ds h =
-    ap₂ window_of (lines-taken 1 across (λ p. p.x) along-x 1 [] ds nowhere h) (lines-taken 2 upward (λ p. p.y) along-y 1 [] ds nowhere h)
+    ap₂ (λ (v w : Option Span). window_of (record { xs = v; ys = w })) (lines-taken X across (λ p. p.x) along-x 1 [] ds None h) (lines-taken Y upward (λ p. p.y) along-y 1 [] ds None h)
     ∙ window_is (flat_map Window.windows (map (λ (d : Drawn). d.itself) ds))
 
 -- ---- outcomes
@@ -125,14 +128,14 @@ refusal-listed t words {a} {f} h n w s =
     listed (record { warnings = []; due = λ l e. absurd (n e); writes = rw (le-ltb 16777216 (length f) h, ne_eqb a.number 0 n) w }) (omega arith)
 
 pub shapes-listed : {t : List ℕ} {words : ℕ} {a : Answer} {f r₀ r₁ r₂ r₃ : List ℕ} {j k : ℕ} (v : Walked) → length f ≤ 16777216 → a.number ≡ 0 → Walks f r₀ r₁ v
-    → WarnsAny t words r₁ r₂ v.at j → Writes r₂ r₃ j k (ending a v.xs v.ys) × (k ≤ j + 160) → Listed t words a f r₀ r₃ k
+    → WarnsAny t words r₁ r₂ v.at j → Writes r₂ r₃ j k (ending a v.window) × (k ≤ j + 160) → Listed t words a f r₀ r₃ k
 unfolding account
 shapes-listed {a = a} {f} v h n g w (x, q) =
     let e = g.writes.ends in
     let p = w.near in
     let all = both g.writes (both w.writes x) in
     listed
-    (record { warnings = w.bytes; due = λ l i. w.warned; writes = rw (le-ltb 16777216 (length f) h, eq-eqb a.number 0 n) (rw (g.xs_are, g.ys_are) at all) })
+    (record { warnings = w.bytes; due = λ l i. w.warned; writes = rw (le-ltb 16777216 (length f) h, eq-eqb a.number 0 n) (rw g.window_is at all) })
     (omega (arith, e, p, q))
 
 -- ---- two outcomes that the contract allows are one, whatever the bytes

@@ -1,4 +1,3 @@
-pub mod Steps
 pub mod Walking
 pub mod Lines
 pub mod Numbers

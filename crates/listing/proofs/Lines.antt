@@ -1,6 +1,6 @@
 -- What is printed of a flat file's lines: nothing of an L line, which leaves its layer behind, and of a shape's line the definition's line for it.
 -- Assumes nothing.
-use Rattle.std.specs.Prelude.{if◌then◌else◌}
+use Rattle.std.specs.Prelude.{Option, Some, if◌then◌else◌}
 use mathlib.Core.Path.{◌≡◌, refl, sym, ap, ◌∙◌, subst}
 use mathlib.Core.Bool.{Bool, true, false}
 use mathlib.Core.List.{List, [], ◌∷◌, ◌++◌, append_assoc}
@@ -92,29 +92,29 @@ layer-read (a ∷ b ∷ c ∷ []) h = omega arith
 layer-read (a ∷ b ∷ c ∷ d ∷ []) h = omega arith
 layer-read (a ∷ b ∷ c ∷ d ∷ e ∷ l) h = absurd (omega (arith, h))
 
-pub named_by : (n y u b : ℕ) → Inner b → line_after (line n y u 76) b ≡ line n (y + b * u) (u / 256) 76
+pub named_by : (n y u b : ℕ) → Inner b → line_after (line n y u (Some 76)) b ≡ line n (y + b * u) (u / 256) (Some 76)
 unfolding line_after named
 named_by n y u b h = rw (h.no_feed, h.no_stop)
 
-pub opens-layer : (n y : ℕ) → line_after (fresh n y) 76 ≡ line n 0 16777216 76
+pub opens-layer : (n y : ℕ) → line_after (fresh n y) 76 ≡ line n 0 16777216 (Some 76)
 unfolding line_after opened
 opens-layer n y = refl
 
-pub opens-shape : (n y c : ℕ) → Drawing c → line_after (fresh n y) c ≡ line (n + 1) y 0 c
+pub opens-shape : (n y c : ℕ) → Drawing c → line_after (fresh n y) c ≡ line (n + 1) y 0 (Some c)
 unfolding line_after opened
-opens-shape n y c d = rw (d.no_feed, d.no_layer_lem, d.no_end)
+opens-shape n y c d = rw (d.no_feed, d.no_layer_lem, d.no_end, d.some)
 
-pub stays : (n y u c b : ℕ) → Drawing c → eqb b 10 ≡ false → line_after (line n y u c) b ≡ line n y u c
+pub stays : (n y u c b : ℕ) → Drawing c → eqb b 10 ≡ false → line_after (line n y u (Some c)) b ≡ line n y u (Some c)
 unfolding line_after
-stays n y u c b d h = rw (h, d.some, d.no_layer_lem)
+stays n y u c b d h = rw (h, d.no_layer_lem)
 
-pub line-ends : (n y u c : ℕ) → line_after (line n y u c) 10 ≡ fresh n y
+pub line-ends : (n y u : ℕ) (c : Option ℕ) → line_after (line n y u c) 10 ≡ fresh n y
 unfolding line_after
 line-ends n y u c = refl
 
 -- ---- what is written at a byte
 
-silent : (n y u b : ℕ) → Inner b → wrote (line n y u 76) b ≡ []
+silent : (n y u b : ℕ) → Inner b → wrote (line n y u (Some 76)) b ≡ []
 unfolding wrote
 silent n y u b h = rw h.no_feed
 
@@ -122,13 +122,13 @@ headed : (n y c : ℕ) → Drawing c → wrote (fresh n y) c ≡ heading n y c
 unfolding wrote
 headed n y c d = rw (d.no_feed, d.no_layer_lem, d.no_end)
 
-copied : (n y u c b : ℕ) → Drawing c → Inner b → wrote (line n y u c) b ≡ b ∷ []
+copied : (n y u c b : ℕ) → Drawing c → Inner b → wrote (line n y u (Some c)) b ≡ b ∷ []
 unfolding wrote
-copied n y u c b d h = rw (h.no_feed, d.some, d.no_layer_lem, d.no_end, h.no_stop)
+copied n y u c b d h = rw (h.no_feed, d.no_layer_lem, d.no_end, h.no_stop)
 
-stopped : (n y u c : ℕ) → Drawing c → wrote (line n y u c) 59 ≡ 10 ∷ []
+stopped : (n y u c : ℕ) → Drawing c → wrote (line n y u (Some c)) 59 ≡ 10 ∷ []
 unfolding wrote
-stopped n y u c d = rw (d.some, d.no_layer_lem, d.no_end)
+stopped n y u c d = rw (d.no_layer_lem, d.no_end)
 
 -- ---- what is printed of a line
 
@@ -136,22 +136,22 @@ step : (s : Line) (b : ℕ) (m : List ℕ) {w : List ℕ} {r : Line} → wrote s
 unfolding printed
 step s b m {w} {r} e f = ap (λ (x : List ℕ). x ++ printed (line_after s b) m) e ∙ ap (λ (x : Line). w ++ printed x m) f
 
-feed : (n y u c : ℕ) (m : List ℕ) → printed (line n y u c) (10 ∷ m) ≡ printed (fresh n y) m
+feed : (n y u : ℕ) (c : Option ℕ) (m : List ℕ) → printed (line n y u c) (10 ∷ m) ≡ printed (fresh n y) m
 unfolding printed wrote line_after
 feed n y u c m = refl
 
-name_end : (n y u : ℕ) (m : List ℕ) → printed (line n y u 76) (59 ∷ 10 ∷ m) ≡ printed (fresh n y) m
+name_end : (n y u : ℕ) (m : List ℕ) → printed (line n y u (Some 76)) (59 ∷ 10 ∷ m) ≡ printed (fresh n y) m
 unfolding printed wrote line_after named
 name_end n y u m = refl
 
 -- the rest of an L line
-name-line : (n y u : ℕ) (l m : List ℕ) → All Inner l → printed (line n y u 76) (l ++ (59 ∷ 10 ∷ m)) ≡ printed (fresh n (gathered y u l)) m
+name-line : (n y u : ℕ) (l m : List ℕ) → All Inner l → printed (line n y u (Some 76)) (l ++ (59 ∷ 10 ∷ m)) ≡ printed (fresh n (gathered y u l)) m
 unfolding gathered All
 name-line n y u [] m h = name_end n y u m
 name-line n y u (b ∷ l) m h =
-    step (line n y u 76) b (l ++ (59 ∷ 10 ∷ m)) (silent n y u b h.0) (named_by n y u b h.0) ∙ name-line n (y + b * u) (u / 256) l m h.1
+    step (line n y u (Some 76)) b (l ++ (59 ∷ 10 ∷ m)) (silent n y u b h.0) (named_by n y u b h.0) ∙ name-line n (y + b * u) (u / 256) l m h.1
 
-layer-opened : (n y : ℕ) (m : List ℕ) → printed (fresh n y) (76 ∷ m) ≡ printed (line n 0 16777216 76) m
+layer-opened : (n y : ℕ) (m : List ℕ) → printed (fresh n y) (76 ∷ m) ≡ printed (line n 0 16777216 (Some 76)) m
 unfolding printed wrote line_after opened
 layer-opened n y m = refl
 
@@ -160,12 +160,12 @@ layer-line n y l m h k =
     layer-opened n y (l ++ (59 ∷ 10 ∷ m)) ∙ (name-line n 0 16777216 l m h ∙ ap (λ (p : ℕ). printed (fresh n p) m) (layer-read l k))
 
 -- the numbers of a shape, and its line's end
-body-line : (n y c : ℕ) (b m : List ℕ) → Drawing c → All Inner b → printed (line n y 0 c) (b ++ (59 ∷ 10 ∷ m)) ≡ b ++ (10 ∷ printed (fresh n y) m)
+body-line : (n y c : ℕ) (b m : List ℕ) → Drawing c → All Inner b → printed (line n y 0 (Some c)) (b ++ (59 ∷ 10 ∷ m)) ≡ b ++ (10 ∷ printed (fresh n y) m)
 unfolding All
 body-line n y c [] m d h =
-    step (line n y 0 c) 59 (10 ∷ m) (stopped n y 0 c d) (stays n y 0 c 59 d refl) ∙ ap (λ (x : List ℕ). 10 ∷ x) (feed n y 0 c m)
+    step (line n y 0 (Some c)) 59 (10 ∷ m) (stopped n y 0 c d) (stays n y 0 c 59 d refl) ∙ ap (λ (x : List ℕ). 10 ∷ x) (feed n y 0 (Some c) m)
 body-line n y c (a ∷ b) m d h =
-    step (line n y 0 c) a (b ++ (59 ∷ 10 ∷ m)) (copied n y 0 c a d h.0) (stays n y 0 c a d h.0.no_feed) ∙ ap (λ (x : List ℕ). a ∷ x) (body-line n y c b m d h.1)
+    step (line n y 0 (Some c)) a (b ++ (59 ∷ 10 ∷ m)) (copied n y 0 c a d h.0) (stays n y 0 c a d h.0.no_feed) ∙ ap (λ (x : List ℕ). a ∷ x) (body-line n y c b m d h.1)
 
 shape-line : (n y c : ℕ) (b m : List ℕ) → Drawing c → All Inner b
     → printed (fresh n y) (c ∷ (b ++ (59 ∷ 10 ∷ m))) ≡ heading n y c ++ (b ++ (10 ∷ printed (fresh (n + 1) y) m))

@@ -8,7 +8,7 @@ use Rattle.definition.specs.Listing.{listing}
 use Rattle.digits.specs.Writes.{Writes}
 use Rattle.lines.specs.Followed.{fresh}
 use Rattle.warning.specs.Warned.{WarnedAny}
-use Rattle.listing.specs.Account.{printed, span_of, account}
+use Rattle.listing.specs.Account.{printed, window_along, account}
 use Rattle.listing.specs.declared.Walked.{Walked}
 
 -- ---- within the code
@@ -16,8 +16,7 @@ use Rattle.listing.specs.declared.Walked.{Walked}
 -- the lines of all shapes are printed, and their points are in the window
 pub record Walks (f old new : List ℕ) (r : Walked) : Type 0 where
   pub writes : Writes old new 0 r.at (printed (fresh 1 0) f)
-  pub xs_are : r.xs ≡ span_of 1 f
-  pub ys_are : r.ys ≡ span_of 2 f
+  pub window_is : r.window ≡ window_along f
   pub near : r.at ≤ 64 * length f
 
 -- ---- the contracts

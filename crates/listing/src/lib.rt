@@ -17,10 +17,10 @@ const LINE_FEED: u8 = 10;
 #[derive(Clone, Copy)]
 struct Walked {
     at: usize,
-    xs: lines::Span,
-    ys: lines::Span,
+    window: lines::Window,
 }
 
+#[tactic(auto, unfolding(definition::specs::Flat::decimal))]
 fn put_field(out: &mut [u8], at: usize, n: u64) -> usize
     requires { at ≤ 2 ^ 59 }
     ensures writes { Writes out.old out.new at result (9 ∷ decimal (pos n)) }
@@ -53,8 +53,8 @@ fn put_kind_field(out: &mut [u8], at: usize, letter: u8) -> usize
     ensures { Writes out.old out.new at result (9 ∷ letter ∷ 9 ∷ []) }
 {
     let next = digits::put(out, at, TAB);
-    let behind = digits::put(out, next, letter);
-    digits::put(out, behind, TAB)
+    let after = digits::put(out, next, letter);
+    digits::put(out, after, TAB)
 }
 
 // What stands before a shape's numbers.
@@ -73,13 +73,11 @@ fn put_heading(out: &mut [u8], at: usize, count: u64, layer: u32, letter: u8) ->
 fn is_quiet(letter: u8) -> bool
     ensures { result ≡ quiet letter }
 {
-    if letter == b'L' {
-        return true;
-    }
-    letter == b'E'
+    letter == b'L' || letter == b'E'
 }
 
 // What is written at a byte of the flat file: a shape's letter gives the heading of its line, and its numbers are copied.
+#[tactic(auto, using(digits::proofs::Writing::nothing), unfolding(crate::specs::Account::wrote))]
 fn put_byte(out: &mut [u8], at: usize, line: lines::Line, b: u8) -> usize
     requires { at ≤ 2 ^ 58 }
     ensures writes { Writes out.old out.new at result (wrote line b) }
@@ -88,20 +86,13 @@ fn put_byte(out: &mut [u8], at: usize, line: lines::Line, b: u8) -> usize
     if b == LINE_FEED {
         return at;
     }
-    let letter = line.letter;
-    if letter == 0 {
-        if is_quiet(b) {
-            return at;
-        }
-        return put_heading(out, at, line.count, line.layer, b);
+    match line.letter {
+        None if is_quiet(b) => at,
+        None => put_heading(out, at, line.count, line.layer, b),
+        Some(letter) if is_quiet(letter) => at,
+        Some(_) if b == b';' => digits::put(out, at, LINE_FEED),
+        Some(_) => digits::put(out, at, b),
     }
-    if is_quiet(letter) {
-        return at;
-    }
-    if b == b';' {
-        return digits::put(out, at, LINE_FEED);
-    }
-    digits::put(out, at, b)
 }
 
 // The lines of all shapes, from one pass over the flat file.
@@ -111,45 +102,47 @@ fn put_shapes(flat: &[u8], out: &mut [u8]) -> Walked
 {
     let mut at = 0;
     let mut seen = lines::start();
-    let mut i = 0;
-    while i < flat.len() {
-        let b = flat[i];
+    for &b in flat {
         at = put_byte(out, at, seen.line, b);
         seen = lines::after(seen, b);
-        i += 1;
     }
-    let xs = seen.xs;
-    let ys = seen.ys;
-    Walked { at, xs, ys }
+    Walked {
+        at,
+        window: seen.window,
+    }
 }
 
-fn put_total(out: &mut [u8], at: usize, shapes: u64, calls: u64, redefinitions: u64) -> usize
+fn put_total(out: &mut [u8], at: usize, answer: definition::Answer) -> usize
     requires { at ≤ 2 ^ 57 }
-    ensures writes { Writes out.old out.new at result (total_line shapes calls redefinitions) }
+    ensures writes { Writes out.old out.new at result (total_line answer.shapes answer.calls answer.redefinitions) }
     ensures upper_bound { result ≤ at + 69 }
 {
     let first = digits::put_word(out, at, b"total");
-    let second = put_field(out, first, shapes);
-    let third = put_field(out, second, calls);
-    let last = put_field(out, third, redefinitions);
+    let second = put_field(out, first, answer.shapes as u64);
+    let third = put_field(out, second, answer.calls as u64);
+    let last = put_field(out, third, answer.redefinitions as u64);
     digits::put(out, last, LINE_FEED)
 }
 
-fn put_window(out: &mut [u8], at: usize, xs: lines::Span, ys: lines::Span) -> usize
+// The window of all points, or `none`. In bytes that are no flat file's there can be an x without a y: what is printed of these may not change, so its y
+// is 0.
+fn put_window(out: &mut [u8], at: usize, window: lines::Window) -> usize
     requires { at ≤ 2 ^ 58 }
-    ensures writes { Writes out.old out.new at result (window_of xs ys) }
+    ensures writes { Writes out.old out.new at result (window_of window) }
     ensures upper_bound { result ≤ at + 91 }
 {
     let first = digits::put_word(out, at, b"window");
-    let some = xs.some;
-    if some {
-        let second = put_signed_field(out, first, xs.low);
-        let third = put_signed_field(out, second, ys.low);
-        let fourth = put_signed_field(out, third, xs.high);
-        let last = put_signed_field(out, fourth, ys.high);
-        return digits::put(out, last, LINE_FEED);
+    match window.xs {
+        None => digits::put_word(out, first, b"\tnone\n"),
+        Some(xs) => {
+            let ys = window.ys.unwrap_or(lines::Span { low: 0, high: 0 });
+            let second = put_signed_field(out, first, xs.low);
+            let third = put_signed_field(out, second, ys.low);
+            let fourth = put_signed_field(out, third, xs.high);
+            let last = put_signed_field(out, fourth, ys.high);
+            digits::put(out, last, LINE_FEED)
+        }
     }
-    digits::put_word(out, first, b"\tnone\n")
 }
 
 // The places of the open calls, each after a tab: as many as are told, and of more than the chain has, all.
@@ -159,13 +152,9 @@ fn put_places(out: &mut [u8], start: usize, chain: &[usize], opened: usize) -> u
     ensures upper_bound { result ≤ start + 672 }
 {
     let mut at = start;
-    let mut i = 0;
-    while i < chain.len() {
-        if i == opened {
-            return at;
-        }
-        at = put_field(out, at, chain[i] as u64);
-        i += 1;
+    let told = &chain[..opened.min(chain.len())];
+    for &place in told {
+        at = put_field(out, at, place as u64);
     }
     at
 }
@@ -175,36 +164,22 @@ fn put_refusal(out: &mut [u8], answer: definition::Answer) -> usize
     ensures writes { Writes out.old out.new 0 result (refused_line answer) }
     ensures upper_bound { result ≤ 764 }
 {
-    let chain = answer.chain;
-    let opened = answer.opened;
     let first = digits::put_word(out, 0, b"refused");
     let second = put_field(out, first, answer.number as u64);
     let third = put_field(out, second, answer.place as u64);
     let fourth = put_field(out, third, answer.line as u64);
     let fifth = put_field(out, fourth, answer.column as u64);
-    let last = put_places(out, fifth, &chain, opened);
+    let last = put_places(out, fifth, &answer.chain, answer.opened);
     digits::put(out, last, LINE_FEED)
 }
 
 // The total and the window.
-fn put_ending(
-    out: &mut [u8],
-    at: usize,
-    answer: definition::Answer,
-    xs: lines::Span,
-    ys: lines::Span,
-) -> usize
+fn put_ending(out: &mut [u8], at: usize, answer: definition::Answer, window: lines::Window) -> usize
     requires { at ≤ 2 ^ 57 }
-    ensures { Writes out.old out.new at result (ending answer xs ys) × (result ≤ at + 160) }
+    ensures { Writes out.old out.new at result (ending answer window) × (result ≤ at + 160) }
 {
-    let next = put_total(
-        out,
-        at,
-        answer.shapes as u64,
-        answer.calls as u64,
-        answer.redefinitions as u64,
-    );
-    put_window(out, next, xs, ys)
+    let next = put_total(out, at, answer);
+    put_window(out, next, window)
 }
 
 // Prints into `out` what the list program prints of a text, its answer and its flat file, as far as the room reaches, and gives back how many bytes that are
@@ -223,13 +198,11 @@ pub fn list(
     if flat.len() > definition::MOST_BYTES {
         return 0;
     }
-    let number = answer.number;
-    if number == 0 {
-        let w = put_shapes(flat, out);
-        let xs = w.xs;
-        let ys = w.ys;
-        let next = warning::warn_any(text, words, out, w.at);
-        return put_ending(out, next, answer, xs, ys);
+    // An answer's number is 0 where the text is accepted: that is the C interface.
+    if answer.number != 0 {
+        return put_refusal(out, answer);
     }
-    put_refusal(out, answer)
+    let Walked { at, window } = put_shapes(flat, out);
+    let next = warning::warn_any(text, words, out, at);
+    put_ending(out, next, answer, window)
 }

@@ -1,10 +1,10 @@
 -- The pass of `gather`: what each command brings, told from what is written of it, whatever else is wrong with it; so 19 is found in text order.
 -- Assumes nothing.
-use Rattle.std.specs.Prelude.{if◌then◌else◌}
+use Rattle.std.specs.Prelude.{Option, Some, None, Result, Ok, Err, if◌then◌else◌}
 use mathlib.Core.Path.{◌≡◌, refl, sym, ap, ap₂, ◌∙◌, subst}
 use mathlib.Core.Bool.{Bool, true, false}
 use mathlib.Core.List.{List, [], ◌∷◌, ◌++◌, map}
-use mathlib.Core.Option.{Option, none, some}
+use mathlib.Core.Option.{none, some}
 use Prim.Native.Nat.{ℕ, ◌+◌, ◌*◌, ◌≤◌, ◌<◌}
 use native.Mathlib.Omega.{arith}
 use borrow.Author.Tests.{lt-ltb, le-ltb, eqb-false}
@@ -32,14 +32,13 @@ use Rattle.pieces.specs.declared.Piece.TheVariants.{Word}
 use Rattle.pieces.proofs.Spots.{start-pieces}
 use Rattle.rules.specs.Letters.{letter_d, letter_l, first_unit}
 use Rattle.rules.specs.Written.{Written, written, letters, last_of, last_letter, packed_by}
+use Rattle.commands.specs.declared.Decoded.{Decoded}
 use Rattle.commands.specs.Words.{widest, held, word, letter_words, body_of, closing, words_of, kind_by, DecodedOne, ReadsCommand}
 use Rattle.reading.proofs.Says.{tells, Says, a_polygon, a_box, a_turned_box, a_flash, a_wire, a_layer, a_call, a_start, a_scaled-start, a_finish, a_deletion, a_nothing, AllSay, none_said, one_said}
 use Rattle.reading.proofs.AllSay.{all_say}
 use Rattle.reading.proofs.Packed.{packed-most}
 use Rattle.marks.specs.Noted.{Known, Noted, Notes, Gathers}
 use Rattle.marks.proofs.Marking.{noted-after, names_many}
-use Rattle.std.specs.Prelude.{Err, None, Ok, Option, Result, Some}
-use Rattle.commands.specs.declared.Decoded.{Decoded}
 
 -- ---- one command
 
@@ -116,8 +115,8 @@ not_named (a_deletion x) e ns = refl
 not_named (a_nothing i) e ns = refl
 
 -- what `read_command` answers
-pub read_as : {t : List ℕ} {spot : Spot} {a b : ℕ} {ws ws' : List ℤ} {r : Option Decoded} → ReadsCommand t spot a b ws r ws' → {k p n : ℕ} {to : Spot} → r ≡ Some (record { kind = k; place = p; end = n; to = to })
-    → (c : Written) × DecodedOne t spot a b c ws k p n to ws'
+pub read_as : {t : List ℕ} {spot : Spot} {a b : ℕ} {ws ws' : List ℤ} {r : Option Decoded} → ReadsCommand t spot a b ws r ws' → {d : Decoded} → r ≡ Some d
+    → (c : Written) × DecodedOne t spot a b c ws d.kind d.place d.end d.to ws'
 read_as {t} {spot} {a} {b} {ws} {ws'} x e = subst (λ (r : Option Decoded). ReadsCommand t spot a b ws r ws') e x
 
 -- ---- between two commands

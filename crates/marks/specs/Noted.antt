@@ -1,7 +1,7 @@
 -- What a run of names means: each is one number, and its place is its mark. A running account, not to be believed: the sets that marks make are those of
 -- crates/definition (specs/Marks.antt), and refusal 19 is the definition's.
 -- Assumes nothing.
-use Rattle.std.specs.Prelude.{◌≡◌, List, [], ℕ, ◌+◌, ◌^◌, ◌≤◌, ◌<◌, ltb, length, get_or, set, if◌then◌else◌}
+use Rattle.std.specs.Prelude.{◌≡◌, List, [], ℕ, Result, Ok, Err, ◌+◌, ◌^◌, ◌≤◌, ◌<◌, ltb, length, get_or, set, if◌then◌else◌}
 use Rattle.std.proofs.Math.Option.{none, some}
 use Rattle.definition.specs.Limits.{most_layers}
 use Rattle.definition.specs.Words.{Placed}
@@ -10,7 +10,6 @@ use Rattle.definition.specs.Rules.{refuse}
 use Rattle.definition.specs.Commands.{Command}
 use Rattle.definition.specs.Summary.{Names, layer_names, too_many_from}
 use Rattle.names.specs.Names.{name_of, packed}
-use Rattle.std.specs.Prelude.{Err, Ok, Result}
 
 pub record Known (l : List ℕ) : Type 0 where  -- a name that comes back from its number
   pub some_letter : 0 < length l

@@ -17,14 +17,12 @@ pub fn mark_of(names: &[usize; definition::MOST_LAYERS], count: usize, name: usi
     requires { count ≤ most_layers }
     ensures { MarkOf names.now count name result }
 {
-    let mut i: usize = 0;
-    while i < count {
+    for i in 0..count {
         if names[i] == name {
             return i;
         }
-        i += 1;
     }
-    i
+    count
 }
 
 // The set of this one layer; of a name that has no mark, none.
@@ -62,7 +60,7 @@ fn gather_by(
     recogniser: &grammar::Recogniser,
     names: &mut [usize; definition::MOST_LAYERS],
 ) -> Result<usize, usize>
-    requires names_len { ((m : List Letter) × Marked text.now m) × (length names.old ≡ most_layers) }
+    requires { ((m : List Letter) × Marked text.now m) × (length names.old ≡ most_layers) }
     ensures { (m : List Letter) → Marked text.now m → Gathers (commands 0 m) result names.new }
 {
     let mut words = [0i32; LAYER_WORDS];

@@ -1,7 +1,7 @@
 -- One call: the refusals 11 to 15 in their order, as the definition has them, or the way into its symbol's row. `open_call` answers by them, a test after
 -- another, and whoever draws a call goes on from `Opens` alone.
 -- Assumes nothing.
-use Rattle.std.specs.Prelude.{if◌then◌else◌}
+use Rattle.std.specs.Prelude.{if◌then◌else◌, Option, Some, None, Result, Ok, Err}
 use mathlib.Core.Path.{◌≡◌, refl, sym, ap, ◌∙◌, subst}
 use mathlib.Core.Bool.{Bool, true, false}
 use mathlib.Core.List.{List, [], ◌∷◌}
@@ -21,6 +21,7 @@ use Rattle.definition.specs.Counts.{counts as tallied, Counts as Tally}
 use Rattle.definition.specs.Limits.{most_calls}
 use Rattle.definition.specs.declared.Rule.TheVariants.{OffTheAxes, UndefinedSymbol, BeingDrawn, TooDeep, TooManyCalls}
 use Rattle.definition.specs.Rules.{refuse}
+use Rattle.definition.specs.declared.Rule.{Rule}
 use Rattle.counts.specs.declared.Counts.{Counts}
 use Rattle.counts.specs.Counting.{tally, CountsCall}
 use Rattle.counts.proofs.ByValue.{call-goes, call-stops}
@@ -29,8 +30,6 @@ use Rattle.library.specs.Rows.{Finds}
 use Rattle.library.proofs.Looking.{not_found, found}
 use Rattle.opening.specs.declared.Call.{Call}
 use Rattle.opening.specs.Opening.{Stops, Opens}
-use Rattle.std.specs.Prelude.{Err, None, Ok, Option, Result, Some}
-use Rattle.definition.specs.declared.Rule.{Rule}
 
 -- ---- the definition's events of a call
 
@@ -78,15 +77,15 @@ module _ (rows : List ℕ) (live : ℕ) (chain : Chain) (call : Call) (left : �
           faultless b ts h = unfold passage_of passage_to in rw (sym h ∙ straight, is_known b, sym is_open ∙ idle, ne_eqb left 0 some_left)
 
           module _ {c : Counts} {a : Result Counts Rule} (count : CountsCall c a) where
-            pub many-calls : {number : ℕ} → a ≡ Err number → Opens rows live chain left call c (Err (record { number = number; place = call.place }))
+            pub many-calls : {rule : Rule} → a ≡ Err rule → Opens rows live chain left call c (Err (refuse rule call.place))
             unfolding Opens
-            many-calls {number} full b ts h go =
+            many-calls {rule} full b ts h go =
                 let d = definition_at rows b row in
                 record {
                   event = called call.place chain d;
                   rest = go d;
                   are = called-first call.place chain (passage_of left (table_of rows b live) chain call.symbol ts) go d (faultless b ts h);
-                  stops = call-stops c count number full call.place chain d;
+                  stops = call-stops c count rule full call.place chain d;
                 }
 
             pub goes_down : {more : Counts} → a ≡ Ok more → Opens rows live chain left call c (Ok (record { row = row; counts = more }))

@@ -1,5 +1,6 @@
 -- Two outcomes that the contracts of this crate allow are one: of `open_call` the refusal, or the row and the counts; of `read_call` the whole record.
 -- Assumes nothing.
+use Rattle.std.specs.Prelude.{Some, Result, Ok, Err}
 use mathlib.Core.Path.{◌≡◌, sym, ap, ◌∙◌}
 use mathlib.Core.List.{List, [], ◌++◌, head-eq_of_cons-eq}
 use Prim.Native.Nat.{ℕ, ◌<◌}
@@ -10,9 +11,9 @@ use Rattle.definition.specs.Drawing.{Chain, Event, called, passage_of}
 use Rattle.definition.specs.Counts.{stopped, counted}
 use Rattle.definition.specs.declared.Refusal.{Refusal}
 use Rattle.turns.specs.declared.Net.{Net}
+use Rattle.turns.proofs.Sole.{carries_sole}
 use Rattle.counts.specs.declared.Counts.{Counts}
 use Rattle.counts.specs.Counting.{tally}
-use Rattle.turns.proofs.Sole.{carries_sole}
 use Rattle.shapes.proofs.Painting.{never}
 use Rattle.shapes.proofs.Sole.{counts-told}
 use Rattle.library.specs.Memory.{definition_at, table_of}
@@ -22,7 +23,6 @@ use Rattle.opening.specs.Calls.{ReadsCall}
 use Rattle.opening.specs.Opening.{Stops, Descent, Opens}
 use Rattle.opening.proofs.Opening.{called-first}
 use Rattle.opening.proofs.Witnesses.{some_list, turned_by, turned_so}
-use Rattle.std.specs.Prelude.{Err, Ok, Result, Some}
 use Rattle.opening.specs.declared.Entered.{Entered}
 
 -- ---- the first row of a number is one

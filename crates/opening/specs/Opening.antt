@@ -2,7 +2,7 @@
 -- over the definition's `passage_of` and `counted` in the table that the rows hold, whatever the bodies are, for any list that is askew or not as the call
 -- is. Where the open calls are kept is not said: an engine may keep them otherwise. A running account, not to be believed.
 -- Assumes nothing.
-use Rattle.std.specs.Prelude.{◌≡◌, List, ◌∷◌, ℕ, ℤ}
+use Rattle.std.specs.Prelude.{◌≡◌, List, ◌∷◌, ℕ, ℤ, Some, Result, Ok, Err}
 use Rattle.definition.specs.Commands.{Turn}
 use Rattle.definition.specs.Turns.{off_axes}
 use Rattle.definition.specs.Table.{Definition}
@@ -14,7 +14,6 @@ use Rattle.counts.specs.Counting.{tally}
 use Rattle.library.specs.Memory.{definition_at, table_of}
 use Rattle.library.specs.Rows.{Finds}
 use Rattle.opening.specs.declared.Call.{Call}
-use Rattle.std.specs.Prelude.{Err, Ok, Result, Some}
 use Rattle.opening.specs.declared.Entered.{Entered}
 
 -- the first of these events is refused

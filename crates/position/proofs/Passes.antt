@@ -1,15 +1,16 @@
--- The pass of `position_of` over a text: after each byte line and column are those of the next place. A line end begins a line, and every other byte is a
--- column.
+-- The pass of `position_of` over what comes before the place: after each byte line and column are those of the next. A line end begins a line, and every other byte
+-- is a column.
 -- Assumes nothing.
 use Rattle.std.specs.Prelude.{if◌then◌else◌}
 use mathlib.Core.Path.{◌≡◌, refl, ap, sym, ◌∙◌}
 use mathlib.Core.Bool.{Bool, true, false, ◌||◌}
 use mathlib.Core.List.{List, [], ◌∷◌, ◌++◌}
-use Prim.Native.Nat.{ℕ, suc, ◌+◌, ◌≤◌, ◌<◌}
+use Prim.Native.Nat.{ℕ, suc, ◌+◌, ◌≤◌, min}
 use native.Mathlib.Omega.{arith}
+use Rattle.std.proofs.Math.Bool.{or_assoc, or-false, or-true}
 use borrow.Author.Tests.{eq-eqb, ne_eqb}
-use lib.ListN.{length, length-append, get_or, take}
-use lib.Seq.{take-suc, take_all}
+use lib.ListN.{length, length-append, take}
+use Rattle.std.proofs.lemmas.List.{take_all, take_min}
 use Rattle.definition.specs.Words.{any, those}
 use Rattle.definition.specs.Position.{line_end?, line_of, since_line_end, column_of}
 use Rattle.position.specs.Found.{Found}
@@ -18,16 +19,8 @@ use Rattle.position.specs.Found.{Found}
 
 any_more : (l : List ℕ) (b : ℕ) → any line_end? (l ++ (b ∷ [])) ≡ (any line_end? l || line_end? b)
 unfolding any
-any_more [] b = go (line_end? b)
-  where
-    go : (y : Bool) → (y || false) ≡ y
-    go true = refl
-    go false = refl
-any_more (a ∷ l) b = ap (λ (y : Bool). line_end? a || y) (any_more l b) ∙ go (line_end? a) (any line_end? l) (line_end? b)
-  where
-    go : (x y z : Bool) → (x || (y || z)) ≡ ((x || y) || z)
-    go true y z = refl
-    go false y z = refl
+any_more [] b = or-false (line_end? b)
+any_more (a ∷ l) b = ap (λ (y : Bool). line_end? a || y) (any_more l b) ∙ sym (or_assoc (line_end? a) (any line_end? l) (line_end? b))
 
 those-more : (l : List ℕ) (b : ℕ) (y : Bool) → line_end? b ≡ y → length (those line_end? (l ++ (b ∷ []))) ≡ length (those line_end? l) + (if y then 1 else 0)
 unfolding those
@@ -42,13 +35,7 @@ those-more (a ∷ l) b y e = go (line_end? a) (those line_end? (l ++ (b ∷ []))
 after-line_end : (l : List ℕ) (b : ℕ) → line_end? b ≡ true → since_line_end (l ++ (b ∷ [])) ≡ []
 unfolding since_line_end any
 after-line_end [] b e = simp e
-after-line_end (a ∷ l) b e =
-    simp (any_more l b, e, after-line_end l b e, go (line_end? a) (any line_end? l))
-  where
-    go : (x y : Bool) → (x || (y || true)) ≡ true
-    go true y = refl
-    go false true = refl
-    go false false = refl
+after-line_end (a ∷ l) b e = simp (any_more l b, e, after-line_end l b e, or-true)
 
 after_other : (l : List ℕ) (b : ℕ) → line_end? b ≡ false → since_line_end (l ++ (b ∷ [])) ≡ since_line_end l ++ (b ∷ [])
 unfolding since_line_end any
@@ -62,67 +49,45 @@ after_other (a ∷ l) b e =
     go false true u v q = q
     go false false u v q = refl
 
-one_more : (t : List ℕ) (i : ℕ) → i < length t → take (i + 1) t ≡ take i t ++ (get_or t i 0 ∷ [])
-one_more t i below =
-    let one : i + 1 ≡ suc i = omega arith in
-    ap (λ (n : ℕ). take n t) one ∙ take-suc t i 0 below
-
 -- ---- the pass
 
-pub record CountedSoFar (t : List ℕ) (place i line column : ℕ) : Type 0 where
-  pub lines : line ≡ line_of t i
-  pub columns : column ≡ column_of t i
-  pub short-line : line ≤ i + 1
-  pub short_column : column ≤ i + 1
-  pub within : i ≤ length t
-  pub before : i ≤ place
+-- after these bytes
+pub record Counted (t : List ℕ) (line column : ℕ) : Type 0 where
+  pub lines : line ≡ length (those line_end? t) + 1
+  pub columns : column ≡ length (since_line_end t) + 1
+  pub short-line : line ≤ length t + 1
+  pub short_column : column ≤ length t + 1
 
-pub begin : (t : List ℕ) (place : ℕ) → CountedSoFar t place 0 1 1
-unfolding line_of column_of those since_line_end
-begin t place = record { lines = refl; columns = refl; short-line = omega arith; short_column = omega arith; within = omega arith; before = omega arith }
+pub begin : Counted [] 1 1
+unfolding those since_line_end
+begin = record { lines = refl; columns = refl; short-line = omega arith; short_column = omega arith }
 
-pub at_line_end : {t : List ℕ} {place i line column : ℕ} → CountedSoFar t place i line column → i < length t → i < place → get_or t i 0 ≡ 10 → CountedSoFar t place (i + 1) (line + 1) 1
-unfolding line_of column_of
-at_line_end {t} {place} {i} {line} {column} g below short e =
-    let b = get_or t i 0 in
+pub at_line_end : {t : List ℕ} {b line column : ℕ} → Counted t line column → b ≡ 10 → Counted (t ++ (b ∷ [])) (line + 1) 1
+at_line_end {t} {b} g e =
     let ends : line_end? b ≡ true = eq-eqb b 10 e in
-    let passed : take (i + 1) t ≡ take i t ++ (b ∷ []) = one_more t i below in
     record {
-      lines = ap (λ (n : ℕ). n + 1) g.lines ∙ sym (ap (λ (n : ℕ). n + 1) (ap (λ (l : List ℕ). length (those line_end? l)) passed ∙ those-more (take i t) b true ends));
-      columns = sym (ap (λ (l : List ℕ). length l + 1) (ap since_line_end passed ∙ after-line_end (take i t) b ends));
-      short-line = omega (arith, g.short-line);
+      lines = omega (arith, g.lines, those-more t b true ends);
+      columns = omega (arith, ap length (after-line_end t b ends));
+      short-line = simp length-append (omega (arith, g.short-line));
       short_column = omega arith;
-      within = omega (arith, below);
-      before = omega (arith, short);
     }
 
-pub at_other : {t : List ℕ} {place i line column : ℕ} → CountedSoFar t place i line column → i < length t → i < place → (get_or t i 0 ≡ 10 → ⊥) → CountedSoFar t place (i + 1) line (column + 1)
-unfolding line_of column_of
-at_other {t} {place} {i} {line} {column} g below short e =
-    let b = get_or t i 0 in
+pub at_other : {t : List ℕ} {b line column : ℕ} → Counted t line column → (b ≡ 10 → ⊥) → Counted (t ++ (b ∷ [])) line (column + 1)
+at_other {t} {b} g e =
     let other : line_end? b ≡ false = ne_eqb b 10 e in
-    let passed : take (i + 1) t ≡ take i t ++ (b ∷ []) = one_more t i below in
     record {
-      lines = g.lines ∙ sym (ap (λ (n : ℕ). n + 1) (ap (λ (l : List ℕ). length (those line_end? l)) passed ∙ (those-more (take i t) b false other ∙ omega arith)));
-      columns =
-          ap (λ (n : ℕ). n + 1) g.columns
-          ∙ sym (ap (λ (l : List ℕ). length l + 1) (ap since_line_end passed ∙ after_other (take i t) b other) ∙ ap (λ (n : ℕ). n + 1) (length-append (since_line_end (take i t)) (b ∷ [])));
-      short-line = omega (arith, g.short-line);
-      short_column = omega (arith, g.short_column);
-      within = omega (arith, below);
-      before = omega (arith, short);
+      lines = omega (arith, g.lines, those-more t b false other);
+      columns = omega (arith, g.columns, simp length-append at (ap length (after_other t b other)));
+      short-line = simp length-append (omega (arith, g.short-line));
+      short_column = simp length-append (omega (arith, g.short_column));
     }
 
-pub found : {t : List ℕ} {place i line column : ℕ} → CountedSoFar t place i line column → i ≡ place → Found t place (record { line = line; column = column })
-found {t} {place} {i} {line} {column} g e =
-    record { line_is = g.lines ∙ ap (line_of t) e; column_is = g.columns ∙ ap (column_of t) e }
-
-pub at_the_end : {t : List ℕ} {place i line column : ℕ} → CountedSoFar t place i line column → length t ≤ i → Found t place (record { line = line; column = column })
+pub found : {t : List ℕ} {place n i line column : ℕ} → Counted (take i (take n t)) line column → length (take n t) ≤ i → n ≡ min place (length t)
+    → Found t place (record { line = line; column = column })
 unfolding line_of column_of
-at_the_end {t} {place} {i} {line} {column} g over =
-    let same : take i t ≡ take place t =
-    take_all i t (omega (arith, over)) ∙ sym (take_all place t (omega (arith, over, g.before))) in
+found {t} {place} {n} {i} g all e =
+    let read : take i (take n t) ≡ take place t = take_all i (take n t) all ∙ (ap (λ (m : ℕ). take m t) e ∙ take_min place t) in
     record {
-      line_is = g.lines ∙ ap (λ (l : List ℕ). length (those line_end? l) + 1) same;
-      column_is = g.columns ∙ ap (λ (l : List ℕ). length (since_line_end l) + 1) same;
+      line_is = g.lines ∙ ap (λ (l : List ℕ). length (those line_end? l) + 1) read;
+      column_is = g.columns ∙ ap (λ (l : List ℕ). length (since_line_end l) + 1) read;
     }

@@ -18,14 +18,9 @@ pub fn position_of(text: &[u8], place: usize) -> Position
 {
     let mut line = 1;
     let mut column = 1;
-    let mut i = 0;
-    while i < text.len() {
-        if i == place {
-            return Position { line, column };
-        }
-        let b = text[i];
-        i += 1;
-        if b == LINE_END {
+    let before = &text[..place.min(text.len())];
+    for b in before {
+        if *b == LINE_END {
             line += 1;
             column = 1;
         } else {

@@ -16,6 +16,7 @@ const LEAST_POINTS: usize = 3;
 pub const NO_REFUSAL: usize = 10;
 
 // The rule of the lowest refusal that a command meets.
+#[tactic(auto, unfolding(crate::specs::Rules::rule_of))]
 pub fn rule_of(no: usize) -> Rule
     ensures { result ≡ rule_of no }
 {

@@ -1,6 +1,7 @@
 -- Events that are alike but for the definitions that calls name are painted alike: what is drawn over the lean table that memory holds is drawn over the
 -- text's own table.
 -- Assumes nothing.
+use Rattle.std.specs.Prelude.{Result, Ok, Err}
 use mathlib.Core.Path.{◌≡◌, sym, ap, ◌∙◌, subst}
 use mathlib.Core.List.{List, ◌++◌}
 use Prim.Native.Nat.{ℕ, ◌+◌}
@@ -10,13 +11,12 @@ use Rattle.definition.specs.Drawing.{Chain, Event, called, Drawn as Shown}
 use Rattle.definition.specs.Counts.{End, finished, stopped, counted}
 use Rattle.definition.specs.Counts.{Counts as Tally}
 use Rattle.definition.specs.Flat.{lines}
+use Rattle.definition.specs.declared.Refusal.{Refusal}
 use Rattle.laws.proofs.Story.Lean.{Alike, no_more, same, same-call, alike_ending, alike_shapes}
 use Rattle.pen.specs.Names.{name_of}
 use Rattle.counts.specs.Counting.{tally}
 use Rattle.shapes.specs.declared.Ink.{Ink}
 use Rattle.shapes.specs.Painting.{going_by, until, Goes, Answered, Painted}
-use Rattle.std.specs.Prelude.{Err, Ok, Result}
-use Rattle.definition.specs.declared.Refusal.{Refusal}
 
 -- the events before the first refusal are alike
 alike_until : {a b : List Event} → Alike a b → (c : Tally) → Alike (until c a) (until c b)

@@ -1,5 +1,6 @@
 -- What is drawn one after another is drawn as one: the laws by which every function that draws composes its callees, and a loop keeps what is left.
 -- Assumes nothing.
+use Rattle.std.specs.Prelude.{Result, Ok, Err}
 use mathlib.Core.Path.{◌≡◌, refl, sym, ap, ◌∙◌, subst}
 use mathlib.Core.List.{List, [], ◌∷◌, ◌++◌, append_assoc, append-nil}
 use Prim.Native.Nat.{ℕ}
@@ -17,10 +18,9 @@ use Rattle.pen.specs.Names.{name_of}
 use Rattle.digits.specs.Writes.{Writes}
 use Rattle.digits.proofs.Writing.{both, written}
 use Rattle.counts.specs.declared.Counts.{Counts}
-use Rattle.shapes.specs.declared.Ink.{Ink}
 use Rattle.counts.specs.Counting.{tally}
+use Rattle.shapes.specs.declared.Ink.{Ink}
 use Rattle.shapes.specs.Painting.{going_by, until, inked, bytes_of, Reached, Goes, Answered, Painted}
-use Rattle.std.specs.Prelude.{Err, Ok, Result}
 
 pub never : (why : Refusal) (chain : Chain) (c : Tally) → stopped why chain ≡ finished c → ⊥
 never why chain c e = let z : ◌≡◌ {A = ℕ} 0 1 = cc in omega arith

@@ -1,5 +1,6 @@
 -- One shape drawn: the refusals 16, 20 and 17, or its lines.
 -- Assumes nothing.
+use Rattle.std.specs.Prelude.{Result, Ok, Err}
 use mathlib.Core.Path.{◌≡◌, refl, sym, ap, ◌∙◌, subst}
 use mathlib.Core.Bool.{true, false}
 use mathlib.Core.List.{List, [], ◌∷◌, ◌++◌, append-nil}
@@ -13,32 +14,33 @@ use Rattle.definition.specs.Turns.{moved}
 use Rattle.definition.specs.Drawing.{Chain, Event, drew, refused, drawn_shape, Drawn}
 use Rattle.definition.specs.Counts.{stopped, counted, go_on, ending, shapes_of}
 use Rattle.definition.specs.Flat.{numbers_of_shape, line, spaced, said, lines}
+use Rattle.definition.specs.Rules.{refuse}
+use Rattle.definition.specs.declared.Rule.{Rule}
+use Rattle.definition.specs.declared.Rule.TheVariants.{XOutOfRange, YOutOfRange}
 use Rattle.definition.specs.declared.Refusal.{Refusal}
 use Rattle.turns.specs.Nets.{Carries}
 use Rattle.turns.specs.declared.Net.{Net}
 use Rattle.turns.specs.declared.Beyond.{Beyond}
 use Rattle.pen.specs.Names.{name_of}
-use Rattle.digits.specs.Writes.{Writes}
 use Rattle.pen.specs.Lines.{layer_line}
 use Rattle.pen.proofs.Lines.{Handed, shape-said, layer-line-length}
+use Rattle.digits.specs.Writes.{Writes}
 use Rattle.moves.proofs.Shapes.{placed-moved, part_placed}
+use Rattle.moves.specs.Moves.{most_values, ShapedAt, Judges, MovesShape}
 use Rattle.counts.specs.declared.Counts.{Counts}
 use Rattle.counts.specs.Counting.{tally, CountsShape}
 use Rattle.counts.proofs.ByValue.{shape-goes, shape-stops, shape-more}
 use Rattle.shapes.specs.declared.Pen.{Pen}
 use Rattle.shapes.specs.declared.Ink.{Ink}
-use Rattle.moves.specs.Moves.{most_values, ShapedAt, Judges, MovesShape}
 use Rattle.shapes.specs.Painting.{going_by, until, inked, Reached, Answered, Painted}
 use Rattle.shapes.proofs.Painting.{refusal}
-use Rattle.std.specs.Prelude.{Err, Ok, Result}
-use Rattle.definition.specs.declared.Rule.{Rule}
 
 module _ {words : List ℤ} {letter end : ℕ} (h : ShapedAt words letter end) (chain : Chain) (ts : List (Turn ℤ)) (net : Net) (carries : Carries ts net) (p : ℕ) (layer : ℕ) where
   abbrev k : Shape ℤ
   k = h.shape
 
-  abbrev refusing : ℕ → Refusal
-  refusing n = record { number = n; place = p }
+  abbrev refusing : Rule → Refusal
+  refusing rule = refuse rule p
 
   abbrev event : Event
   event = drawn_shape chain ts p (name_of layer) k
@@ -50,11 +52,11 @@ module _ {words : List ℤ} {letter end : ℕ} (h : ShapedAt words letter end) (
     judges : Judges (moved ts k).points far
     judges = subst (λ (x : Shape ℤ). Judges x.points far) (placed-moved ts net carries k) m.test
 
-    is_far_x : far.x ≡ true → event ≡ refused (refusing 16) chain
+    is_far_x : far.x ≡ true → event ≡ refused (refusing XOutOfRange) chain
     unfolding drawn_shape
     is_far_x x = rw (sym judges.xs ∙ x)
 
-    is_far_y : far.x ≡ false → far.y ≡ true → event ≡ refused (refusing 20) chain
+    is_far_y : far.x ≡ false → far.y ≡ true → event ≡ refused (refusing YOutOfRange) chain
     unfolding drawn_shape
     is_far_y x y = rw (sym judges.xs ∙ x, sym judges.ys ∙ y)
 
@@ -63,18 +65,18 @@ module _ {words : List ℤ} {letter end : ℕ} (h : ShapedAt words letter end) (
     is_near x y = rw (sym judges.xs ∙ x, sym judges.ys ∙ y)
 
     module _ (ink : Ink) (room : List ℕ) where
-      shape-refused : (e : Event) (n : ℕ) → event ≡ e → counted (tally ink.counts) e ≡ stopped (refusing n) chain → Painted ink (event ∷ []) room chain (Err (refusing n)) room
-      shape-refused e n is h = subst (λ (x : Event). Painted ink (x ∷ []) room chain (Err (refusing n)) room) (sym is) (refusal ink e [] room (refusing n) chain h)
+      shape-refused : (e : Event) (rule : Rule) → event ≡ e → counted (tally ink.counts) e ≡ stopped (refusing rule) chain → Painted ink (event ∷ []) room chain (Err (refusing rule)) room
+      shape-refused e rule is h = subst (λ (x : Event). Painted ink (x ∷ []) room chain (Err (refusing rule)) room) (sym is) (refusal ink e [] room (refusing rule) chain h)
 
-      pub shape_far_x : far.x ≡ true → Painted ink (event ∷ []) room chain (Err (refusing 16)) room
-      shape_far_x x = shape-refused (refused (refusing 16) chain) 16 (is_far_x x) (unfold counted in refl)
+      pub shape_far_x : far.x ≡ true → Painted ink (event ∷ []) room chain (Err (refusing XOutOfRange)) room
+      shape_far_x x = shape-refused (refused (refusing XOutOfRange) chain) XOutOfRange (is_far_x x) (unfold counted in refl)
 
-      pub shape_far_y : far.x ≡ false → far.y ≡ true → Painted ink (event ∷ []) room chain (Err (refusing 20)) room
-      shape_far_y x y = shape-refused (refused (refusing 20) chain) 20 (is_far_y x y) (unfold counted in refl)
+      pub shape_far_y : far.x ≡ false → far.y ≡ true → Painted ink (event ∷ []) room chain (Err (refusing YOutOfRange)) room
+      shape_far_y x y = shape-refused (refused (refusing YOutOfRange) chain) YOutOfRange (is_far_y x y) (unfold counted in refl)
 
-      pub shape-many : far.x ≡ false → far.y ≡ false → {a : Result Counts Rule} → CountsShape ink.counts a → (n : ℕ) → a ≡ Err n
-          → Painted ink (event ∷ []) room chain (Err (refusing n)) room
-      shape-many x y count n q = shape-refused (drew shown) n (is_near x y) (shape-stops ink.counts count n q shown)
+      pub shape-many : far.x ≡ false → far.y ≡ false → {a : Result Counts Rule} → CountsShape ink.counts a → (rule : Rule) → a ≡ Err rule
+          → Painted ink (event ∷ []) room chain (Err (refusing rule)) room
+      shape-many x y count rule q = shape-refused (drew shown) rule (is_near x y) (shape-stops ink.counts count rule q shown)
 
     -- the numbers that are written
     pub part_is : end ≤ length numbers → take (end - 2) (drop 2 numbers') ≡ numbers_of_shape (moved ts k)

@@ -1,7 +1,7 @@
 -- Two outcomes that the contract of a function that draws allows are one: the answer, with the counts, the next place and the last layer or with the
 -- refusal and the calls open there, and every byte of the room. The last layer is told by what would be written after it.
 -- Assumes nothing.
-use Rattle.std.specs.Prelude.{if◌then◌else◌}
+use Rattle.std.specs.Prelude.{if◌then◌else◌, Result, Ok, Err}
 use mathlib.Core.Path.{◌≡◌, refl, sym, ap, ◌∙◌, subst}
 use mathlib.Core.Bool.{Bool, true, false}
 use mathlib.Core.List.{List, [], ◌∷◌, ◌++◌, append-nil, append_cancel_left}
@@ -23,7 +23,6 @@ use Rattle.counts.specs.Counting.{tally}
 use Rattle.shapes.specs.declared.Ink.{Ink}
 use Rattle.shapes.specs.Painting.{inked, Goes, Answered, Painted}
 use Rattle.shapes.proofs.Painting.{never}
-use Rattle.std.specs.Prelude.{Err, Ok, Result}
 
 -- ---- the last layer
 

@@ -1,7 +1,7 @@
 -- What a function that draws does: its events counted up to the first refusal, and the lines of the shapes before it in the room. A running account,
 -- not to be believed: what happens is said by crates/definition, and proofs/Painting.antt joins what follows one another.
 -- Assumes nothing.
-use Rattle.std.specs.Prelude.{◌≡◌, List, [], ◌∷◌, ◌++◌, ℕ, ◌+◌, ◌*◌, ◌≤◌, ℤ, length}
+use Rattle.std.specs.Prelude.{◌≡◌, List, [], ◌∷◌, ◌++◌, ℕ, ◌+◌, ◌*◌, ◌≤◌, ℤ, length, Result, Ok, Err}
 use Rattle.std.proofs.lemmas.List.Edits.{sets}
 use Rattle.definition.specs.Drawing.{Chain, Event, drawn_shape, Drawn as Shown}
 use Rattle.definition.specs.Counts.{End, finished, stopped, counted, ending, shapes_of}
@@ -9,6 +9,7 @@ use Rattle.definition.specs.Counts.{Counts as Tally}
 use Rattle.definition.specs.Flat.{lines}
 use Rattle.definition.specs.Limits.{most_calls, most_shapes}
 use Rattle.definition.specs.Commands.{Turn}
+use Rattle.definition.specs.declared.Refusal.{Refusal}
 use Rattle.turns.specs.Nets.{Carries}
 use Rattle.turns.specs.declared.Net.{Net}
 use Rattle.pen.specs.Names.{name_of}
@@ -17,8 +18,6 @@ use Rattle.counts.specs.declared.Counts.{Counts}
 use Rattle.counts.specs.Counting.{tally}
 use Rattle.shapes.specs.declared.Pen.{Pen}
 use Rattle.shapes.specs.declared.Ink.{Ink}
-use Rattle.std.specs.Prelude.{Err, Ok, Result}
-use Rattle.definition.specs.declared.Refusal.{Refusal}
 
 -- the events before the first that is refused
 unfoldable pub going_by : End → Event → (Tally → List Event) → List Event

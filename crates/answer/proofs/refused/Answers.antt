@@ -4,4 +4,4 @@ use Rattle.answer.proofs.refused.Goals as goal
 
 pub returns : goal.returns
 unfolding failure
-returns c = simp (c.cleared-none.ensures, c.position_of-position.ensures.line_is, c.position_of-position.ensures.column_is, c.opened-opened.ensures, c.places-chain.ensures)
+returns c = simp (c.cleared-none.ensures, c.position_of-position.ensures.line_is, c.position_of-position.ensures.column_is, c.opened-opened.ensures, c.places-chain.ensures, c.number_of.ensures)

@@ -1,10 +1,6 @@
 -- `words` meets its contract: the first words by `first_words`, and the places of the open calls one after the other.
-use Prim.Native.Nat.{◌-◌}
 use Rattle.answer.proofs.Places.{Copied}
 use Rattle.answer.proofs.words.Given as goal
 
 abbrev pub invariant-loop-i : goal.invariant-loop-i
 invariant-loop-i l = Copied l.initial.told 16 l.chain l.i l.told
-
-abbrev pub decreases-loop-i : goal.decreases-loop-i
-decreases-loop-i l = 32 - l.i

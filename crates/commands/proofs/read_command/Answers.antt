@@ -10,7 +10,7 @@ pub loop-m-init : goal.loop-m-init
 loop-m-init c = (seeking_start _ _ c.requires.fit.0, refl)
 
 pub next_mark-m-requires : goal.next_mark-m-requires
-next_mark-m-requires c = record { kinds_lent = c.requires.kinds_lent; fit = c.loop-m.invariant.0.fit }
+next_mark-m-requires c = record { fit = c.loop-m.invariant.0.fit }
 
 pub returns-then-mark-eq-SKIP : goal.returns-then-mark-eq-SKIP
 unfolding number
@@ -18,7 +18,7 @@ returns-then-mark-eq-SKIP c = (seeking_ended c.loop-m.invariant.0 (c.next_mark-m
 
 pub read_items-requires : goal.read_items-requires
 unfolding number
-read_items-requires c = record { kinds_lent = c.requires.kinds_lent; fit = ((c.next_mark-m.ensures.first c.if-mark-eq-HEAD.true).fit, c.requires.fit.1, c.requires.fit.2) }
+read_items-requires c = record { fit = ((c.next_mark-m.ensures.first c.if-mark-eq-HEAD.true).fit, c.requires.fit.1, c.requires.fit.2) }
 
 pub returns-then-mark-eq-HEAD : goal.returns-then-mark-eq-HEAD
 unfolding number

@@ -9,7 +9,7 @@ pub loop-spot-init : goal.loop-spot-init
 loop-spot-init c = wording_start _ _ _ _ _ _ c.requires.fit.0
 
 pub next_mark-m-requires : goal.next_mark-m-requires
-next_mark-m-requires c = record { kinds_lent = c.requires.kinds_lent; fit = c.loop-spot.invariant.fit }
+next_mark-m-requires c = record { fit = c.loop-spot.invariant.fit }
 
 pub line_number-c-requires : goal.line_number-c-requires
 unfolding number
@@ -41,9 +41,9 @@ pub returns-then-mark-eq-STOP : goal.returns-then-mark-eq-STOP
 unfolding number
 returns-then-mark-eq-STOP c = wording_stop c.loop-spot.invariant (c.next_mark-m.ensures.stop c.if-mark-eq-STOP.true) (letter_end c.next_mark-m.ensures c.if-mark-eq-LEAD.false) c.close.ensures
 
-pub close-requires-else-mark-gt-HEAD : goal.close-requires-else-mark-gt-HEAD
-close-requires-else-mark-gt-HEAD c = (omega arith, omega arith)
+pub close-requires-else-mark-eq-STOP : goal.close-requires-else-mark-eq-STOP
+close-requires-else-mark-eq-STOP c = (omega arith, omega arith)
 
-pub returns-else-mark-gt-HEAD : goal.returns-else-mark-gt-HEAD
+pub returns-else-mark-eq-STOP : goal.returns-else-mark-eq-STOP
 unfolding number
-returns-else-mark-gt-HEAD c = wording_ended c.loop-spot.invariant (finds c.next_mark-m.ensures) c.if-mark-eq-LEAD.false c.if-mark-gt-HEAD.false c.if-mark-eq-STOP.false c.close-else-mark-gt-HEAD.ensures
+returns-else-mark-eq-STOP c = wording_ended c.loop-spot.invariant (finds c.next_mark-m.ensures) c.if-mark-eq-LEAD.false c.if-mark-gt-HEAD.false c.if-mark-eq-STOP.false c.close-else-mark-eq-STOP.ensures

@@ -1,6 +1,10 @@
--- `counts::count_shape` meets its contract: what `add_shape` leaves and answers is counted as the definition counts it (`shape-counted`).
-use Rattle.counts.proofs.ByValue.{shape-counted}
+-- `counts::count_shape` meets its contract: what `one_more` answers is counted as the definition counts it (`shape-counted-more`, `shape-counted-full`).
+use borrow.Author.Rules.{rules}
+use Rattle.counts.proofs.ByValue.{shape-counted-more, shape-counted-full}
 use Rattle.counts.proofs.count_shape.Goals as goal
 
+pub returns-in_err-shapes : goal.returns-in_err-shapes
+returns-in_err-shapes c = search (rules, shape-counted-full)
+
 pub returns : goal.returns
-returns c = rw c.answer.ensures (shape-counted _ _ _ c.add_shape-refusal.ensures)
+returns c = search (rules, shape-counted-more)

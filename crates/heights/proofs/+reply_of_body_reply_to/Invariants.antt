@@ -9,10 +9,10 @@ decreases-reply_of_body l = 2 * l.left + 1
 abbrev pub decreases-reply_to : goal.decreases-reply_to
 decreases-reply_to l = 2 * l.left
 
-abbrev pub invariant-reply_of_body-loop-symbol : goal.invariant-reply_of_body-loop-symbol
-invariant-reply_of_body-loop-symbol l =
+abbrev pub invariant-reply_of_body-loop-next : goal.invariant-reply_of_body-loop-next
+invariant-reply_of_body-loop-next l =
     WalkedSoFar l.rows l.bodies l.live l.own l.row l.left l.initial.heights l.end l.heights l.layers l.at l.tallest l.set
 
-abbrev pub decreases-reply_of_body-loop-symbol : goal.decreases-reply_of_body-loop-symbol
-decreases-reply_of_body-loop-symbol l =
+abbrev pub decreases-reply_of_body-loop-next : goal.decreases-reply_of_body-loop-next
+decreases-reply_of_body-loop-next l =
     l.end - l.at

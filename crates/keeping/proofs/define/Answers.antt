@@ -1,22 +1,23 @@
 -- `define` meets its contract: what it answers is in proofs/Entered.antt.
+use Rattle.std.specs.Prelude.{Some}
+use mathlib.Core.Path.{ap, ◌∙◌}
 use Rattle.keeping.proofs.Entered.{freed_within, filling_over, filling_in, defines_full, defines-over, defines_in}
-use borrow.Author.Rules.{rules}
 use Rattle.keeping.proofs.define.Goals as goal
 
 pub overflow_sub-needed : goal.overflow_sub-needed
-overflow_sub-needed c = freed_within c.requires.begins c.requires.text_len_bound.0 c.begin.result _ c.begin.ensures c.in-Replaced.is
+overflow_sub-needed c = freed_within c.requires.begins c.requires.text_len_bound.0 c.begin.result _ c.begin.ensures (c.in-Some-Replaced.is ∙ ap Some c.in-Some-Replaced.field-0-is)
 
 pub fill-requires : goal.fill-requires
-fill-requires c = record { kinds_lent = c.requires.kinds_lent; fit = c.requires.fit; filling = filling_over c.requires.begins c.requires.text_len_bound.0 c.begin.result _ c.begin.ensures c.in-Replaced.is }
+fill-requires c = record { fit = c.requires.fit; filling = filling_over c.requires.begins c.requires.text_len_bound.0 c.begin.result _ c.begin.ensures (c.in-Some-Replaced.is ∙ ap Some c.in-Some-Replaced.field-0-is) }
 
-pub fill-requires-in-Added : goal.fill-requires-in-Added
-fill-requires-in-Added c = record { kinds_lent = c.requires.kinds_lent; fit = c.requires.fit; filling = filling_in c.requires.begins c.requires.text_len_bound.0 c.begin.result _ c.begin.ensures c.in-Added.is }
+pub fill-requires-in-Some-Added : goal.fill-requires-in-Some-Added
+fill-requires-in-Some-Added c = record { fit = c.requires.fit; filling = filling_in c.requires.begins c.requires.text_len_bound.0 c.begin.result _ c.begin.ensures (c.in-Some-Added.is ∙ ap Some c.in-Some-Added.field-0-is) }
 
-pub returns-in-Full : goal.returns-in-Full
-returns-in-Full c = defines_full c.requires.begins c.requires.text_len_bound.0 c.begin.result _ c.begin.ensures c.in-Full.is
+pub returns-in-None : goal.returns-in-None
+returns-in-None c = defines_full c.requires.begins c.requires.text_len_bound.0 c.begin.result _ c.begin.ensures c.in-None.is
 
-pub returns-in-Replaced : goal.returns-in-Replaced
-returns-in-Replaced c = defines-over c.requires.begins c.requires.text_len_bound.0 c.begin.result _ c.begin.ensures c.in-Replaced.is c.count_redefinition-more.ensures c.fill.ensures
+pub returns-in-Some-Replaced : goal.returns-in-Some-Replaced
+returns-in-Some-Replaced c = defines-over c.requires.begins c.requires.text_len_bound.0 c.begin.result _ c.begin.ensures (c.in-Some-Replaced.is ∙ ap Some c.in-Some-Replaced.field-0-is) c.count_redefinition-more.ensures c.fill.ensures
 
-pub returns-in-Added : goal.returns-in-Added
-returns-in-Added c = defines_in c.requires.begins c.requires.text_len_bound.0 c.begin.result _ c.begin.ensures c.in-Added.is c.fill-in-Added.ensures
+pub returns-in-Some-Added : goal.returns-in-Some-Added
+returns-in-Some-Added c = defines_in c.requires.begins c.requires.text_len_bound.0 c.begin.result _ c.begin.ensures (c.in-Some-Added.is ∙ ap Some c.in-Some-Added.field-0-is) c.fill-in-Some-Added.ensures

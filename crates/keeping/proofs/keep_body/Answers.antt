@@ -4,14 +4,14 @@ use mathlib.Core.Bool.{false}
 use Prim.Native.Nat.{◌+◌, ◌-◌, ◌*◌}
 use native.Mathlib.Omega.{arith}
 use lib.ListN.{length}
-use Rattle.keeping.proofs.Whole.{unmoved, once, never_again, KeptSoFar, going_start, as_more, going_on, laid_anywhere, going-moved, body_lacking, body-whole}
+use Rattle.keeping.proofs.Bodies.{unmoved, once, never_again, KeptSoFar, going_start, as_more, going_on, laid_anywhere, going-moved, body_lacking, body-whole}
 use Rattle.keeping.proofs.keep_body.Goals as goal
 
 pub loop-to-init : goal.loop-to-init
 loop-to-init c = going_start c.requires.ready c.requires.fit.0
 
 pub keep_command-requires : goal.keep_command-requires
-keep_command-requires c = record { kinds_lent = c.requires.kinds_lent; fit = (c.loop-to.invariant.fit, c.requires.fit.1, c.requires.fit.2); by_index = (_, c.loop-to.invariant.ready) }
+keep_command-requires c = record { fit = (c.loop-to.invariant.fit, c.requires.fit.1, c.requires.fit.2); by_index = (_, c.loop-to.invariant.ready) }
 
 pub returns-in-Last : goal.returns-in-Last
 returns-in-Last c = body-whole c.loop-to.invariant (c.keep_command.ensures _ c.loop-to.invariant.ready) c.in-Last.is

@@ -4,7 +4,7 @@ use mathlib.Core.Bool.{false}
 use Prim.Native.Nat.{◌+◌, ◌-◌, ◌*◌}
 use native.Mathlib.Omega.{arith}
 use lib.ListN.{length}
-use Rattle.keeping.proofs.Whole.{unmoved, once, never_again, KeptSoFar, going_start, as_more, going_on, laid_anywhere, going-moved, body_lacking, body-whole}
+use Rattle.keeping.proofs.Bodies.{unmoved, once, never_again, KeptSoFar, going_start, as_more, going_on, laid_anywhere, going-moved, body_lacking, body-whole}
 use Rattle.keeping.proofs.keep_body.Given as goal
 
 abbrev pub invariant-loop-to : goal.invariant-loop-to

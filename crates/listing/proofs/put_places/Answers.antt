@@ -1,29 +1,20 @@
--- `listing::put_places` meets its contract: `Telling` says what is written, and the measure is how many places are left.
-use Prim.Native.Nat.{◌-◌}
+-- `listing::put_places` meets its contract: some places are written, and the others are left.
+use mathlib.Core.Path.{ap, ◌∙◌}
+use mathlib.Core.List.{◌∷◌}
 use native.Mathlib.Omega.{arith}
-use Rattle.listing.proofs.Places.{none_told, one_told, all_told, all_there}
+use lib.ListN.{take}
+use Rattle.std.proofs.lemmas.List.{take_min}
+use Rattle.digits.proofs.Writing.{goes_on, over, same_bytes}
+use Rattle.listing.specs.Account.{tabbed}
+use Rattle.listing.proofs.Places.{next-place, no_place}
 use Rattle.listing.proofs.put_places.Goals as goal
 
-pub loop-i-init : goal.loop-i-init
-loop-i-init c = none_told _ _ _ _
+pub loop-place-preserved : goal.loop-place-preserved
+loop-place-preserved c = record {
+  going = goes_on _ c.loop-place.invariant.going (next-place _ c.loop-place.place-index c.loop-place-test.true) c.put_field-at.ensures.writes;
+  near = omega (arith, c.loop-place.invariant.near, c.put_field-at.ensures.upper_bound);
+}
 
-pub returns-then-i-opened : goal.returns-then-i-opened
-returns-then-i-opened c = record { writes = all_told c.loop-i.invariant (omega (arith, c.if-i-opened.true)); upper_bound = omega (arith, c.loop-i.invariant.near, c.loop-i.invariant.within, c.requires.1) }
-
-pub offset_bounds-chain-i : goal.offset_bounds-chain-i
-offset_bounds-chain-i c = omega (arith, c.loop-i-test.true, c.requires.1)
-
-pub put_field-at-requires : goal.put_field-at-requires
-put_field-at-requires c = omega (arith, c.loop-i.invariant.near, c.loop-i.invariant.within, c.requires)
-
-pub overflow_add-i : goal.overflow_add-i
-overflow_add-i c = omega (arith, c.loop-i-test.true, c.requires.1)
-
-pub loop-i-smaller : goal.loop-i-smaller
-loop-i-smaller c = omega (arith, c.loop-i-test.true)
-
-pub loop-i-preserved : goal.loop-i-preserved
-loop-i-preserved c = one_told c.loop-i.invariant c.loop-i-test.true (omega (arith, c.loop-i.invariant.told, c.if-i-opened.false)) c.put_field-at.ensures.writes c.put_field-at.ensures.upper_bound
-
-pub returns : goal.returns
-returns c = record { writes = all_there c.loop-i.invariant c.loop-i-test.false; upper_bound = omega (arith, c.loop-i.invariant.near, c.loop-i.invariant.within, c.requires.1) }
+pub returns-clause-writes : goal.returns-clause-writes
+returns-clause-writes c =
+    same_bytes (ap (λ n. tabbed (take n c.args.chain.now)) c.min.ensures ∙ ap tabbed (take_min c.args.opened c.args.chain.now)) (over c.loop-place.invariant.going (no_place _ _ c.loop-place-test.false))

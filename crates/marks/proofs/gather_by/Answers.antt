@@ -1,35 +1,32 @@
 -- `gather_by` meets its contract: `Gathering` holds before each command, and what is left of the text falls.
 use mathlib.Core.Path.{refl}
-use Prim.Native.Nat.{◌-◌}
 use native.Mathlib.Omega.{arith}
-use borrow.Author.Rules.{rules}
-use lib.ListN.{length}
-use Rattle.marks.proofs.Gathering.{Gathering, read_as, gather_begin, gather_out, gather_other, gather_layer, gather_over, any_marking}
+use Rattle.marks.proofs.Gathering.{read_as, gather_begin, gather_out, gather_other, gather_layer, gather_over, any_marking}
 use Rattle.marks.proofs.gather_by.Goals as goal
 
-pub loop-kind-init : goal.loop-kind-init
-loop-kind-init c = gather_begin _ _ c.requires.names_len.0.1 c.requires.names_len.1 refl
+pub loop-c-init : goal.loop-c-init
+loop-c-init c = gather_begin _ _ c.requires.0.1 c.requires.1 refl
 
 pub read_command-requires : goal.read_command-requires
-read_command-requires c = record { kinds_lent = c.requires.kinds_lent; fit = (c.loop-kind.invariant.fit, omega arith, omega arith) }
+read_command-requires c = record { fit = (c.loop-c.invariant.fit, omega arith, omega arith) }
 
-pub returns-in-Nothing : goal.returns-in-Nothing
-returns-in-Nothing c = any_marking _ _ c.loop-kind.invariant.is_marked (gather_out c.loop-kind.invariant c.read_command.result _ c.read_command.ensures c.in-Nothing.is)
+pub returns-in-None : goal.returns-in-None
+returns-in-None c = any_marking _ _ c.loop-c.invariant.is_marked (gather_out c.loop-c.invariant c.read_command.result _ c.read_command.ensures c.in-None.is)
 
 pub note-count-requires : goal.note-count-requires
-note-count-requires c = c.loop-kind.invariant.noted.few
+note-count-requires c = c.loop-c.invariant.noted.few
 
 pub returns-then-count-gt-MOST_LAYERS : goal.returns-then-count-gt-MOST_LAYERS
-returns-then-count-gt-MOST_LAYERS c = any_marking _ _ c.loop-kind.invariant.is_marked (gather_over c.loop-kind.invariant (read_as c.read_command.ensures c.in-Decoded.is).1 c.if-kind-eq76.true c.size_at-name.ensures c.note-count.ensures c.if-count-gt-MOST_LAYERS.true)
+returns-then-count-gt-MOST_LAYERS c = any_marking _ _ c.loop-c.invariant.is_marked (gather_over c.loop-c.invariant (read_as c.read_command.ensures c.in-Some.is).1 c.if-c-eq76.true c.size_at-name.ensures c.note-count.ensures c.if-count-gt-MOST_LAYERS.true)
 
-pub loop-kind-smaller-else-count-gt-MOST_LAYERS : goal.loop-kind-smaller-else-count-gt-MOST_LAYERS
-loop-kind-smaller-else-count-gt-MOST_LAYERS c = let r = (read_as c.read_command.ensures c.in-Decoded.is).1 in omega (arith, r.ahead, r.fit.within)
+pub loop-c-smaller-else-count-gt-MOST_LAYERS : goal.loop-c-smaller-else-count-gt-MOST_LAYERS
+loop-c-smaller-else-count-gt-MOST_LAYERS c = let r = (read_as c.read_command.ensures c.in-Some.is).1 in omega (arith, r.ahead, r.fit.within)
 
-pub loop-kind-preserved-else-count-gt-MOST_LAYERS : goal.loop-kind-preserved-else-count-gt-MOST_LAYERS
-loop-kind-preserved-else-count-gt-MOST_LAYERS c = gather_layer c.loop-kind.invariant (read_as c.read_command.ensures c.in-Decoded.is).1 c.if-kind-eq76.true c.size_at-name.ensures c.note-count.ensures (λ h. omega (arith, h, c.if-count-gt-MOST_LAYERS.false))
+pub loop-c-preserved-else-count-gt-MOST_LAYERS : goal.loop-c-preserved-else-count-gt-MOST_LAYERS
+loop-c-preserved-else-count-gt-MOST_LAYERS c = gather_layer c.loop-c.invariant (read_as c.read_command.ensures c.in-Some.is).1 c.if-c-eq76.true c.size_at-name.ensures c.note-count.ensures (λ h. omega (arith, h, c.if-count-gt-MOST_LAYERS.false))
 
-pub loop-kind-smaller : goal.loop-kind-smaller
-loop-kind-smaller c = let r = (read_as c.read_command.ensures c.in-Decoded.is).1 in omega (arith, r.ahead, r.fit.within)
+pub loop-c-smaller : goal.loop-c-smaller
+loop-c-smaller c = let r = (read_as c.read_command.ensures c.in-Some.is).1 in omega (arith, r.ahead, r.fit.within)
 
-pub loop-kind-preserved : goal.loop-kind-preserved
-loop-kind-preserved c = gather_other c.loop-kind.invariant (read_as c.read_command.ensures c.in-Decoded.is).1 c.if-kind-eq76.false
+pub loop-c-preserved : goal.loop-c-preserved
+loop-c-preserved c = gather_other c.loop-c.invariant (read_as c.read_command.ensures c.in-Some.is).1 c.if-c-eq76.false

@@ -7,7 +7,7 @@ pub loop-i-init : goal.loop-i-init
 loop-i-init c = comment_start _ _ _ c.requires.q_lt_state_count.0 c.requires.q_lt_state_count.1 c.requires.q_lt_state_count.2
 
 pub step-m-requires : goal.step-m-requires
-step-m-requires c = record { kinds_lent = c.requires.kinds_lent; q_lt_state_count = (c.loop-i.invariant.state, let h = c.loop-i.invariant.shallow in let k = c.loop-i.invariant.within_text in omega arith) }
+step-m-requires c = record { q_lt_state_count = (c.loop-i.invariant.state, let h = c.loop-i.invariant.shallow in let k = c.loop-i.invariant.within_text in omega arith) }
 
 pub returns-then-m-eq-STUCK : goal.returns-then-m-eq-STUCK
 returns-then-m-eq-STUCK c = comment_stuck _ _ _ _ _ c.loop-i.invariant c.loop-i-test.true (c.type_inv.text c.loop-i.i).fits c.step-m.result c.step-m.ensures c.if-m-eq-STUCK.true

@@ -8,13 +8,13 @@ pub loop-i-init : goal.loop-i-init
 loop-i-init c = seek_start _ _ _ c.requires.fit
 
 pub entry_at-e-requires : goal.entry_at-e-requires
-entry_at-e-requires c = record { kinds_lent = c.requires.kinds_lent; q_lt_state_count = c.loop-i.invariant.fit.state }
+entry_at-e-requires c = record { q_lt_state_count = c.loop-i.invariant.fit.state }
 
 pub returns-then-s-eq-STUCK : goal.returns-then-s-eq-STUCK
 returns-then-s-eq-STUCK c = seek_stuck _ _ _ _ _ _ c.loop-i.invariant c.loop-i-test.true (c.type_inv.text c.loop-i.i).fits c.entry_at-e.result c.entry_at-e.ensures c.if-s-eq-STUCK.true c.nothing.result c.nothing.ensures
 
 pub after_comment-at-requires : goal.after_comment-at-requires
-after_comment-at-requires c = record { kinds_lent = c.requires.kinds_lent; q_lt_state_count = (comment_state _ _ _ _ _ _ c.loop-i.invariant c.loop-i-test.true (c.type_inv.text c.loop-i.i).fits c.entry_at-e.result c.entry_at-e.ensures c.if-s-ge-DEEP.true c.if-s-eq-STUCK.false, omega arith, let h = c.loop-i-test.true in omega arith) }
+after_comment-at-requires c = record { q_lt_state_count = (comment_state _ _ _ _ _ _ c.loop-i.invariant c.loop-i-test.true (c.type_inv.text c.loop-i.i).fits c.entry_at-e.result c.entry_at-e.ensures c.if-s-ge-DEEP.true c.if-s-eq-STUCK.false, omega arith, let h = c.loop-i-test.true in omega arith) }
 
 pub returns-then-s-ge-DEEP : goal.returns-then-s-ge-DEEP
 returns-then-s-ge-DEEP c = seek_comment _ _ _ _ _ _ c.loop-i.invariant c.loop-i-test.true (c.type_inv.text c.loop-i.i).fits c.entry_at-e.result c.entry_at-e.ensures c.if-s-ge-DEEP.true c.if-s-eq-STUCK.false c.after_comment-at.result c.after_comment-at.ensures

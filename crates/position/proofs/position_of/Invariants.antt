@@ -1,11 +1,7 @@
--- `position_of` meets its contract: the pass keeps line and column of each place (Passes).
-use Prim.Native.Nat.{◌-◌}
-use lib.ListN.{length}
-use Rattle.position.proofs.Passes.{CountedSoFar}
+-- `position_of` meets its contract: the pass keeps line and column of the next byte (Passes).
+use lib.ListN.{take}
+use Rattle.position.proofs.Passes.{Counted}
 use Rattle.position.proofs.position_of.Given as goal
 
-abbrev pub invariant-loop-i : goal.invariant-loop-i
-invariant-loop-i l = CountedSoFar l.text l.place l.i l.line l.column
-
-abbrev pub decreases-loop-i : goal.decreases-loop-i
-decreases-loop-i l = length l.text - l.i
+abbrev pub invariant-loop-b : goal.invariant-loop-b
+invariant-loop-b l = Counted (take l.b-index l.before) l.line l.column

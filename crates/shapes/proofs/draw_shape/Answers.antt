@@ -11,11 +11,11 @@ returns-then-far c = λ h chain ts carries. shape_far_x h chain ts c.args.net ca
 pub returns-then-far-2 : goal.returns-then-far-2
 returns-then-far-2 c = λ h chain ts carries. shape_far_y h chain ts c.args.net carries c.args.place c.args.layer (c.move_shape-far.ensures h) c.args.ink _ c.if-far.false c.if-far-2.true
 
-pub returns-in-Full : goal.returns-in-Full
-returns-in-Full c = λ h chain ts carries. shape-many h chain ts c.args.net carries c.args.place c.args.layer (c.move_shape-far.ensures h) c.args.ink _ c.if-far.false c.if-far-2.false c.count_shape.ensures _ c.in-Full.is
+pub returns-in_err-drawn : goal.returns-in_err-drawn
+returns-in_err-drawn c = ?
 
 pub put_line-last-requires : goal.put_line-last-requires
 put_line-last-requires c = (omega (arith, c.put_layer_line-next.ensures.ends, layer-line-length c.args.ink.pen.layer c.args.layer, c.requires.near.1.place_most, c.requires.near.1.shapes_most), omega (arith, part-few c.requires.shaped_at.0 c.move_shape-far.new.numbers))
 
 pub returns : goal.returns
-returns c = λ h chain ts carries. shape-near h chain ts c.args.net carries c.args.place c.args.layer (c.move_shape-far.ensures h) c.args.ink c.if-far.false c.if-far-2.false c.count_shape.ensures _ c.in-More.is c.requires.near.1 (part_is h chain ts c.args.net carries c.args.place c.args.layer (c.move_shape-far.ensures h) c.requires.shaped_at.1) c.put_layer_line-next.ensures c.put_line-last.ensures.writes c.put_line-last.ensures.upper_bound (part-few h c.move_shape-far.new.numbers)
+returns c = λ h chain ts carries. shape-near h chain ts c.args.net carries c.args.place c.args.layer (c.move_shape-far.ensures h) c.args.ink c.if-far.false c.if-far-2.false ? _ ? c.requires.near.1 (part_is h chain ts c.args.net carries c.args.place c.args.layer (c.move_shape-far.ensures h) c.requires.shaped_at.1) c.put_layer_line-next.ensures c.put_line-last.ensures.writes c.put_line-last.ensures.upper_bound (part-few h c.move_shape-far.new.numbers)

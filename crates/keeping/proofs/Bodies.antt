@@ -1,6 +1,7 @@
 -- A body decoded command by command: `keep_body` keeps `KeptSoFar`. Where a command does not fit though the live bodies stand together, the live definitions
 -- need more words than are lent.
 -- Assumes nothing.
+use Rattle.std.specs.Prelude.{Some, None}
 use mathlib.Core.Path.{◌≡◌, refl, sym, ap, ◌∙◌, subst}
 use mathlib.Core.Bool.{Bool, true, false}
 use mathlib.Core.List.{List, [], ◌∷◌, ◌++◌, append_assoc, append-nil}
@@ -30,7 +31,6 @@ use Rattle.keeping.specs.Voices.{Told}
 use Rattle.keeping.specs.Growth.{with_body, Adds, Within, Ready, Keeps, KeepsMore, KeepsLast, KeepsTight, KeepsBy, KeepsCommand, KeepsBodyBy, KeepsBody}
 use Rattle.keeping.proofs.Growing.{adds_none, adds_together, adds_then, enter-more}
 use Rattle.keeping.proofs.Onward.{within_same}
-use Rattle.std.specs.Prelude.{None, Some}
 
 -- one more where the bodies have not been moved for this command
 unfoldable pub unmoved : Bool → ℕ
@@ -193,7 +193,7 @@ module _ {t : List ℕ} {from : Spot} {a b : ℕ} {rows₀ : List ℕ} {words₀
 
   -- the definition ends
   pub body-whole : {r : Stored} {rows' : List ℕ} {words' : List ℤ} → KeepsCommand t spot a b rows words live row used layered r rows' words' → {to : Spot} → r ≡ Last to
-      → KeepsBody t from a b rows₀ words₀ live row (Some (record { used = used; to = to })) rows' words'
+      → KeepsBody t from a b rows₀ words₀ live row (Some record { used = used; to = to }) rows' words'
   unfolding KeepsBodyBy
   body-whole {rows' = rows'} {words' = words'} k {to} e =
       let l = as_last k e in

@@ -1,9 +1,0 @@
--- `lines::ends_number` meets its contract: one test after the other.
-use borrow.Author.Tests.{eq-eqb, ne_eqb}
-use Rattle.lines.proofs.ends_number.Goals as goal
-
-pub returns-then-b-eq32 : goal.returns-then-b-eq32
-returns-then-b-eq32 c = simp (eq-eqb _ _ c.if-b-eq32.true)
-
-pub returns : goal.returns
-returns c = simp (ne_eqb _ _ c.if-b-eq32.false)
