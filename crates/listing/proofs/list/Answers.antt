@@ -11,4 +11,4 @@ pub returns-then-answer-ne0 : goal.returns-then-answer-ne0
 returns-then-answer-ne0 c = refusal-listed _ _ c.if-flat-gt-MOST_BYTES.false c.if-answer-ne0.true c.put_refusal.ensures.writes c.put_refusal.ensures.upper_bound
 
 pub returns : goal.returns
-returns c = shapes-listed c.put_shapes-at.result c.if-flat-gt-MOST_BYTES.false c.if-answer-ne0.false c.put_shapes-at.ensures c.warn_any-next.ensures c.put_ending.ensures
+returns c = shapes-listed c.put_shapes-at.result c.if-flat-gt-MOST_BYTES.false c.if-answer-ne0.false c.put_shapes-at.ensures c.warn_any-next.ensures c.put_ending.ensures.writes c.put_ending.ensures.upper_bound
