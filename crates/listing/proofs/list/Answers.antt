@@ -1,6 +1,4 @@
 -- `listing::list` meets its contract: in each case the account is written, and for a text's answer and flat file the account is the definition's listing.
-use native.Mathlib.Omega.{arith}
-use Rattle.warning.proofs.Any.{warned-near}
 use Rattle.listing.proofs.Agrees.{nothing-listed, refusal-listed, shapes-listed}
 use Rattle.listing.proofs.list.Goals as goal
 
