@@ -234,8 +234,8 @@ module _ {records : ℕ} {rows : List ℕ} {b : List ℤ} {live : ℕ} {drawing 
               stops (w.along outer k) (call_story records table left chain outer read.place read.symbol own) _ (call_next outer)
               (call-stopped records rows live drawing left read ink x q b outer own it_reads.askew room)
 
-          pub call_opens : left ≤ 32 → Near ((32 - left) * 2 ^ 36) net → {row : ℕ} {more : Counts} → o ≡ Ok (record { row = row; counts = more })
-              → BodyComes records rows b live chain left (here_at from end layer₀ net) ink₀ room₀ (Ok (Calls (here_at h.next end l net) read row (inked more ink.pen))) room
+          pub call_opens : left ≤ 32 → Near ((32 - left) * 2 ^ 36) net → {entered : Entered} → o ≡ Ok entered
+              → BodyComes records rows b live chain left (here_at from end layer₀ net) ink₀ room₀ (Ok (Calls (here_at h.next end l net) read entered.row (inked entered.counts ink.pen))) room
           unfolding BodyComes
           call_opens le near q =
               let rests : Rests b (here_at h.next end l net) =
@@ -260,6 +260,6 @@ module _ {records : ℕ} {rows : List ℕ} {b : List ℤ} {live : ℕ} {drawing 
                 };
               }
 
-          pub call-grows : (on : Here) {row : ℕ} {more : Counts} → o ≡ Ok (record { row = row; counts = more }) → Grows ink₀ (Ok (Calls on read row (inked more ink.pen)))
+          pub call-grows : (on : Here) {entered : Entered} → o ≡ Ok entered → Grows ink₀ (Ok (Calls on read entered.row (inked entered.counts ink.pen)))
           unfolding Grows
           call-grows on q = let n = call-counts records rows live drawing left read ink x q in let k = grown in omega (arith, n, k)

@@ -45,11 +45,11 @@ read_call-call-requires c = (call_asked c.loop-at.invariant (met c.loop-at.invar
 pub open_call-requires : goal.open_call-requires
 open_call-requires c = (c.requires.0.sorted, c.requires.0.some_left, c.requires.0.levels)
 
-pub returns-in-Refused : goal.returns-in-Refused
-returns-in-Refused c = record { body_comes = call-refused c.loop-at.invariant (met c.loop-at.invariant (omega (arith, c.loop-at-test.true)) c.head_at-head.ensures) c.requires.2.within c.if-kind-eq67.true c.read_call-call.ensures c.open_call.ensures c.in-Refused.is; grows = stop-grows _ _ }
+pub returns-in_err-entered : goal.returns-in_err-entered
+returns-in_err-entered c = record { body_comes = call-refused c.loop-at.invariant (met c.loop-at.invariant (omega (arith, c.loop-at-test.true)) c.head_at-head.ensures) c.requires.2.within c.if-kind-eq67.true c.read_call-call.ensures c.open_call.ensures c.in_err-entered.was; grows = stop-grows _ _ }
 
-pub returns-in-Descends : goal.returns-in-Descends
-returns-in-Descends c = record { body_comes = call_opens c.loop-at.invariant (met c.loop-at.invariant (omega (arith, c.loop-at-test.true)) c.head_at-head.ensures) c.requires.2.within c.if-kind-eq67.true c.read_call-call.ensures c.open_call.ensures c.requires.0.some_left c.requires.1 c.in-Descends.is; grows = call-grows c.loop-at.invariant (met c.loop-at.invariant (omega (arith, c.loop-at-test.true)) c.head_at-head.ensures) c.requires.2.within c.if-kind-eq67.true c.read_call-call.ensures c.open_call.ensures _ c.in-Descends.is }
+pub returns : goal.returns
+returns c = record { body_comes = call_opens c.loop-at.invariant (met c.loop-at.invariant (omega (arith, c.loop-at-test.true)) c.head_at-head.ensures) c.requires.2.within c.if-kind-eq67.true c.read_call-call.ensures c.open_call.ensures c.requires.0.some_left c.requires.1 c.in_ok-entered.was; grows = call-grows c.loop-at.invariant (met c.loop-at.invariant (omega (arith, c.loop-at-test.true)) c.head_at-head.ensures) c.requires.2.within c.if-kind-eq67.true c.read_call-call.ensures c.open_call.ensures _ c.in_ok-entered.was }
 
 pub offset_bounds-bodies-from-else-kind-eq67 : goal.offset_bounds-bodies-from-else-kind-eq67
 offset_bounds-bodies-from-else-kind-eq67 c = let m = met c.loop-at.invariant (omega (arith, c.loop-at-test.true)) c.head_at-head.ensures in omega (arith, m.next, m.within, c.requires.2.within, c.requires.0.short)
@@ -73,10 +73,10 @@ pub loop-at-smaller : goal.loop-at-smaller
 loop-at-smaller c = let m = met c.loop-at.invariant (omega (arith, c.loop-at-test.true)) c.head_at-head.ensures in omega (arith, m.next, m.within, c.loop-at-test.true)
 
 pub loop-at-preserved : goal.loop-at-preserved
-loop-at-preserved c = was_shape c.loop-at.invariant (met c.loop-at.invariant (omega (arith, c.loop-at-test.true)) c.head_at-head.ensures) c.requires.2.within c.if-kind-eq76.false c.if-kind-eq67.false c.draw_shape.ensures c.in-Done.is
+loop-at-preserved c = was_shape c.loop-at.invariant (met c.loop-at.invariant (omega (arith, c.loop-at-test.true)) c.head_at-head.ensures) c.requires.2.within c.if-kind-eq76.false c.if-kind-eq67.false c.draw_shape.ensures c.in_ok-ink.was
 
-pub returns-in-Refused-draw_shape : goal.returns-in-Refused-draw_shape
-returns-in-Refused-draw_shape c = record { body_comes = shape-refused c.loop-at.invariant (met c.loop-at.invariant (omega (arith, c.loop-at-test.true)) c.head_at-head.ensures) c.requires.2.within c.if-kind-eq76.false c.if-kind-eq67.false c.draw_shape.ensures c.in-Refused-draw_shape.is; grows = stop-grows _ _ }
+pub returns-in_err-ink : goal.returns-in_err-ink
+returns-in_err-ink c = record { body_comes = shape-refused c.loop-at.invariant (met c.loop-at.invariant (omega (arith, c.loop-at-test.true)) c.head_at-head.ensures) c.requires.2.within c.if-kind-eq76.false c.if-kind-eq67.false c.draw_shape.ensures c.in_err-ink.was; grows = stop-grows _ _ }
 
-pub returns : goal.returns
-returns c = record { body_comes = was_all c.loop-at.invariant (omega (arith, c.loop-at-test.false)); grows = all_grows c.loop-at.invariant }
+pub returns-2 : goal.returns-2
+returns-2 c = record { body_comes = was_all c.loop-at.invariant (omega (arith, c.loop-at-test.false)); grows = all_grows c.loop-at.invariant }
