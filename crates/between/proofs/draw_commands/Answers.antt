@@ -59,7 +59,7 @@ loop-command-preserved-then-kind-eq83 c = let taken : c.define.result ≡ Ok c.i
 pub returns-in_err-taken : goal.returns-in_err-taken
 returns-in_err-taken c =
     let q : (rule : Rule) × (c.define.result ≡ Err rule) × (c.from_residual.result ≡ Err (refuse rule c.in-Some.command.place)) = search rules in
-    record { text_comes = comes_so c.loop-command.invariant (λ w all r₀ p. text-barred p (big_now c.loop-command.invariant c.requires.most_values_in_bounds.0) (read_one c.read_command.ensures c.in-Some.is).1 c.if-kind-eq83.true _ c.start_in-start.ensures c.define.ensures {rule = q.0} q.1 q.2); text_grows = stopped-grows _ q.2 }
+    record { text_comes = comes_so c.loop-command.invariant (λ w all r₀ p. text-barred p (big_now c.loop-command.invariant c.requires.most_values_in_bounds.0) (read_one c.read_command.ensures c.in-Some.is).1 c.if-kind-eq83.true _ c.start_in-start.ensures c.define.ensures {rule = q.0} q.1 q.2); text_grows = stopped-grows _ {why = refuse q.0 c.in-Some.command.place} q.2 }
 
 pub draw_outer-requires : goal.draw_outer-requires
 draw_outer-requires c = record { sorted = ((now-paused c.loop-command.invariant).stands.kept.sorted, c.requires.most_values_in_bounds.1, reached-now c.loop-command.invariant); says = (_, text_says (now-paused c.loop-command.invariant) (big_now c.loop-command.invariant c.requires.most_values_in_bounds.0) (read_one c.read_command.ensures c.in-Some.is).1 c.if-kind-eq76.false c.if-kind-eq68.false c.if-kind-eq83.false (sym c.draws.ensures ∙ c.if-draws.true) (long_now c.loop-command.invariant c.requires.most_values_in_bounds.0 (read_one c.read_command.ensures c.in-Some.is).1)) }
