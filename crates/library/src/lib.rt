@@ -38,6 +38,14 @@ pub enum Begun {
     Added(usize),
 }
 
+// The number of a row.
+fn symbol_at(rows: &[usize; ROW_NUMBERS], i: usize) -> usize
+    requires { i < most }
+    ensures { result ≡ symbol_at rows.now i }
+{
+    rows[PER_ROW * i]
+}
+
 // Where the body of a row starts, how many words are stored of it, and how many its definition needs.
 pub fn start_at(rows: &[usize; ROW_NUMBERS], i: usize) -> usize
     requires { i < most }
@@ -107,11 +115,8 @@ fn move_singly(bodies: &mut [i32], from: usize, to: usize, n: usize)
     requires { (to ≤ from) × (from + n ≤ length bodies.old) }
     ensures { Moved bodies.old from to n bodies.new }
 {
-    let mut k = 0;
-    while k < n {
-        let w = word_at(bodies, from + k);
-        bodies[to + k] = w;
-        k += 1;
+    for k in 0..n {
+        bodies[to + k] = bodies[from + k];
     }
 }
 
@@ -149,10 +154,8 @@ fn number_rows(rows: &[usize; ROW_NUMBERS], bodies: &mut [i32], firsts: &mut [i3
     requires { Laid rows.now live (length bodies.old) × (length firsts.old ≡ most) }
     ensures { Tagged rows.now bodies.old live 0 bodies.new firsts.new }
 {
-    let mut i: usize = 0;
-    while i < live {
+    for i in 0..live {
         number_row(rows, bodies, firsts, i);
-        i += 1;
     }
 }
 
@@ -236,37 +239,6 @@ pub fn compact(rows: &mut [usize; ROW_NUMBERS], bodies: &mut [i32], live: usize)
     walk(rows, bodies, live, &firsts)
 }
 
-// Whether a number that is at most the symbol stands at row i, one below it, or the symbol itself.
-fn at_most(rows: &[usize; ROW_NUMBERS], live: usize, i: usize, symbol: usize) -> bool
-    requires { live ≤ most }
-    ensures { result ≡ (ltb i live && leb (symbol_at rows.now i) symbol) }
-{
-    if i < live {
-        return rows[PER_ROW * i] <= symbol;
-    }
-    false
-}
-
-fn below(rows: &[usize; ROW_NUMBERS], live: usize, i: usize, symbol: usize) -> bool
-    requires { live ≤ most }
-    ensures { result ≡ (ltb i live && ltb (symbol_at rows.now i) symbol) }
-{
-    if i < live {
-        return rows[PER_ROW * i] < symbol;
-    }
-    false
-}
-
-fn stands(rows: &[usize; ROW_NUMBERS], live: usize, i: usize, symbol: usize) -> bool
-    requires { live ≤ most }
-    ensures { result ≡ (ltb i live && eqb (symbol_at rows.now i) symbol) }
-{
-    if i < live {
-        return rows[PER_ROW * i] == symbol;
-    }
-    false
-}
-
 // The last row whose number is at most the symbol, or 0, by halves: a live number stands there or nowhere. It is one of the `reach` rows from `at` on;
 // `reach` goes through 512, 256, .. 2, so that this takes nine comparisons.
 fn nearest(rows: &[usize; ROW_NUMBERS], live: usize, symbol: usize) -> usize
@@ -278,7 +250,7 @@ fn nearest(rows: &[usize; ROW_NUMBERS], live: usize, symbol: usize) -> usize
     while 1 < reach {
         let half = reach / 2;
         reach -= half;
-        if at_most(rows, live, at + half, symbol) {
+        if at + half < live && symbol_at(rows, at + half) <= symbol {
             at += half;
         }
     }
@@ -286,15 +258,13 @@ fn nearest(rows: &[usize; ROW_NUMBERS], live: usize, symbol: usize) -> usize
 }
 
 // The row of a number, if it is live (refusal 12 where it is not): nine comparisons to come to the nearest number, one to see whether it is this.
+#[tactic(auto, unfolding(crate::specs::Rows::Finds))]
 pub fn find(rows: &[usize; ROW_NUMBERS], live: usize, symbol: usize) -> Option<usize>
     requires { Sorted rows.now live }
     ensures { Finds rows.now live symbol result }
 {
     let i = nearest(rows, live, symbol);
-    if stands(rows, live, i, symbol) {
-        return Some(i);
-    }
-    None
+    (i < live && symbol_at(rows, i) == symbol).then_some(i)
 }
 
 // The first row whose number is not below this one, or `live`: that of the nearest number, or the one after it.
@@ -303,7 +273,7 @@ fn seek(rows: &[usize; ROW_NUMBERS], live: usize, symbol: usize) -> usize
     ensures { Parted rows.now live symbol result }
 {
     let i = nearest(rows, live, symbol);
-    if below(rows, live, i, symbol) {
+    if i < live && symbol_at(rows, i) < symbol {
         return i + 1;
     }
     i
@@ -323,11 +293,8 @@ pub fn needed_between(rows: &[usize; ROW_NUMBERS], left: usize, live: usize) -> 
     ensures { needed_in rows.now left + result ≡ needed_in rows.now live }
 {
     let mut sum: usize = 0;
-    let mut i = left;
-    while i < live {
-        let n = needed_at(rows, i);
-        sum += n;
-        i += 1;
+    for i in left..live {
+        sum += needed_at(rows, i);
     }
     sum
 }
@@ -347,10 +314,8 @@ fn clear_part(bodies: &mut [i32], from: usize, end: usize)
     requires { (from ≤ end) × (end ≤ length bodies.old) × Cleared bodies.old bodies.old from }
     ensures { Cleared bodies.old bodies.new end }
 {
-    let mut i = from;
-    while i < end {
+    for i in from..end {
         bodies[i] = 0;
-        i += 1;
     }
 }
 
@@ -403,6 +368,7 @@ pub fn replace_layer(rows: &mut [usize; ROW_NUMBERS], bodies: &mut [i32], i: usi
 }
 
 // Keeps a command whose words stand after those used, in the place of the L command that it follows or after the last; how many words are used then.
+#[tactic(auto, unfolding(crate::specs::Storing::Stores))]
 pub fn store(
     rows: &mut [usize; ROW_NUMBERS],
     bodies: &mut [i32],
@@ -427,10 +393,7 @@ fn shift(rows: &mut [usize; ROW_NUMBERS], live: usize, i: usize)
     requires { (i ≤ live) × (live < most) × (length rows.old ≡ row_numbers) }
     ensures { Shifted rows.old live i rows.new }
 {
-    let low = PER_ROW * i;
-    let mut k = PER_ROW * live;
-    while low < k {
-        k -= 1;
+    for k in (PER_ROW * i..PER_ROW * live).rev() {
         rows[k + PER_ROW] = rows[k];
     }
 }
@@ -458,7 +421,7 @@ pub fn begin(
     ensures { Begins rows.old live symbol place result rows.new }
 {
     let i = seek(rows, live, symbol);
-    if stands(rows, live, i, symbol) {
+    if i < live && symbol_at(rows, i) == symbol {
         let freed = needed_at(rows, i);
         put_row(rows, i, symbol, place);
         return Some(Begun::Replaced(i, freed));
