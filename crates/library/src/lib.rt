@@ -68,36 +68,22 @@ pub fn needed_at(rows: &[usize; ROW_NUMBERS], i: usize) -> usize
     rows[PER_ROW * i + NEEDED]
 }
 
-fn word_at(bodies: &[i32], i: usize) -> i32
-    requires { i < length bodies.now }
-    ensures { result ≡ get_or bodies.now i (pos 0) }
-{
-    bodies[i]
-}
-
-fn put_at(bodies: &mut [i32], i: usize, word: i32)
-    requires { i < length bodies.old }
-    ensures { bodies.new ≡ set bodies.old i word }
-{
-    bodies[i] = word;
-}
-
 // Moves four words down. All are read before one is written, so a compiler may move them as one, however near the two places are.
 fn move_four(bodies: &mut [i32], from: usize, to: usize)
     requires { (to ≤ from) × (from + 4 ≤ length bodies.old) }
     ensures { Moved bodies.old from to 4 bodies.new }
 {
-    let a = word_at(bodies, from);
-    let b = word_at(bodies, from + 1);
-    let c = word_at(bodies, from + 2);
-    let d = word_at(bodies, from + 3);
-    put_at(bodies, to, a);
-    put_at(bodies, to + 1, b);
-    put_at(bodies, to + 2, c);
-    put_at(bodies, to + 3, d);
+    let a = bodies[from];
+    let b = bodies[from + 1];
+    let c = bodies[from + 2];
+    let d = bodies[from + 3];
+    bodies[to] = a;
+    bodies[to + 1] = b;
+    bodies[to + 2] = c;
+    bodies[to + 3] = d;
 }
 
-// Moves words down, four at a time, while so many are left; how many.
+// Moves words down, four at a time, while so many are left; how many. (A `while`, since each turn moves four, and how many were moved is the answer.)
 fn move_fours(bodies: &mut [i32], from: usize, to: usize, n: usize) -> usize
     requires { (to ≤ from) × (from + n ≤ length bodies.old) }
     ensures { (result ≤ n) × Moved bodies.old from to result bodies.new }
@@ -145,9 +131,8 @@ fn number_row(rows: &[usize; ROW_NUMBERS], bodies: &mut [i32], firsts: &mut [i32
         return;
     }
     let at = start_at(rows, i);
-    let first = word_at(bodies, at);
-    put_at(firsts, i, first);
-    put_at(bodies, at, i as i32);
+    firsts[i] = bodies[at];
+    bodies[at] = i as i32;
 }
 
 fn number_rows(rows: &[usize; ROW_NUMBERS], bodies: &mut [i32], firsts: &mut [i32], live: usize)
@@ -175,7 +160,7 @@ fn owner(rows: &[usize; ROW_NUMBERS], bodies: &[i32], live: usize, at: usize) ->
     requires { (live ≤ most) × (at < length bodies.now) }
     ensures { Owns rows.now bodies.now live at result }
 {
-    let i = number_in(word_at(bodies, at));
+    let i = number_in(bodies[at]);
     if live <= i {
         return live;
     }
@@ -201,13 +186,14 @@ fn settle(
     ensures { Settled rows.old bodies.old i at to first result rows.new bodies.new }
 {
     let n = length_at(rows, i);
-    put_at(bodies, at, first);
+    bodies[at] = first;
     move_down(bodies, at, to, n);
     rows[PER_ROW * i + START] = to;
     n
 }
 
-// Meets the bodies of numbered rows in the order of their places, and moves each down to those before it; how many words they have.
+// Meets the bodies of numbered rows in the order of their places, and moves each down to those before it; how many words they have. (A `while`, since it
+// goes on by a word of a hole or by a whole body.)
 fn walk(rows: &mut [usize; ROW_NUMBERS], bodies: &mut [i32], live: usize, firsts: &[i32]) -> usize
     requires { (b : List ℤ) × Laid rows.old live (length b) × Tagged rows.old b live 0 bodies.old firsts.now }
     ensures { (b : List ℤ) → Laid rows.old live (length b) → Tagged rows.old b live 0 bodies.old firsts.now → Compacted rows.old b live result rows.new bodies.new }
@@ -219,8 +205,7 @@ fn walk(rows: &mut [usize; ROW_NUMBERS], bodies: &mut [i32], live: usize, firsts
         if i == live {
             at += 1;
         } else {
-            let first = word_at(firsts, i);
-            let n = settle(rows, bodies, i, at, to, first);
+            let n = settle(rows, bodies, i, at, to, firsts[i]);
             to += n;
             at += n;
         }
@@ -240,7 +225,7 @@ pub fn compact(rows: &mut [usize; ROW_NUMBERS], bodies: &mut [i32], live: usize)
 }
 
 // The last row whose number is at most the symbol, or 0, by halves: a live number stands there or nowhere. It is one of the `reach` rows from `at` on;
-// `reach` goes through 512, 256, .. 2, so that this takes nine comparisons.
+// `reach` goes through 512, 256, .. 2, so that this takes nine comparisons. (A `while`, since the reach is halved and not counted.)
 fn nearest(rows: &[usize; ROW_NUMBERS], live: usize, symbol: usize) -> usize
     requires { Sorted rows.now live }
     ensures { Nearest rows.now live symbol result }
@@ -319,7 +304,7 @@ fn clear_part(bodies: &mut [i32], from: usize, end: usize)
     }
 }
 
-// Every word zero, a part at a time.
+// Every word zero, a part at a time. (A `while`, since the last part may be shorter.)
 pub fn clear(bodies: &mut [i32])
     ensures { bodies.new ≡ replicate (length bodies.old) (pos 0) }
 {
