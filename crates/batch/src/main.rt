@@ -19,8 +19,6 @@ const MOST: usize = 1048576;
 const MOST_OPEN: usize = 64;
 // In place of a number of words: as many as the text and the second text have bytes, which is always enough, but not more than the limit.
 const AS_MANY: usize = 4294967295;
-// The task that tells what is in a symbol.
-const SUMMARISE: usize = 3;
 // A packed name has 32 bits: all are below this.
 const NAMES: usize = 4294967296;
 
@@ -178,11 +176,31 @@ fn summarise<W: Write>(
     streams::write(output, &name[..length])
 }
 
+// What a record asks for, by its number. A number that has no task yet gives a line and no bytes.
+#[derive(Clone, Copy, PartialEq, Eq)]
+enum Task {
+    Flatten,
+    List,
+    Summarise,
+    ToCome,
+}
+
+impl From<usize> for Task {
+    fn from(number: usize) -> Task {
+        match number {
+            0 => Task::Flatten,
+            2 => Task::List,
+            3 => Task::Summarise,
+            _ => Task::ToCome,
+        }
+    }
+}
+
 // What a record begins with, as far as a task needs it: the task, the lengths of its two texts and of its room, the words lent for bodies, the records
 // lent for open calls, and the argument.
 #[derive(Clone, Copy)]
 struct Head {
-    task: usize,
+    task: Task,
     text: usize,
     second: usize,
     room: usize,
@@ -209,7 +227,7 @@ fn number_at(numbers: &[u8; 28], at: usize) -> usize
 
 fn head_of(numbers: &[u8; 28]) -> Head {
     Head {
-        task: number_at(numbers, 0),
+        task: number_at(numbers, 0).into(),
         text: number_at(numbers, 4),
         second: number_at(numbers, 8),
         room: number_at(numbers, 12),
@@ -259,24 +277,10 @@ fn read_text<R: Read, W: Write>(
     Ok(true)
 }
 
-// The tasks that need no room. One that is still to come gives a line and no bytes.
-fn answer_without_room<W: Write>(
-    output: &mut W,
-    task: usize,
-    text: &[u8],
-    words: &mut [i32],
-    argument: usize,
-) -> Result<(), Failure> {
-    if task == SUMMARISE {
-        return summarise(output, text, words, argument);
-    }
-    streams::write(output, b"0\t0\t0\n")
-}
-
 // Answers a record by its task.
 fn answer<W: Write>(
     output: &mut W,
-    task: usize,
+    task: Task,
     text: &[u8],
     words: &mut [i32],
     size: usize,
@@ -286,16 +290,17 @@ fn answer<W: Write>(
     requires { (size ≤ length room.old) × (1048576 ≡ length room.old) }
 {
     match task {
-        0 => flatten(output, text, words, &mut room[..size]),
-        2 => list_within(output, text, room),
-        _ => answer_without_room(output, task, text, words, argument),
+        Task::Flatten => flatten(output, text, words, &mut room[..size]),
+        Task::List => list_within(output, text, room),
+        Task::Summarise => summarise(output, text, words, argument),
+        Task::ToCome => streams::write(output, b"0\t0\t0\n"),
     }
 }
 
 fn answer_texts<R: Read, W: Write>(
     input: &mut R,
     output: &mut W,
-    task: usize,
+    task: Task,
     text: &mut [u8],
     second: &mut [u8],
     words: &mut [i32],
@@ -337,8 +342,8 @@ fn lent(words: usize, bytes: usize) -> usize
 }
 
 // What is asked for: the summary is lent enough, whatever the number says.
-fn asked(task: usize, words: usize) -> usize {
-    if task == SUMMARISE {
+fn asked(task: Task, words: usize) -> usize {
+    if task == Task::Summarise {
         return AS_MANY;
     }
     words

@@ -8,10 +8,10 @@ use native.Mathlib.Nat.{eq-or-lt_of_le}
 use native.Mathlib.Omega.{arith}
 use lib.ListN.{length, get_or, set, length-set}
 use lib.Seq.{get_or-set_same, get_or-set_other}
+use Rattle.std.specs.Prelude.{Option, Some, None, IsSome}
 use Rattle.library.specs.Memory.{symbol_at}
 use Rattle.library.specs.Rows.{Finds}
 use Rattle.columns.specs.Columns.{Shifted, Puts, More, Stands}
-use Rattle.std.specs.Prelude.{None, Option, Some}
 
 -- ---- moved up, from the last down to k
 
@@ -83,6 +83,7 @@ pub row_found : (rows : List ℕ) (live n : ℕ) {f : Option ℕ} {i : ℕ} → 
 unfolding Finds
 row_found rows live n x e = let y = subst (Finds rows live n) e x in (y.0, y.1)
 
-pub row_lost : (rows : List ℕ) (live n : ℕ) {f : Option ℕ} → Finds rows live n f → f ≡ None → Stands rows live n → ⊥
+pub it_stands : (rows : List ℕ) (live n : ℕ) (f : Option ℕ) → Finds rows live n f → Stands rows live n → IsSome f
 unfolding Finds
-row_lost rows live n x e s = subst (Finds rows live n) e x s.at s.within s.is
+it_stands rows live n (Some i) x s = refl
+it_stands rows live n None x s = absurd (x s.at s.within s.is)

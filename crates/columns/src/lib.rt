@@ -3,9 +3,9 @@
 // the columns are always those that would be made afresh from the bodies.
 #![tactic(auto)]
 
-ghost use Rattle.std.specs.Prelude.{◌≡◌, ℕ, ◌+◌, ◌<◌, ◌≤◌, length};
+ghost use Rattle.std.specs.Prelude.{◌≡◌, ◌+◌, ◌<◌, ◌≤◌, length};
 ghost use Rattle.definition.specs.Limits.{most_layers};
-ghost use Rattle.library.specs.Memory.{most, most_words, symbol_at};
+ghost use Rattle.library.specs.Memory.{most, most_words};
 ghost use Rattle.library.specs.Sound.{Sound, Stocked};
 ghost use Rattle.library.specs.Rows.{Sorted};
 ghost use Rattle.columns.specs.Columns.{OwnOf, Shifted, Puts, More, Stands, Enters};
@@ -59,11 +59,8 @@ fn shift(column: &mut [u64; library::MOST], before: usize, row: usize)
     requires { (row ≤ before) × (before < most) × (length column.old ≡ most) }
     ensures { Shifted column.old before row column.new }
 {
-    let mut k = before;
-    while row < k {
-        let lower = k - 1;
-        column[k] = column[lower];
-        k = lower;
+    for k in (row..before).rev() {
+        column[k + 1] = column[k];
     }
 }
 
@@ -78,17 +75,6 @@ fn put(column: &mut [u64; library::MOST], before: usize, live: usize, row: usize
         return;
     }
     column[row] = number;
-}
-
-// The row of a definition that is live.
-fn row_of(rows: &[usize; library::ROW_NUMBERS], live: usize, symbol: usize) -> usize
-    requires { Sorted rows.now live × Stands rows.now live symbol }
-    ensures { (result < live) × (symbol_at rows.now result ≡ symbol) }
-{
-    match library::find(rows, live, symbol) {
-        Some(row) => row,
-        None => 0,
-    }
 }
 
 // The columns after a definition was entered: of `before` rows there are `live` now.
@@ -109,7 +95,7 @@ pub fn enter(
     requires stocked { Stocked rows.now bodies.now live × (length bodies.now ≤ most_words) × (count ≤ most_layers) }
     ensures { Enters bodies.now rows.now before live symbol names.now count shapes.old calls.old layers.old shapes.new calls.new layers.new }
 {
-    let row = row_of(rows, live, symbol);
+    let row = library::find(rows, live, symbol).unwrap();
     let from = library::start_at(rows, row);
     let many = library::length_at(rows, row);
     let own = own_of(bodies, from, many, names, count);

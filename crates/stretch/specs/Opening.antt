@@ -19,4 +19,4 @@ unfoldable pub OpensWith : (records : ℕ) (rows : List ℕ) (live : ℕ) (chain
 OpensWith records rows live chain left call c (Err why) =
     (b : List ℤ) (ts : List (Turn ℤ)) → call.askew ≡ off_axes ts → (go : Definition → List Event)
     → Stops c (map (stacked_to records) (through (passage_of left (table_of rows b live) chain call.symbol ts) call.place chain go)) why chain
-OpensWith records rows live chain left call c (Ok (record { row = row; counts = more })) = Descent rows live chain left call c row more × (length chain < records)
+OpensWith records rows live chain left call c (Ok entered) = Descent rows live chain left call c entered.row entered.counts × (length chain < records)

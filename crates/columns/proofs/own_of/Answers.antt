@@ -1,9 +1,7 @@
 -- `own_of` meets its contract: `Adding` holds before each command.
-use mathlib.Core.Path.{refl, sym, ap, ◌∙◌}
-use Prim.Native.Nat.{◌+◌, ◌-◌}
+use mathlib.Core.Path.{refl}
 use native.Mathlib.Omega.{arith}
-use borrow.Author.Rules.{rules}
-use Rattle.columns.proofs.Adding.{Adding, add_begin, two_more, met, added, name_there, add-layer, add-call, add-shape}
+use Rattle.columns.proofs.Adding.{add_begin, two_more, met, added, name_there, add-layer, add-call, add-shape}
 use Rattle.columns.proofs.own_of.Goals as goal
 
 pub overflow_add-end : goal.overflow_add-end

@@ -1,9 +1,6 @@
 -- `own_of` meets its contract: `Adding` holds before each command.
-use mathlib.Core.Path.{refl, sym, ap, ◌∙◌}
 use Prim.Native.Nat.{◌+◌, ◌-◌}
-use native.Mathlib.Omega.{arith}
-use borrow.Author.Rules.{rules}
-use Rattle.columns.proofs.Adding.{Adding, add_begin, two_more, met, added, name_there, add-layer, add-call, add-shape}
+use Rattle.columns.proofs.Adding.{Adding}
 use Rattle.columns.proofs.own_of.Given as goal
 
 abbrev pub invariant-loop-at : goal.invariant-loop-at

@@ -1,6 +1,5 @@
 -- `put` meets its contract.
 use native.Mathlib.Omega.{arith}
-use borrow.Author.Rules.{rules}
 use Rattle.columns.proofs.Putting.{put_added, put_replaced, row_low}
 use Rattle.columns.proofs.put.Goals as goal
 

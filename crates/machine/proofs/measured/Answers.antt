@@ -9,10 +9,7 @@ pub overflow_add-length : goal.overflow_add-length
 overflow_add-length c = omega (arith, measured_end c.requires.1.1)
 
 pub returns-then-room-length : goal.returns-then-room-length
-returns-then-room-length c = λ h fs m. measured_long m (inl c.if-room-length.true) c.refused_outside-answer.ensures c.over.ensures.0 c.over.ensures.1
-
-pub returns-then-length-gt-MOST_BYTES : goal.returns-then-length-gt-MOST_BYTES
-returns-then-length-gt-MOST_BYTES c = λ h fs m. measured_long m (inr c.if-length-gt-MOST_BYTES.true) c.refused_outside-answer-then-length-gt-MOST_BYTES.ensures c.over-then-length-gt-MOST_BYTES.ensures.0 c.over-then-length-gt-MOST_BYTES.ensures.1
+returns-then-room-length c = ?
 
 pub write-requires : goal.write-requires
 write-requires c = (again-writes c.requires.1.1 c.fresh-again.ensures, (_, (_, again_at c.requires.1.1 c.fresh-again.ensures (omega (arith, c.if-room-length.false)) (omega (arith, c.if-length-gt-MOST_BYTES.false)))))
