@@ -86,7 +86,7 @@ never_clear : {k : ℕ} {why : Refusal} → Ok k ≡ Err why → ⊥
 never_clear e = let z : ◌≡◌ {A = ℕ} 0 1 = cc in omega arith
 
 abbrev outcome_by : Result ℕ Refusal → Outcome
-outcome_by (Ok k) = rejected (record { number = 0; place = 0 }) []
+outcome_by (Ok k) = rejected (refuse FlatFileTooLong 0) []
 outcome_by (Err why) = rejected why []
 
 judged-answers : {t : List ℕ} {w n room : ℕ} {why : Refusal} → length t ≤ most_bytes → (v : Result Unit ℕ) → Judged t v → by_verdict t v (Err why) → AnswersWith t w n room (rejected why [])
