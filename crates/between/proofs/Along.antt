@@ -43,6 +43,9 @@ pub stops-grows : (ink : Ink) (why : Refusal) → TextGrows ink (Err why)
 unfolding TextGrows
 stops-grows ink why = tt
 
+pub stopped-grows : (ink : Ink) {r : Result Text Refusal} {why : Refusal} → r ≡ Err why → TextGrows ink r
+stopped-grows ink {why = why} e = subst (TextGrows ink) (sym e) (stops-grows ink why)
+
 pub begins_along : {t : List ℕ} {n : ℕ} {rows : List ℕ} {b : List ℤ} (words : List ℤ) {room : List ℕ} {spot : Spot} {l : ℕ} {stock : Stock} {ink : Ink}
     → Pausing t n rows b (stand_at spot l stock) ink room → Along t n rows b words room (stand_at spot l stock) ink rows b words room spot l stock ink
 begins_along words p = record { some = p; along = λ w all r x. x; words_kept = refl; grown = omega arith }

@@ -207,26 +207,26 @@ module _ {t : List ℕ} {w n : ℕ} {all : List Event} {from : Origin} {rows : L
         same_size : length b' ≡ w
         same_size = defines.size ∙ g.size
 
-        pub text-ahead : {stock' : Stock} {c' : Counts} {to' : Spot} → d ≡ Ok (record { stock = stock'; counts = c'; to = to' }) → length t - to'.at < length t - stand.spot.at
+        pub text-ahead : {taken : Taken} → d ≡ Ok taken → length t - taken.to.at < length t - stand.spot.at
         text-ahead f = let x = takes g.stands it_met k start q defines f in omega (arith, x.ahead, x.fit.within, r.ahead)
 
-        pub text-counts : {stock' : Stock} {c' : Counts} {to' : Spot} → d ≡ Ok (record { stock = stock'; counts = c'; to = to' }) → ink.counts.calls ≤ (inked c' ink.pen).counts.calls
+        pub text-counts : {taken : Taken} → d ≡ Ok taken → ink.counts.calls ≤ (inked taken.counts ink.pen).counts.calls
         text-counts f = let x = takes g.stands it_met k start q defines f in omega (arith, x.same_calls)
 
-        pub text_defined : {stock' : Stock} {c' : Counts} {to' : Spot} → d ≡ Ok (record { stock = stock'; counts = c'; to = to' }) → Next rows' b' stock' to' stand.layer (inked c' ink.pen) room
+        pub text_defined : {taken : Taken} → d ≡ Ok taken → Next rows' b' taken.stock taken.to stand.layer (inked taken.counts ink.pen) room
         unfolding after table_after shapes_of
-        text_defined {stock'} {c'} {to'} f =
+        text_defined {taken} f =
             let x = takes g.stands it_met k start q defines f in
             let s = so_far g.going in
             record {
               stands = past_define g.stands it_met k x;
               layer_is = g.layer_is;
               going =
-                  subst (λ (ds : List Deed). After (enter new table) ds (inked c' ink.pen) room) x.passes.left
+                  subst (λ (ds : List Deed). After (enter new table) ds (inked taken.counts ink.pen) room) x.passes.left
                   (does (define new) (deeds (open_there g.stands it_met k) it_met.rest) (define-left g.stands it_met k)
-                  (subst (λ (es : List Event). Painted ink es room [] (Ok (inked c' ink.pen)) room)
+                  (subst (λ (es : List Event). Painted ink es room [] (Ok (inked taken.counts ink.pen)) room)
                   (sym (defined_is n w table new x.few (let h = x.kept.enough in let z = same_size in omega (arith, z, h))))
-                  (quiet ink c' (entered new table) room x.counts_so refl
+                  (quiet ink taken.counts (entered new table) room x.counts_so refl
                   (record { calls_most = omega (arith, s.calls_most, x.same_calls); shapes_most = omega (arith, s.shapes_most, x.same_shapes); place_most = omega (arith, s.place_most, x.same_shapes) }))));
               short = g.short;
               fit = x.fit;
@@ -241,15 +241,18 @@ module _ {t : List ℕ} {w n : ℕ} {all : List Event} {from : Origin} {rows : L
             ends (define new) (deeds (open_there g.stands it_met k) it_met.rest) (define-left g.stands it_met k)
             (subst (λ (es : List Event). Painted ink es room [] (Err why) room) (sym is) (refusal ink _ [] room _ [] refl))
 
-        pub text_overfull : d ≡ (Err TooManyDefinitions) → TextBy t w n all from (Err (record { number = 10; place = place })) rows' b' room
-        unfolding Defines TextCase
-        text_overfull f = record { comes = text-refused _ (overfull_is n w table new (comes g.stands it_met k start q defines f)) }
+        unkept : (rule : Rule) → Defines t rows' b' to (begins g.stands it_met k) ink.counts (text-opens g.stands it_met k) table (Err rule) → Painted from.ink all from.room [] (Err (refuse rule place)) room
+        unfolding Defines
+        unkept TooManyDefinitions h = text-refused _ (overfull_is n w table new h)
+        unkept TooFewWords h = text-refused _ (short_is n w table new h.0 (let z = same_size in let j = h.1 in omega (arith, z, j)))
+        unkept _ h = absurd h
 
-        pub text_short : d ≡ (Err TooFewWords) → TextBy t w n all from (Err (record { number = 25; place = place })) rows' b' room
-        unfolding Defines TextCase
-        text_short f =
-            let x = comes g.stands it_met k start q defines f in
-            record { comes = text-refused _ (short_is n w table new x.0 (let z = same_size in let h = x.1 in omega (arith, z, h))) }
+        barred_by : {rule : Rule} → d ≡ Err rule → TextBy t w n all from (Err (refuse rule place)) rows' b' room
+        unfolding TextCase
+        barred_by {rule} f = record { comes = unkept rule (comes g.stands it_met k start q defines f) }
+
+        pub text-barred : {rule : Rule} {r : Result Text Refusal} → d ≡ Err rule → r ≡ Err (refuse rule place) → TextBy t w n all from r rows' b' room
+        text-barred f is = subst (λ (y : Result Text Refusal). TextBy t w n all from y rows' b' room) (sym is) (barred_by f)
 
     -- ---- any other command
 
@@ -323,9 +326,12 @@ module _ {t : List ℕ} {w n : ℕ} {all : List Event} {from : Origin} {rows : L
           unfolding OuterCase
           text_shown q = text-goes ((outer_by q).comes b)
 
-          pub text-stopped : {why : Refusal} → o ≡ Err why → TextBy t w n all from (Err why) rows b room'
+          text-ended : {why : Refusal} → o ≡ Err why → TextBy t w n all from (Err why) rows b room'
           unfolding OuterCase TextCase
-          text-stopped q = record { comes = text-halts ((outer_by q).comes b) }
+          text-ended q = record { comes = text-halts ((outer_by q).comes b) }
+
+          pub text-stopped : {r : Result Text Refusal} {why : Refusal} → o ≡ Err why → r ≡ Err why → TextBy t w n all from r rows b room'
+          text-stopped q is = subst (λ (y : Result Text Refusal). TextBy t w n all from y rows b room') (sym is) (text-ended q)
 
           pub text-calls : {call : Call} {row : ℕ} {ink' : Ink} → o ≡ Ok (Opens call row ink') → TextBy t w n all from (Ok (Calls (stand_at to stand.layer stand.stock) call row ink')) rows b room'
           unfolding OuterCase TextCase

@@ -55,9 +55,12 @@ unfolding happens drawn_step
 shown_call n rows b live p m ts = refl
 
 -- a refusal counts nothing
-pub refused-grows : (ink : Ink) (why : Refusal) → OuterGrows ink (Err why)
+refused-grows : (ink : Ink) (why : Refusal) → OuterGrows ink (Err why)
 unfolding OuterGrows
 refused-grows ink why = tt
+
+pub stopped-grows : (ink : Ink) {r : Result Outer Refusal} {why : Refusal} → r ≡ Err why → OuterGrows ink r
+stopped-grows ink {why = why} e = subst (OuterGrows ink) (sym e) (refused-grows ink why)
 
 module _ {words : List ℤ} {kind end : ℕ} where
   no_shape : ShapedAt words kind end → kind ≡ call_letter → ⊥
@@ -83,29 +86,32 @@ module _ {words : List ℤ} {kind end : ℕ} where
           ∙ ap (λ (o : Chain). call_story n t 32 o [] call.place call.symbol h.turns) (sym none)
 
       module _ {o : Result Entered Refusal} (x : OpensWith n rows live (open_calls drawing 0) 32 call ink.counts o) where
-        pub outer-refused : {why : Refusal} → o ≡ Err why → OuterComes n rows live words kind place end layer ink room (Err why) room
+        call_refused : {why : Refusal} → o ≡ Err why → OuterComes n rows live words kind place end layer ink room (Err why) room
         unfolding OuterCase
-        outer-refused q s (a_shape h) = absurd (no_shape h e)
-        outer-refused {why} q s (a_call z h) = record {
+        call_refused q s (a_shape h) = absurd (no_shape h e)
+        call_refused {why} q s (a_call z h) = record {
           comes = λ b.
               subst (λ (o : Chain). Painted ink (shown_by n rows b live place (instance (nat_abs h.symbol) h.turns)) room o (Err why) room) none
               (subst (λ (es : List Event). Painted ink es room chain (Err why) room) (sym (is_call h b))
               (call-stopped n rows live drawing 32 call ink x q b [] h.turns (reads h).askew room));
         }
 
-        pub outer-opens : Near 0 still → Reached ink → {row : ℕ} {more : Counts} → o ≡ Ok (record { row = row; counts = more })
-            → OuterComes n rows live words kind place end layer ink room (Ok (Opens call row (inked more ink.pen))) room
+        pub outer-refused : {r : Result Outer Refusal} {why : Refusal} → o ≡ Err why → r ≡ Err why → OuterComes n rows live words kind place end layer ink room r room
+        outer-refused q is = subst (λ (y : Result Outer Refusal). OuterComes n rows live words kind place end layer ink room y room) (sym is) (call_refused q)
+
+        pub outer-opens : Near 0 still → Reached ink → {entered : Entered} → o ≡ Ok entered
+            → OuterComes n rows live words kind place end layer ink room (Ok (Opens call entered.row (inked entered.counts ink.pen))) room
         unfolding OuterCase
         outer-opens near reach q s (a_shape h) = absurd (no_shape h e)
-        outer-opens near reach {row} {more} q s (a_call z h) =
+        outer-opens near reach {entered} q s (a_call z h) =
             let it = instance (nat_abs h.symbol) h.turns in
             record {
               comes = record {
                 led =
-                    subst (λ (o : Chain). Led n live o 32 call row) none
+                    subst (λ (o : Chain). Led n live o 32 call entered.row) none
                     (call-led n rows live drawing 32 call ink x q (near-more (omega arith) ((reads h).near 0 near)));
                 opens = λ b.
-                    subst (λ (o : Chain). OpensCall n rows b live o 32 [] (shown_by n rows b live place it) [] ink room call row (inked more ink.pen) room) none
+                    subst (λ (o : Chain). OpensCall n rows b live o 32 [] (shown_by n rows b live place it) [] ink room call entered.row (inked entered.counts ink.pen) room) none
                     (record {
                       own = h.turns;
                       carries = (reads h).carries [] fixed;
@@ -116,7 +122,7 @@ module _ {words : List ℤ} {kind end : ℕ} where
               };
             }
 
-        pub opens-grows : {row : ℕ} {more : Counts} → o ≡ Ok (record { row = row; counts = more }) → OuterGrows ink (Ok (Opens call row (inked more ink.pen)))
+        pub opens-grows : {entered : Entered} → o ≡ Ok entered → OuterGrows ink (Ok (Opens call entered.row (inked entered.counts ink.pen)))
         unfolding OuterGrows
         opens-grows q = let k = call-counts n rows live drawing 32 call ink x q in omega (arith, k)
 
@@ -131,10 +137,13 @@ module _ {words : List ℤ} {kind end : ℕ} where
       outer_shown q s (a_shape h) = record { comes = λ b. shape-painted q h b }
       outer_shown q s (a_call z h) = absurd (e z)
 
-      pub outer-stopped : {why : Refusal} → d ≡ Err why → OuterComes n rows live words kind place end layer ink room (Err why) room'
+      shape_refused : {why : Refusal} → d ≡ Err why → OuterComes n rows live words kind place end layer ink room (Err why) room'
       unfolding OuterCase
-      outer-stopped q s (a_shape h) = record { comes = λ b. shape-painted q h b }
-      outer-stopped q s (a_call z h) = absurd (e z)
+      shape_refused q s (a_shape h) = record { comes = λ b. shape-painted q h b }
+      shape_refused q s (a_call z h) = absurd (e z)
+
+      pub outer-stopped : {r : Result Outer Refusal} {why : Refusal} → d ≡ Err why → r ≡ Err why → OuterComes n rows live words kind place end layer ink room r room'
+      outer-stopped q is = subst (λ (y : Result Outer Refusal). OuterComes n rows live words kind place end layer ink room y room') (sym is) (shape_refused q)
 
       pub shown_grows : ShapedAt words kind end → {ink' : Ink} → d ≡ Ok ink' → OuterGrows ink (Ok (Shown ink'))
       unfolding OuterGrows

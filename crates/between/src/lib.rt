@@ -13,6 +13,7 @@ ghost use Rattle.engine.specs.Outer.{Says};
 ghost use Rattle.passing.specs.Passed.{outputs};
 ghost use Rattle.between.specs.Texts.{OuterComes, OuterGrows, Pausing, TextComes, TextGrows};
 
+use commands::Decoded;
 use definition::Refusal;
 use keeping::Stock;
 use opening::Call;
@@ -75,7 +76,7 @@ fn draw_outer(
         )?;
         let counted = Ink {
             counts: entered.counts,
-            pen: ink.pen,
+            ..ink
         };
         return Ok(Outer::Opens(call, entered.row, counted));
     }
@@ -87,10 +88,7 @@ fn draw_outer(
 fn draws(kind: u8) -> bool
     ensures { result ≡ outputs kind }
 {
-    if kind == b'C' {
-        return true;
-    }
-    rules::is_shape(kind)
+    kind == b'C' || rules::is_shape(kind)
 }
 
 // A text from where it stands: layers, definitions and deletions change what stands, all else is drawn.
@@ -115,50 +113,45 @@ fn draw_commands(
     let mut layer = stand.layer;
     let mut stock = stand.stock;
     let mut ink = before;
-    loop {
-        match commands::read_command(text, recogniser, words, spot, 1, 1) {
-            None => {
-                return Ok(Text::Over(ink));
-            }
-            Some(c) => {
-                let kind = c.kind;
-                let place = c.place;
-                let end = c.end;
-                let to = c.to;
-                spot = to;
-                if kind == b'L' {
-                    layer = words[2] as u32;
-                } else if kind == b'D' {
-                    let symbol = shapes::size_at(words, 2);
-                    stock = passing::delete(rows, stock, symbol);
-                } else if kind == b'S' {
-                    let start = passing::start_in(words, place);
-                    let taken = keeping::define(
-                        text, recogniser, rows, bodies, stock, start, to, ink.counts,
-                    ).map_err(|rule| Refusal { rule, place })?;
-                    spot = taken.to;
-                    stock = taken.stock;
-                    ink = Ink {
-                        counts: taken.counts,
-                        pen: ink.pen,
-                    };
-                } else if draws(kind) {
-                    match draw_outer(
-                        rows, stock.live, drawing, words, room, records, kind, place, end, layer,
-                        ink,
-                    )? {
-                        Outer::Shown(shown) => {
-                            ink = shown;
-                        }
-                        Outer::Opens(call, row, counted) => {
-                            let on = Stand { spot, layer, stock };
-                            return Ok(Text::Calls(on, call, row, counted));
-                        }
-                    }
+    while let Some(command) = commands::read_command(text, recogniser, words, spot, 1, 1) {
+        let Decoded {
+            kind,
+            place,
+            end,
+            to,
+        } = command;
+        spot = to;
+        if kind == b'L' {
+            layer = words[2] as u32;
+        } else if kind == b'D' {
+            let symbol = shapes::size_at(words, 2);
+            stock = passing::delete(rows, stock, symbol);
+        } else if kind == b'S' {
+            let start = passing::start_in(words, place);
+            let taken = keeping::define(
+                text, recogniser, rows, bodies, stock, start, to, ink.counts,
+            ).map_err(|rule| Refusal { rule, place })?;
+            spot = taken.to;
+            stock = taken.stock;
+            ink = Ink {
+                counts: taken.counts,
+                ..ink
+            };
+        } else if draws(kind) {
+            match draw_outer(
+                rows, stock.live, drawing, words, room, records, kind, place, end, layer, ink,
+            )? {
+                Outer::Shown(shown) => {
+                    ink = shown;
+                }
+                Outer::Opens(call, row, counted) => {
+                    let on = Stand { spot, layer, stock };
+                    return Ok(Text::Calls(on, call, row, counted));
                 }
             }
         }
     }
+    Ok(Text::Over(ink))
 }
 
 // The same, with the tables and the words of one command.

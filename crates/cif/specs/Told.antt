@@ -1,5 +1,5 @@
 -- What a host is told by each function, in the words of crate answer: the contracts of the exported functions cite it.
-use Rattle.std.specs.Prelude.{◌≡◌, List, [], ℕ, eqb, ℤ, length, if◌then◌else◌}
+use Rattle.std.specs.Prelude.{◌≡◌, List, [], ℕ, ℤ, length, Err, Ok, Result}
 use Rattle.grammar.specs.Viable.{Judged}
 use Rattle.definition.specs.declared.Answer.{Answer}
 use Rattle.definition.specs.declared.Refusal.{Refusal}
@@ -18,8 +18,9 @@ use Rattle.machine.specs.States.{no_frame}
 use Rattle.machine.specs.declared.Frame.{Frame}
 use Rattle.listing.specs.Listed.{Listed}
 use Rattle.join.specs.Made.{Made}
-use Rattle.std.specs.Prelude.{Err, Ok, Result}
 use Rattle.join.specs.declared.NotJoined.{NotJoined}
+use Rattle.join.specs.declared.Which.{Which}
+use Rattle.join.specs.declared.Which.TheVariants.{Neither, First, Second}
 
 -- where nothing is drawn there is no length, no counts, no rounded distances, and no call is open
 abbrev pub clean : Answer
@@ -66,13 +67,25 @@ pub record VerdictTold (t words : List ℕ) : Type 0 where  -- `cif_recognise`: 
   pub is : given ≡ answer_of_verdict t verdict
   pub said : words ≡ answer_words given
 
--- a refusal of two texts that are joined, in the text that it is about. 18 is about neither, and its place 0 is on line 1 in column 1 of any text
-abbrev pub refused_in : (first second : List ℕ) → Refusal → (text : ℕ) → List ℕ
-refused_in first second r text = words_about (failure (if eqb text 2 then second else first) r []) text
+-- which of two texts, as word 10 tells it
+abbrev pub which_word : Which → ℕ
+which_word Neither = 0
+which_word First = 1
+which_word Second = 2
+
+-- 18 is about neither, and its place 0 is on line 1 in column 1 of any text
+abbrev pub which_text : (first second : List ℕ) → Which → List ℕ
+which_text first second Neither = first
+which_text first second First = first
+which_text first second Second = second
+
+-- a refusal of two texts that are joined, in the text that it is about
+abbrev pub refused_in : (first second : List ℕ) → NotJoined → List ℕ
+refused_in first second r = words_about (failure (which_text first second r.text) r.refusal []) (which_word r.text)
 
 abbrev pub words_of_join : (first second : List ℕ) → Result ℕ NotJoined → List ℕ
 words_of_join first second (Ok length) = answer_words (success length (counts 0 0 0) 0)
-words_of_join first second (Err (record { refusal = r; text = text })) = refused_in first second r text
+words_of_join first second (Err r) = refused_in first second r
 
 pub record JoinTold (first second room words left : List ℕ) : Type 0 where  -- `cif_join`: the joined text in the room, and its length; or a refusal
   pub answer : Result ℕ NotJoined

@@ -7,7 +7,7 @@ ghost use Rattle.answer.specs.Words.{answer_words};
 ghost use Rattle.cif.specs.Told.{FlattenTold, StackedTold, ListTold, RefusalTold, VerdictTold, JoinTold, SummaryTold, WhyTold, answer_of_fault, answer_of_verdict, refused_in, words_of_join};
 
 use definition::{Answer, Refusal, Rule};
-use join::NotJoined;
+use join::{NotJoined, Which};
 use machine::Frame;
 
 // A check makes no flat file and counts nothing, and no call is open.
@@ -23,11 +23,16 @@ fn fault_answer(text: &[u8], fault: Result<usize, Refusal>) -> Answer
 fn verdict_answer(text: &[u8], verdict: Result<(), usize>) -> Answer
     ensures { result ≡ answer_of_verdict text.now verdict }
 {
-    let fault = verdict.map(|_| 0).map_err(|place| Refusal {
-        rule: Rule::NotInGrammar,
-        place,
-    });
-    fault_answer(text, fault)
+    match verdict {
+        Ok(()) => fault_answer(text, Ok(0)),
+        Err(place) => {
+            let refusal = Refusal {
+                rule: Rule::NotInGrammar,
+                place,
+            };
+            fault_answer(text, Err(refusal))
+        }
+    }
 }
 
 // The whole reader: the flat file comes to stand in the room, the answer in its words, and the words lent for bodies are all zero. All is settled:
@@ -44,13 +49,6 @@ pub fn cif_flatten(
     *answer = answer::words(given);
 }
 
-// What a host is told of an answer.
-fn tell(answer: &mut [u64; answer::WORDS], told: Answer)
-    ensures { answer.new ≡ answer_words told }
-{
-    *answer = answer::words(told);
-}
-
 // The whole reader without deep calls (RULES 8, request 7): the open calls stand in records that the host lends, one for each level, which are all zero afterwards. All is
 // settled: `stacked_told_once`; and with at least 32 records it is what `cif_flatten` tells: `both_engines`.
 pub fn cif_flatten_stacked(
@@ -62,8 +60,8 @@ pub fn cif_flatten_stacked(
 )
     ensures { StackedTold text.now words.old room.old records.old answer.new words.new room.new records.new }
 {
-    let given = frames::flatten(text, words, room, records);
-    tell(answer, given);
+    let told = frames::flatten(text, words, room, records);
+    *answer = answer::words(told);
 }
 
 // The lines of the list program, of a text, an answer's words and its flat file: as far as `out` reaches, and how many bytes they are whatever its length.
@@ -98,16 +96,17 @@ pub fn cif_recognise(text: &[u8], answer: &mut [u64; answer::WORDS])
     *answer = answer::words(given);
 }
 
-// A refusal of two texts that are joined: line and column are those of the text that it is about.
-fn refusal_words(first: &[u8], second: &[u8], refusal: Refusal, text: usize) -> [u64; answer::WORDS]
-    ensures { result ≡ refused_in first.now second.now refusal text }
+// A refusal of two texts that are joined: line and column are those of the text that it is about, which word 10 tells.
+fn refusal_words(first: &[u8], second: &[u8], not_joined: NotJoined) -> [u64; answer::WORDS]
+    ensures { result ≡ refused_in first.now second.now not_joined }
 {
-    if text == join::SECOND {
-        let given = answer::refused_outside(second, refusal, counts::no_counts());
-        return answer::words_about(given, text);
-    }
-    let given = answer::refused_outside(first, refusal, counts::no_counts());
-    answer::words_about(given, text)
+    let (text, which) = match not_joined.text {
+        Which::Neither => (first, 0),
+        Which::First => (first, 1),
+        Which::Second => (second, 2),
+    };
+    let given = answer::refused_outside(text, not_joined.refusal, counts::no_counts());
+    answer::words_about(given, which)
 }
 
 fn join_words(first: &[u8], second: &[u8], made: Result<usize, NotJoined>) -> [u64; answer::WORDS]
@@ -115,7 +114,7 @@ fn join_words(first: &[u8], second: &[u8], made: Result<usize, NotJoined>) -> [u
 {
     match made {
         Ok(length) => answer::words(answer::accepted(length, counts::no_counts(), 0)),
-        Err(not_joined) => { refusal_words(first, second, not_joined.refusal, not_joined.text) }
+        Err(not_joined) => refusal_words(first, second, not_joined),
     }
 }
 

@@ -8,15 +8,14 @@ ghost use Rattle.machine.specs.States.{no_frame};
 
 use definition::Answer;
 use machine::Frame;
+use std::mem;
 
 // A record onto a slot, for what stood there. A push puts the caller's, a pop puts the zero record.
 pub fn exchange(records: &mut [Frame], slot: usize, put: Frame) -> Frame
     requires { slot < length records.old }
     ensures { (result ≡ get_or records.old slot no_frame) × (records.new ≡ set records.old slot put) }
 {
-    let old = records[slot];
-    records[slot] = put;
-    old
+    mem::replace(&mut records[slot], put)
 }
 
 // The whole reader, with the host's records for a stack. They are all zero afterwards, refused or not, whatever stood in them.

@@ -1,31 +1,15 @@
 // The reader by the machine of open calls, with records of its own (RULES 8, request 7): what a program calls that cannot lend records, and the pattern of every other client
-// of the machine. A function that keeps the records in a local array is covered; one that is lent them is not (crate frames).
+// of the machine.
 #![tactic(auto)]
 
-ghost use Rattle.std.specs.Prelude.{◌≡◌, ◌≤◌};
-ghost use Rattle.machine.specs.States.{no_frame};
+ghost use Rattle.std.specs.Prelude.{◌≤◌};
 ghost use Rattle.local.specs.Within.{Begun, Runs, Within};
 
 use definition::Answer;
-use machine::{Frame, State};
+use machine::State;
 
 // The most records: as many as `batch` lends, and more than are ever needed.
 pub const MOST_RECORDS: usize = 64;
-
-fn no_record() -> Frame
-    ensures { result ≡ no_frame }
-{
-    Frame {
-        place: 0,
-        symbol: 0,
-        at: 0,
-        end: 0,
-        layer: 0,
-        turn: 0,
-        tx: 0,
-        ty: 0,
-    }
-}
 
 // On from a state to its end, with so many records that are all zero. The state is begun by the caller, so that the room is here as it was when the loop begins.
 pub fn run(
@@ -39,14 +23,12 @@ pub fn run(
     requires { Begun text.now begun records rows.old words.old room.old × (records ≤ 64) }
     ensures { Runs text.now begun records rows.old words.old room.old result words.new room.new }
 {
-    let none = no_record();
-    let mut frames = [none; MOST_RECORDS];
+    let mut frames = [machine::NO_FRAME; MOST_RECORDS];
     let mut s = begun;
     while s.going {
         let slot = s.slot;
         let old = frames[slot];
-        let put = s.put;
-        frames[slot] = put;
+        frames[slot] = s.put;
         s = machine::turn(text, rows, words, room, s, old);
     }
     s
@@ -60,6 +42,5 @@ pub fn flatten(text: &[u8], words: &mut [i32], room: &mut [u8], records: usize) 
     let mut rows = [0usize; library::ROW_NUMBERS];
     let s = machine::begin(text, &mut rows, words, room, records);
     let over = run(text, &mut rows, words, room, s, records);
-    let answer = over.answer;
-    answer
+    over.answer
 }

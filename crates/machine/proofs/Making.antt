@@ -53,9 +53,6 @@ pub stopped_so : (t : List ℕ) (why : Refusal) {c : Course} {here : Here} {b : 
     → Unwinds a c here b r b' → Unwinds (failure t why (open_in c)) c here b r b'
 stopped_so t why {c} {here} {b} {r} {b'} run e s u = subst (λ (x : Answer). Unwinds x c here b r b') (e ∙ ap (failure t why) s.chain_is) u
 
-pub stopped-here : {a : Answer} {c : Course} {here there : Here} {b : List ℤ} {r : State} {b' : List ℤ} → here ≡ there → Unwinds a c here b r b' → Unwinds a c there b r b'
-stopped-here {a} {c} {here} {there} {b} {r} {b'} e u = subst (λ (x : Here). Unwinds a c x b r b') e u
-
 pub frame-told : (call : Call) (on : Here) {turn : ℕ} {x y : ℤ} → turn ≡ turn_of on.net → x ≡ on.net.tx → y ≡ on.net.ty
     → record { place = call.place; symbol = call.symbol; at = on.at; end = on.end; layer = on.layer; turn = turn; tx = x; ty = y } ≡ frame_of call on
 frame-told call on e p q = λ i. record { place = call.place; symbol = call.symbol; at = on.at; end = on.end; layer = on.layer; turn = e i; tx = p i; ty = q i }

@@ -39,6 +39,18 @@ pub struct Frame {
     pub ty: i64,
 }
 
+// A record that keeps no call.
+pub const NO_FRAME: Frame = Frame {
+    place: 0,
+    symbol: 0,
+    at: 0,
+    end: 0,
+    layer: 0,
+    turn: 0,
+    tx: 0,
+    ty: 0,
+};
+
 // Why a record goes to a slot.
 #[derive(Clone, Copy)]
 pub enum Kind {
@@ -83,10 +95,7 @@ const LAST_LINE: usize = 2;
 fn bit(b: bool, worth: usize) -> usize
     ensures { result ≡ bit_of b worth }
 {
-    if b {
-        return worth;
-    }
-    0
+    if b { worth } else { 0 }
 }
 
 fn odd(n: usize) -> bool
@@ -186,20 +195,10 @@ fn zero_at(
 ) -> State
     ensures { result ≡ zero_at going slot answer kind here course }
 {
-    let put = Frame {
-        place: 0,
-        symbol: 0,
-        at: 0,
-        end: 0,
-        layer: 0,
-        turn: 0,
-        tx: 0,
-        ty: 0,
-    };
     State {
         going,
         slot,
-        put,
+        put: NO_FRAME,
         answer,
         kind,
         here,
@@ -208,28 +207,23 @@ fn zero_at(
 }
 
 // No body is open, or none goes on by the state: the text's record, and that of every state that is no refusal in a body.
-fn nowhere() -> Here
-    ensures { result ≡ no_here }
-{
-    let net = turns::Net {
+const NOWHERE: Here = Here {
+    at: 0,
+    end: 0,
+    layer: 0,
+    net: turns::Net {
         swap: false,
         negx: false,
         negy: false,
         tx: 0,
         ty: 0,
-    };
-    Here {
-        at: 0,
-        end: 0,
-        layer: 0,
-        net,
-    }
-}
+    },
+};
 
 fn zero_to(going: bool, slot: usize, answer: Answer, kind: Kind, course: Course) -> State
     ensures { result ≡ zero_to going slot answer kind course }
 {
-    zero_at(going, slot, answer, kind, nowhere(), course)
+    zero_at(going, slot, answer, kind, NOWHERE, course)
 }
 
 // Nothing more is put anywhere: the words are cleared, and the answer stands.
@@ -259,18 +253,7 @@ fn over_at(bodies: &mut [i32], answer: Answer, here: Here, records: usize) -> St
 fn at_level(c: Course, level: usize, ink: Ink) -> Course
     ensures { result ≡ at_level c level ink }
 {
-    let stand = c.stand;
-    let run = c.run;
-    Course {
-        records: c.records,
-        writing: c.writing,
-        rounded: c.rounded,
-        earlier: c.earlier,
-        level,
-        stand,
-        ink,
-        run,
-    }
+    Course { level, ink, ..c }
 }
 
 // After a refusal the records go to zero one by one, the innermost first.
@@ -281,14 +264,13 @@ fn unwind(bodies: &mut [i32], answer: Answer, c: Course, here: Here) -> State
     if level == 0 {
         return over_at(bodies, answer, here, c.records);
     }
-    let ink = c.ink;
     zero_at(
         true,
         level - 1,
         answer,
         Kind::Unwind,
         here,
-        at_level(c, level - 1, ink),
+        at_level(c, level - 1, c.ink),
     )
 }
 
@@ -308,8 +290,7 @@ fn stopped_outside(text: &[u8], bodies: &mut [i32], c: Course, refusal: Refusal)
     requires { (length c.run ≡ run_length) × (c.level ≤ deepest) }
     ensures { Unwinds (failure text.now refusal (open_in c)) c no_here bodies.old result bodies.new }
 {
-    let here = nowhere();
-    stopped(text, bodies, c, refusal, here)
+    stopped(text, bodies, c, refusal, NOWHERE)
 }
 
 // A body is at its end: its record is taken back.
@@ -348,14 +329,11 @@ fn pushed(
     let mut run = c.run;
     chain::push(&mut run, c.level, call.place, call.symbol);
     let course = Course {
-        records: c.records,
-        writing: c.writing,
-        rounded: c.rounded,
-        earlier: c.earlier,
         level: c.level + 1,
         stand,
         ink,
         run,
+        ..c
     };
     let none = answer::accepted(0, counts::no_counts(), 0);
     State {
@@ -375,10 +353,7 @@ fn pushed(
 fn seen(writing: bool, length: usize) -> usize
     ensures { result ≡ seen_of writing length }
 {
-    if writing {
-        return length;
-    }
-    0
+    if writing { length } else { 0 }
 }
 
 // The open body from where it stands.
@@ -394,20 +369,17 @@ fn body_stretch(
 {
     let lent = passing::at_most(bodies.len());
     let onto = seen(c.writing, room.len());
-    let stand = c.stand;
-    let ink = c.ink;
-    let run = c.run;
     let left = definition::DEEPEST - c.level;
     stretch::draw_body(
         &bodies[0..lent],
         rows,
-        stand.stock.live,
-        &run,
+        c.stand.stock.live,
+        &c.run,
         &mut room[0..onto],
         left,
         c.records,
         here,
-        ink,
+        c.ink,
     )
 }
 
@@ -424,18 +396,15 @@ fn text_stretch(
 {
     let lent = passing::at_most(bodies.len());
     let onto = seen(c.writing, room.len());
-    let stand = c.stand;
-    let ink = c.ink;
-    let run = c.run;
     between::draw_text(
         text,
         rows,
         &mut bodies[0..lent],
-        &run,
+        &c.run,
         &mut room[0..onto],
         c.records,
-        stand,
-        ink,
+        c.stand,
+        c.ink,
     )
 }
 
@@ -456,10 +425,7 @@ fn body_on(
     match body_stretch(rows, bodies, room, c, here) {
         Err(refusal) => stopped(text, bodies, c, refusal, here),
         Ok(Body::Ends(ink)) => popped(c, ink),
-        Ok(Body::Calls(on, call, row, ink)) => {
-            let stand = c.stand;
-            pushed(rows, c, stand, on, call, row, ink)
-        }
+        Ok(Body::Calls(on, call, row, ink)) => { pushed(rows, c, c.stand, on, call, row, ink) }
     }
 }
 
@@ -488,7 +454,7 @@ fn write(
     match text_stretch(text, rows, bodies, room, c) {
         Err(refusal) => stopped_outside(text, bodies, c, refusal),
         Ok(Text::Over(ink)) => written(bodies, room, c, ink),
-        Ok(Text::Calls(stand, call, row, ink)) => pushed(rows, c, stand, nowhere(), call, row, ink),
+        Ok(Text::Calls(stand, call, row, ink)) => pushed(rows, c, stand, NOWHERE, call, row, ink),
     }
 }
 
@@ -505,15 +471,11 @@ fn measured(
     ensures { MeasuredOn text.now c ink rows.old bodies.old room.old result rows.new bodies.new room.new }
 {
     let length = ink.pen.at + LAST_LINE;
-    let over_long = Refusal {
-        rule: Rule::FlatFileTooLong,
-        place: 0,
-    };
-    if room.len() < length {
-        let answer = answer::refused_outside(text, over_long, counts::no_counts());
-        return over(bodies, answer, c.records);
-    }
-    if definition::MOST_BYTES < length {
+    if room.len() < length || definition::MOST_BYTES < length {
+        let over_long = Refusal {
+            rule: Rule::FlatFileTooLong,
+            place: 0,
+        };
         let answer = answer::refused_outside(text, over_long, counts::no_counts());
         return over(bodies, answer, c.records);
     }
@@ -536,7 +498,7 @@ fn measure(
     match text_stretch(text, rows, bodies, room, c) {
         Err(refusal) => stopped_outside(text, bodies, c, refusal),
         Ok(Text::Over(ink)) => measured(text, rows, bodies, room, c, ink),
-        Ok(Text::Calls(stand, call, row, ink)) => pushed(rows, c, stand, nowhere(), call, row, ink),
+        Ok(Text::Calls(stand, call, row, ink)) => pushed(rows, c, stand, NOWHERE, call, row, ink),
     }
 }
 
@@ -551,9 +513,10 @@ fn text_on(
     ensures { TextOn text.now c rows.old bodies.old room.old result rows.new bodies.new room.new }
 {
     if c.writing {
-        return write(text, rows, bodies, room, c);
+        write(text, rows, bodies, room, c)
+    } else {
+        measure(text, rows, bodies, room, c)
     }
-    measure(text, rows, bodies, room, c)
 }
 
 // A body was at its end, and what stood at the slot is at hand: the text goes on, or the body of the record.
@@ -664,18 +627,10 @@ pub fn turn(
     ensures { Turns text.now s old rows.old bodies.old room.old result rows.new bodies.new room.new }
 {
     let c = s.course;
-    let kind = s.kind;
-    match kind {
+    match s.kind {
         Kind::Clear => clear(text, rows, bodies, room, c.records, c.earlier, s.slot + 1),
-        Kind::Push => {
-            let here = s.here;
-            body_on(text, rows, bodies, room, c, here)
-        }
+        Kind::Push => body_on(text, rows, bodies, room, c, s.here),
         Kind::Pop => back_on(text, rows, bodies, room, c, old),
-        Kind::Unwind => {
-            let answer = s.answer;
-            let here = s.here;
-            unwind(bodies, answer, c, here)
-        }
+        Kind::Unwind => unwind(bodies, s.answer, c, s.here),
     }
 }

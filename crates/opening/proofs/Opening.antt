@@ -2,6 +2,7 @@
 -- another, and whoever draws a call goes on from `Opens` alone.
 -- Assumes nothing.
 use Rattle.std.specs.Prelude.{if◌then◌else◌, Option, Some, None, Result, Ok, Err}
+use Rattle.std.specs.Result.{result_ok}
 use mathlib.Core.Path.{◌≡◌, refl, sym, ap, ◌∙◌, subst}
 use mathlib.Core.Bool.{Bool, true, false}
 use mathlib.Core.List.{List, [], ◌∷◌}
@@ -22,6 +23,7 @@ use Rattle.definition.specs.Limits.{most_calls}
 use Rattle.definition.specs.declared.Rule.TheVariants.{OffTheAxes, UndefinedSymbol, BeingDrawn, TooDeep, TooManyCalls}
 use Rattle.definition.specs.Rules.{refuse}
 use Rattle.definition.specs.declared.Rule.{Rule}
+use Rattle.definition.specs.declared.Refusal.{Refusal}
 use Rattle.counts.specs.declared.Counts.{Counts}
 use Rattle.counts.specs.Counting.{tally, CountsCall}
 use Rattle.counts.proofs.ByValue.{call-goes, call-stops}
@@ -29,7 +31,11 @@ use Rattle.library.specs.Memory.{definition_at, table_of}
 use Rattle.library.specs.Rows.{Finds}
 use Rattle.library.proofs.Looking.{not_found, found}
 use Rattle.opening.specs.declared.Call.{Call}
-use Rattle.opening.specs.Opening.{Stops, Opens}
+use Rattle.opening.specs.Opening.{entered_at, Stops, Opens}
+
+-- the row that was found, where `ok_or` gives it on
+pub row_is : {r : Option ℕ} {s : Result ℕ Refusal} {row : ℕ} → r ≡ result_ok s → s ≡ Ok row → r ≡ Some row
+row_is v w = v ∙ ap result_ok w
 
 -- ---- the definition's events of a call
 
@@ -88,7 +94,7 @@ module _ (rows : List ℕ) (live : ℕ) (chain : Chain) (call : Call) (left : �
                   stops = call-stops c count rule full call.place chain d;
                 }
 
-            pub goes_down : {more : Counts} → a ≡ Ok more → Opens rows live chain left call c (Ok (record { row = row; counts = more }))
+            pub goes_down : {more : Counts} → a ≡ Ok more → Opens rows live chain left call c (Ok (entered_at row more))
             unfolding Opens
             goes_down {more} e = record {
               finds = subst (Finds rows live call.symbol) q finds;

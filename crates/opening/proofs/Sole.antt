@@ -20,7 +20,7 @@ use Rattle.library.specs.Memory.{definition_at, table_of}
 use Rattle.library.specs.Rows.{Finds}
 use Rattle.opening.specs.declared.Call.{Call}
 use Rattle.opening.specs.Calls.{ReadsCall}
-use Rattle.opening.specs.Opening.{Stops, Descent, Opens}
+use Rattle.opening.specs.Opening.{entered_at, Stops, Descent, Opens}
 use Rattle.opening.proofs.Opening.{called-first}
 use Rattle.opening.proofs.Witnesses.{some_list, turned_by, turned_so}
 use Rattle.opening.specs.declared.Entered.{Entered}
@@ -61,13 +61,13 @@ module _ (rows : List ℕ) (live : ℕ) (chain : Chain) (left : ℕ) (call : Cal
   opens_sole (Err why) (Err other) x y =
       let fits = turned_so call.askew in
       ap Err (stops_once (x [] fitting fits (λ e. [])) (y [] fitting fits (λ e. [])))
-  opens_sole (Err why) (Ok (record { row = row; counts = more })) x y = absurd (refused_or_led why row more x y)
-  opens_sole (Ok (record { row = row; counts = more })) (Err why) x y = absurd (refused_or_led why row more y x)
-  opens_sole (Ok (record { row = row; counts = more })) (Ok (record { row = other; counts = less })) x y =
-      let e : row ≡ other = first-row rows live call.symbol row other x.finds y.finds in
-      let d = definition_at rows [] row in
-      let q : more ≡ less = counts-told more less (sym (x.counts_it d) ∙ y.counts_it d) in
-      cc
+  opens_sole (Err why) (Ok b) x y = absurd (refused_or_led why b.row b.counts x y)
+  opens_sole (Ok a) (Err why) x y = absurd (refused_or_led why a.row a.counts y x)
+  opens_sole (Ok a) (Ok b) x y =
+      let e : a.row ≡ b.row = first-row rows live call.symbol a.row b.row x.finds y.finds in
+      let d = definition_at rows [] a.row in
+      let q : a.counts ≡ b.counts = counts-told a.counts b.counts (sym (x.counts_it d) ∙ y.counts_it d) in
+      λ i. Ok (entered_at (e i) (q i))
 
 -- ---- what a call's words say
 

@@ -16,6 +16,9 @@ use Rattle.library.specs.Rows.{Finds}
 use Rattle.opening.specs.declared.Call.{Call}
 use Rattle.opening.specs.declared.Entered.{Entered}
 
+abbrev pub entered_at : ℕ → Counts → Entered
+entered_at row more = record { row = row; counts = more }
+
 -- the first of these events is refused
 pub record Stops (c : Counts) (es : List Event) (why : Refusal) (chain : Chain) : Type 0 where
   pub event : Event
@@ -35,4 +38,4 @@ unfoldable pub Opens : (rows : List ℕ) (live : ℕ) (chain : Chain) (left : �
 Opens rows live chain left call c (Err why) =
     (b : List ℤ) (ts : List (Turn ℤ)) → call.askew ≡ off_axes ts → (go : Definition → List Event)
     → Stops c (through (passage_of left (table_of rows b live) chain call.symbol ts) call.place chain go) why chain
-Opens rows live chain left call c (Ok (record { row = row; counts = more })) = Descent rows live chain left call c row more
+Opens rows live chain left call c (Ok entered) = Descent rows live chain left call c entered.row entered.counts

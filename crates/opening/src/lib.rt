@@ -81,6 +81,6 @@ pub fn open_call(
             place,
         });
     }
-    let counts = counts::count_call(counts).map_err(|rule| Refusal { rule, place })?;
-    Ok(Entered { row, counts })
+    let more = counts::count_call(counts).map_err(|rule| Refusal { rule, place })?;
+    Ok(Entered { row, counts: more })
 }

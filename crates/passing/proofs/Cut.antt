@@ -1,6 +1,6 @@
 -- No text needs more words than it has bytes, so to lend more than that changes nothing: a run may be cut to the most words that any text needs.
 -- Assumes nothing.
-use Rattle.std.specs.Prelude.{if◌then◌else◌}
+use Rattle.std.specs.Prelude.{if◌then◌else◌, Result}
 use mathlib.Core.Path.{◌≡◌, refl, sym, ap, ◌∙◌, subst}
 use mathlib.Core.Bool.{Bool, true, false}
 use mathlib.Core.List.{List, map}
@@ -8,16 +8,15 @@ use Prim.Native.Nat.{ℕ, ◌-◌, ◌≤◌}
 use native.Mathlib.Omega.{arith}
 use borrow.Author.Tests.{ltb-true, ltb-false}
 use lib.Dec.{ltb}
+use Rattle.definition.specs.declared.Refusal.{Refusal}
 use Rattle.definition.specs.Drawing.{Event}
 use Rattle.definition.specs.Held.{held_to}
 use Rattle.laws.proofs.Commands.WordsWithin.{held-within}
 use Rattle.keeping.specs.Keeping.{most_words}
 use Rattle.chain.specs.Chain.{chain_in}
+use Rattle.shapes.specs.declared.Ink.{Ink}
 use Rattle.shapes.specs.Painting.{Painted}
 use Rattle.passing.specs.Passed.{Passed, to_draw, dry, TextDraws, lent_of}
-use Rattle.std.specs.Prelude.{Result}
-use Rattle.definition.specs.declared.Refusal.{Refusal}
-use Rattle.shapes.specs.declared.Ink.{Ink}
 
 held_cut : {t : List ℕ} (p : Passed t) (words : ℕ) → most_words ≤ words → map (held_to most_words) (to_draw p) ≡ map (held_to words) (to_draw p)
 held_cut p words h = held-within p.marked most_words p.short ∙ sym (held-within p.marked words (let s = p.short in omega (arith, s, h)))

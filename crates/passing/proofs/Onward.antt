@@ -1,5 +1,6 @@
 -- A text drawn command by command, outside its definitions: what is left from here is what was to be drawn at its start, held to the words lent.
 -- Assumes nothing.
+use Rattle.std.specs.Prelude.{Result, Ok, Err}
 use mathlib.Core.Path.{◌≡◌, refl, sym, ap, ◌∙◌, subst}
 use mathlib.Core.Bool.{true, false}
 use mathlib.Core.List.{List, [], ◌∷◌, ◌++◌, map}
@@ -8,9 +9,11 @@ use native.Mathlib.Omega.{arith}
 use borrow.Author.Tests.{lt-ltb, le-ltb}
 use lib.IntN.{ℤ, nat_abs}
 use lib.ListN.{length}
+use Rattle.definition.specs.declared.Rule.{Rule}
+use Rattle.definition.specs.declared.Rule.TheVariants.{TooManyDefinitions, TooFewWords}
+use Rattle.definition.specs.declared.Refusal.{Refusal}
 use Rattle.definition.specs.Limits.{most_definitions}
 use Rattle.definition.specs.Words.{Placed, at}
-use Rattle.definition.specs.declared.Rule.TheVariants.{TooManyDefinitions, TooFewWords}
 use Rattle.definition.specs.Rules.{refuse}
 use Rattle.definition.specs.Commands.{Number, Command, layer, delete}
 use Rattle.definition.specs.Standing.{Standing, after}
@@ -18,7 +21,6 @@ use Rattle.definition.specs.Table.{Step, Definition, Table, enter}
 use Rattle.definition.specs.Drawing.{Deed, output, define, remove, deeds, Chain, Event, entered, removed, refused, happens, table_after, story}
 use Rattle.definition.specs.Counts.{counted, shapes_of}
 use Rattle.definition.specs.Held.{words_in, held_to}
-use Rattle.definition.specs.declared.Refusal.{Refusal}
 use Rattle.laws.proofs.Story.HeldStory.{held-output, held-remove, held-define, held-story}
 use Rattle.laws.proofs.Story.Lean.{alike_output}
 use Rattle.names.specs.Names.{name_of}
@@ -37,7 +39,7 @@ use Rattle.shapes.proofs.Painting.{PaintedSoFar, begun, so_far, goes_on, skips, 
 use Rattle.shapes.proofs.Alike.{alike_painted}
 use Rattle.library.specs.Memory.{row_numbers}
 use Rattle.library.proofs.Holding.{held-table}
-use Rattle.keeping.specs.Keeping.{most_words, Takes}
+use Rattle.keeping.specs.Keeping.{most_words, Takes, Defines}
 use Rattle.keeping.specs.declared.Stock.{Stock}
 use Rattle.engine.specs.Outer.{Says, OuterDraws}
 use Rattle.passing.specs.Passed.{Passed, to_draw, dry, outputs, Deletes}
@@ -45,7 +47,6 @@ use Rattle.passing.proofs.Reading.{Met, none_met}
 use Rattle.passing.proofs.Stands.{Stands, nothing_kept, to_do, at_start, deeds_are, past_layer, layer-left, past_delete, delete-left, past_other, begins, open_there, text-opens, made, define-left, past_define}
 use Rattle.passing.proofs.Outer.{is_output, is_idle}
 use Rattle.passing.proofs.Redefinitions.{painted_same}
-use Rattle.std.specs.Prelude.{Err, Ok, Result}
 
 -- ---- between two commands: where the pass stands, the packed layer, the ink and the room as they are
 
@@ -168,12 +169,13 @@ module _ {t : List ℕ} {w : ℕ} {all : List Event} {room₀ rows : List ℕ} {
           ends (define new) (deeds (open_there g.stands m e) m.rest) (define-left g.stands m e)
           (subst (λ (es : List Event). Painted ink es room [] (Err why) room) (sym is) (refusal ink _ [] room _ [] refl))
 
-      pub text_overfull : most_definitions < length (enter new g.stands.table) → Painted dry (map (held_to w) all) room₀ [] (Err (record { number = 10; place = p })) room
-      text_overfull h = text-refused _ (overfull_is w g.stands.table new h)
-
-      pub text_short : length (enter new g.stands.table) ≤ most_definitions → w < words_in (enter new g.stands.table)
-          → Painted dry (map (held_to w) all) room₀ [] (Err (record { number = 25; place = p })) room
-      text_short h j = text-refused _ (short_is w g.stands.table new h j)
+      pub text-unkept : (rows' : List ℕ) (b' : List ℤ) → length b' ≡ w → (rule : Rule)
+          → Defines t rows' b' to (begins g.stands m e) ink.counts (text-opens g.stands m e) g.stands.table (Err rule)
+          → Painted dry (map (held_to w) all) room₀ [] (Err (refuse rule p)) room
+      unfolding Defines
+      text-unkept rows' b' size TooManyDefinitions h = text-refused _ (overfull_is w g.stands.table new h)
+      text-unkept rows' b' size TooFewWords h = text-refused _ (short_is w g.stands.table new h.0 (let j = h.1 in omega (arith, size, j)))
+      text-unkept rows' b' size _ h = absurd h
 
     -- ---- any other command
 

@@ -1,6 +1,7 @@
 -- What the loop of `draw_text` keeps: however the text is marked, what is left from here is what was to be drawn (proofs/Onward.antt). The memory and the
 -- runs are lent to callees, so what they ask for is kept beside it; and so is that no more definitions were replaced than bytes were read.
 -- Assumes nothing.
+use Rattle.std.specs.Prelude.{Option, None, Result, Ok, Err}
 use mathlib.Core.Path.{◌≡◌, refl, sym, ap, ◌∙◌, subst}
 use mathlib.Core.Bool.{true, false}
 use mathlib.Core.List.{List, [], map}
@@ -13,18 +14,21 @@ use lib.Signed.{non_neg}
 use mir.Syntax.{w32}
 use mir.Val.{Fits, SFits, to_z, of_z}
 use mir.Facts.{to_z-of_z}
+use Rattle.definition.specs.declared.Rule.{Rule}
+use Rattle.definition.specs.declared.Refusal.{Refusal}
 use Rattle.definition.specs.Limits.{deepest}
+use Rattle.definition.specs.Rules.{refuse}
 use Rattle.definition.specs.Commands.{layer}
 use Rattle.definition.specs.Table.{Step}
 use Rattle.definition.specs.Drawing.{Chain}
 use Rattle.definition.specs.Held.{held_to}
-use Rattle.definition.specs.declared.Refusal.{Refusal}
 use Rattle.names.specs.Names.{name_of}
 use Rattle.pieces.specs.Pieces.{letter_s, too_large, Fit}
 use Rattle.pieces.specs.Pieces.{start as text_start}
 use Rattle.pieces.specs.declared.Spot.{Spot}
 use Rattle.rules.specs.Letters.{letter_d, letter_l}
 use Rattle.rules.specs.Written.{Written}
+use Rattle.commands.specs.declared.Decoded.{Decoded}
 use Rattle.commands.specs.Words.{DecodedOne, ReadsCommand}
 use Rattle.counts.specs.declared.Counts.{Counts}
 use Rattle.moves.specs.Moves.{most_values}
@@ -37,18 +41,14 @@ use Rattle.library.specs.Rows.{Sorted}
 use Rattle.keeping.specs.Keeping.{most_words, Begins, Takes, Defines, DefinesAt}
 use Rattle.keeping.specs.declared.Start.{Start}
 use Rattle.keeping.specs.declared.Stock.{Stock}
+use Rattle.keeping.specs.declared.Taken.{Taken}
 use Rattle.engine.specs.Draws.{Ready}
 use Rattle.engine.specs.Outer.{Says, OuterDraws}
 use Rattle.passing.specs.Passed.{Passed, to_draw, dry, outputs, start_in, Deletes, TextDraws, RefusedOutside}
 use Rattle.passing.proofs.Letters.{is_delete}
 use Rattle.passing.proofs.Reading.{Met, run_kept, read_none, third_word, met_layer}
 use Rattle.passing.proofs.Stands.{nothing_kept, deletable, met, text-opens, start-within, may_define, comes, takes}
-use Rattle.passing.proofs.Onward.{Onward, start-text, text_out, text-layer, text-delete, text_defined, text_overfull, text_short, text-idle, text_says, text_same, text-drawn, text-stopped}
-use Rattle.std.specs.Prelude.{Err, None, Ok, Option, Result}
-use Rattle.commands.specs.declared.Decoded.{Decoded}
-use Rattle.keeping.specs.declared.Taken.{Taken}
-use Rattle.definition.specs.declared.Rule.{Rule}
-use Rattle.definition.specs.declared.Rule.TheVariants.{TooManyDefinitions, TooFewWords}
+use Rattle.passing.proofs.Onward.{Onward, start-text, text_out, text-layer, text-delete, text_defined, text-unkept, text-idle, text_says, text_same, text-drawn, text-stopped}
 
 pub record Passing (t : List ℕ) (w : ℕ) (words₀ numbers₀ : List ℤ) (drawing₀ room₀ rows : List ℕ) (b words numbers : List ℤ) (drawing room : List ℕ) (spot : Spot) (layer : ℕ) (stock : Stock)
     (ink : Ink) : Type 0 where
@@ -175,14 +175,14 @@ module _ {t : List ℕ} {w : ℕ} {words₀ numbers₀ : List ℤ} {drawing₀ r
         pub size_then : length b' ≡ w
         size_then = defines.size ∙ u.bodies_kept
 
-        taken : (p : Passed t) {stock' : Stock} {c' : Counts} {to' : Spot} → d ≡ Ok (record { stock = stock'; counts = c'; to = to' }) → let g = u.onward p in
-            Takes t rows' b' to (start_in words' place) ink.counts (text-opens g.stands (met_by g) e) g.stands.table stock' c' to'
+        taken : (p : Passed t) {kept : Taken} → d ≡ Ok kept → let g = u.onward p in
+            Takes t rows' b' to (start_in words' place) ink.counts (text-opens g.stands (met_by g) e) g.stands.table kept.stock kept.counts kept.to
         taken p f = let g = u.onward p in takes g.stands (met_by g) e start q defines f
 
-        pub defined_on : {stock' : Stock} {c' : Counts} {to' : Spot} → d ≡ Ok (record { stock = stock'; counts = c'; to = to' }) → (length t - to'.at < length t - spot.at)
+        pub defined_on : {kept : Taken} → d ≡ Ok kept → (length t - kept.to.at < length t - spot.at)
         defined_on f = let k = taken u.passed f in omega (arith, k.ahead, k.fit.within, r.ahead)
 
-        pub passing_defined : {stock' : Stock} {c' : Counts} {to' : Spot} → d ≡ Ok (record { stock = stock'; counts = c'; to = to' }) → Next rows' b' words' numbers drawing room to' l stock' (inked c' ink.pen)
+        pub passing_defined : {kept : Taken} → d ≡ Ok kept → Next rows' b' words' numbers drawing room kept.to l kept.stock (inked kept.counts ink.pen)
         passing_defined f =
             let k = taken u.passed f in
             record {
@@ -197,23 +197,17 @@ module _ {t : List ℕ} {w : ℕ} {words₀ numbers₀ : List ℤ} {drawing₀ r
             }
 
         -- refused outside of every call, as the run tells it
-        told_so : {number : ℕ} {r : Result Ink Refusal} {drawing' : List ℕ} → RefusedOutside number place r drawing' → (p : Passed t)
-            → Painted dry (map (held_to w) (to_draw p)) room₀ [] (Err (record { number = number; place = place })) room
+        told_so : {rule : Rule} {r : Result Ink Refusal} {drawing' : List ℕ} → RefusedOutside rule place r drawing' → (p : Passed t)
+            → Painted dry (map (held_to w) (to_draw p)) room₀ [] (Err (refuse rule place)) room
             → Painted dry (map (held_to w) (to_draw p)) room₀ (chain_in drawing') r room
-        told_so {number} {r} {drawing'} o p x =
+        told_so {rule} {r} {drawing'} o p x =
             subst (λ (y : Result Ink Refusal). Painted dry (map (held_to w) (to_draw p)) room₀ (chain_in drawing') y room) (sym o.is)
-            (subst (λ (chain : Chain). Painted dry (map (held_to w) (to_draw p)) room₀ chain (Err (record { number = number; place = place })) room) (sym o.none_open) x)
+            (subst (λ (chain : Chain). Painted dry (map (held_to w) (to_draw p)) room₀ chain (Err (refuse rule place)) room) (sym o.none_open) x)
 
-        pub passing_overfull : {r : Result Ink Refusal} {drawing' : List ℕ} → RefusedOutside 10 place r drawing' → d ≡ (Err TooManyDefinitions) → TextDraws t w room₀ drawing' r room
-        unfolding Defines
-        passing_overfull o f p = let g = u.onward p in told_so o p (text_overfull g (met_by g) e (comes g.stands (met_by g) e start q defines f))
-
-        pub passing_short : {r : Result Ink Refusal} {drawing' : List ℕ} → RefusedOutside 25 place r drawing' → d ≡ (Err TooFewWords) → TextDraws t w room₀ drawing' r room
-        unfolding Defines
-        passing_short o f p =
+        pub passing_unkept : {rule : Rule} {r : Result Ink Refusal} {drawing' : List ℕ} → RefusedOutside rule place r drawing' → d ≡ Err rule → TextDraws t w room₀ drawing' r room
+        passing_unkept {rule} o f p =
             let g = u.onward p in
-            let k = comes g.stands (met_by g) e start q defines f in
-            told_so o p (text_short g (met_by g) e k.0 (let s = size_then in let h = k.1 in omega (arith, s, h)))
+            told_so o p (text-unkept g (met_by g) e rows' b' size_then rule (comes g.stands (met_by g) e start q defines f))
 
     -- ---- any other command
 

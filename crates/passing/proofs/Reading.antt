@@ -1,5 +1,6 @@
 -- One command read into words: what it says, and what is told behind it. The loops of the drawing go by it.
 -- Assumes nothing.
+use Rattle.std.specs.Prelude.{Option, Some, None}
 use mathlib.Core.Path.{◌≡◌, refl, sym, ap, ap₂, ◌∙◌, subst}
 use mathlib.Core.Bool.{Bool, true}
 use mathlib.Core.List.{List, [], ◌∷◌, ◌++◌}
@@ -17,12 +18,11 @@ use Rattle.pieces.specs.Pieces.{stream, behind}
 use Rattle.pieces.specs.declared.Spot.{Spot}
 use Rattle.rules.specs.Letters.{letter_l}
 use Rattle.rules.specs.Written.{Written, written, last_letter, inside_behind}
+use Rattle.commands.specs.declared.Decoded.{Decoded}
 use Rattle.commands.specs.Words.{words_of, kind_by, inside_first, DecodedOne, ReadsCommand}
 use Rattle.keeping.specs.Voices.{Voice, Voiced, Told, none_told, one_told}
 use Rattle.moves.specs.Moves.{most_values}
 use Rattle.passing.proofs.Letters.{is_layer}
-use Rattle.std.specs.Prelude.{None, Option, Some}
-use Rattle.commands.specs.declared.Decoded.{Decoded}
 
 -- the command that was read, as told: its kind k, its place p, its words up to n in the run, and the next spot
 pub record Met (t : List ℕ) (σ : Standing) (ds : List (Placed Command)) (k p n : ℕ) (to : Spot) (words : List ℤ) : Type 0 where
@@ -79,8 +79,8 @@ meets {t} {spot} {σ} {ds} {a} {b} {c} {ws} {k} {p} {n} {to} {ws'} told ea eb h 
     }
 
 -- what `read_command` answers
-pub read_one : {t : List ℕ} {spot : Spot} {a b : ℕ} {ws ws' : List ℤ} {r : Option Decoded} → ReadsCommand t spot a b ws r ws' → {k p n : ℕ} {to : Spot} → r ≡ Some (record { kind = k; place = p; end = n; to = to })
-    → (c : Written) × DecodedOne t spot a b c ws k p n to ws'
+pub read_one : {t : List ℕ} {spot : Spot} {a b : ℕ} {ws ws' : List ℤ} {r : Option Decoded} → ReadsCommand t spot a b ws r ws' → {d : Decoded} → r ≡ Some d
+    → (c : Written) × DecodedOne t spot a b c ws d.kind d.place d.end d.to ws'
 read_one {t} {spot} {a} {b} {ws} {ws'} x e = subst (λ (r : Option Decoded). ReadsCommand t spot a b ws r ws') e x
 
 pub read_none : (t : List ℕ) (spot : Spot) (a b : ℕ) (ws : List ℤ) (r : Option Decoded) (ws' : List ℤ) → ReadsCommand t spot a b ws r ws' → r ≡ None → written (stream t spot) ≡ []

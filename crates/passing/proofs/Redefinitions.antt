@@ -1,10 +1,12 @@
 -- To draw a call or a shape redefines nothing: only definitions count as redefinitions, so their count goes by the text's DS commands alone.
 -- Assumes nothing.
+use Rattle.std.specs.Prelude.{Result, Ok}
 use mathlib.Core.Path.{◌≡◌, refl, ap, subst}
 use mathlib.Core.List.{List, [], ◌∷◌}
 use Prim.Native.Nat.{ℕ}
 use native.Mathlib.Omega.{arith}
 use lib.ListN.{length}
+use Rattle.definition.specs.declared.Refusal.{Refusal}
 use Rattle.definition.specs.Words.{Placed}
 use Rattle.definition.specs.Table.{Step, Table}
 use Rattle.definition.specs.Drawing.{Chain, Event, called, drew, entered, removed, refused, output, happens}
@@ -14,8 +16,6 @@ use Rattle.laws.proofs.Story.Outputs.{Outputs, output-events}
 use Rattle.counts.specs.Counting.{tally}
 use Rattle.shapes.specs.declared.Ink.{Ink}
 use Rattle.shapes.specs.Painting.{Goes, Answered, Painted}
-use Rattle.std.specs.Prelude.{Ok, Result}
-use Rattle.definition.specs.declared.Refusal.{Refusal}
 
 abbrev NoEntry : Event → Type 0
 NoEntry (entered d before) = ⊥

@@ -1,6 +1,7 @@
 -- Where a pass over a text stands between two commands, outside of definitions: what is told from here on, and the table that the memory holds. And what each
 -- kind of command makes of it: which deed it does, and what is left to do. Every pass goes by these laws, whether it draws or not.
 -- Assumes nothing.
+use Rattle.std.specs.Prelude.{Result, Ok}
 use mathlib.Core.Path.{◌≡◌, refl, sym, ap, ◌∙◌, subst}
 use mathlib.Core.Bool.{true, false}
 use mathlib.Core.List.{List, [], ◌∷◌, ◌++◌}
@@ -9,6 +10,7 @@ use native.Mathlib.Omega.{arith}
 use lib.IntN.{ℤ, pos, nat_abs}
 use lib.ListN.{length, drop, get_or}
 use lib.Seq.{get_or-drop}
+use Rattle.definition.specs.declared.Rule.{Rule}
 use Rattle.definition.specs.Words.{Placed, at}
 use Rattle.definition.specs.Commands.{Number, Command, layer, start, delete, commands}
 use Rattle.definition.specs.Standing.{Standing, outside, after}
@@ -32,13 +34,11 @@ use Rattle.keeping.specs.Voices.{Told}
 use Rattle.keeping.specs.Keeping.{most_words, Kept, Open, definition_of, Begins, Takes, Defines, DefinesAt}
 use Rattle.keeping.specs.declared.Start.{Start}
 use Rattle.keeping.specs.declared.Stock.{Stock}
+use Rattle.keeping.specs.declared.Taken.{Taken}
 use Rattle.passing.specs.Passed.{Passed, start_in, Deletes}
 use Rattle.passing.proofs.Voices.{told_text}
 use Rattle.passing.proofs.Letters.{is_start}
 use Rattle.passing.proofs.Reading.{Met, meets}
-use Rattle.std.specs.Prelude.{Ok, Result}
-use Rattle.keeping.specs.declared.Taken.{Taken}
-use Rattle.definition.specs.declared.Rule.{Rule}
 
 -- ---- the memory
 
@@ -270,6 +270,6 @@ module _ {t rows : List ℕ} {b : List ℤ} {stock : Stock} {spot : Spot} (s : S
               subst (Defines t rows' b' to begins c text-opens s.table) f
               ((subst (λ (x : Start). DefinesAt t rows b stock to x c d rows' b') q defines).defines text-opens s.table s.kept)
 
-          pub takes : {stock' : Stock} {c' : Counts} {to' : Spot} → d ≡ Ok (record { stock = stock'; counts = c'; to = to' }) → Takes t rows' b' to begins c text-opens s.table stock' c' to'
+          pub takes : {taken : Taken} → d ≡ Ok taken → Takes t rows' b' to begins c text-opens s.table taken.stock taken.counts taken.to
           unfolding Defines
           takes f = comes f

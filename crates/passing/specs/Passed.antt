@@ -1,10 +1,13 @@
 -- What a whole text is to draw: the story of its commands, held to the words lent, from nothing drawn and nothing written. Not to be believed: only names
 -- for what crates/definition says.
 -- Assumes nothing.
-use Rattle.std.specs.Prelude.{◌≡◌, Bool, ◌||◌, List, [], map, ℕ, ◌≤◌, ltb, eqb, ℤ, pos, nat_abs, length, get_or, if◌then◌else◌}
+use Rattle.std.specs.Prelude.{◌≡◌, Bool, ◌||◌, List, [], map, ℕ, ◌≤◌, ltb, eqb, ℤ, pos, nat_abs, length, get_or, Result, Err, if◌then◌else◌}
 use Rattle.std.proofs.Math.Option.{none}
 use Rattle.grammar.specs.Notation.{Letter}
 use Rattle.grammar.specs.Viable.{Marked}
+use Rattle.definition.specs.declared.Rule.{Rule}
+use Rattle.definition.specs.declared.Refusal.{Refusal}
+use Rattle.definition.specs.Rules.{refuse}
 use Rattle.definition.specs.Commands.{commands}
 use Rattle.definition.specs.Faults.{first_fault}
 use Rattle.definition.specs.Drawing.{Event}
@@ -21,8 +24,6 @@ use Rattle.keeping.specs.declared.Stock.{Stock}
 use Rattle.chain.specs.Chain.{chain_in}
 use Rattle.shapes.specs.declared.Ink.{Ink}
 use Rattle.shapes.specs.Painting.{Painted}
-use Rattle.std.specs.Prelude.{Err, Result}
-use Rattle.definition.specs.declared.Refusal.{Refusal}
 
 -- a text that refusals 1 to 9 let pass
 pub record Passed (t : List ℕ) : Type 0 where

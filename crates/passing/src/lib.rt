@@ -23,10 +23,7 @@ const MOST_WORDS: usize = 16777216;
 fn draws(kind: u8) -> bool
     ensures { result ≡ outputs kind }
 {
-    if kind == b'C' {
-        return true;
-    }
-    rules::is_shape(kind)
+    kind == b'C' || rules::is_shape(kind)
 }
 
 // What a DS says.

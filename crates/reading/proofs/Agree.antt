@@ -1,6 +1,6 @@
 -- The account's rules agree with the definition's: of every grammatical text the first of refusals 3 to 9, and its place.
 -- Assumes nothing.
-use Rattle.std.specs.Prelude.{if◌then◌else◌}
+use Rattle.std.specs.Prelude.{Result, Err, if◌then◌else◌}
 use mathlib.Core.Path.{◌≡◌, refl, sym, ap, ap₂, ◌∙◌, subst}
 use mathlib.Core.Bool.{Bool, true, false, not, ◌&&◌, ◌||◌, and-false}
 use mathlib.Core.List.{List, [], ◌∷◌, ◌++◌, flat_map}
@@ -32,7 +32,7 @@ use Rattle.laws.proofs.Commands.Sizes.{nil-left, nil-right, all_map, at_numbers_
 use Rattle.pieces.specs.Pieces.{capped}
 use Rattle.rules.specs.Letters.{first_unit}
 use Rattle.rules.specs.Written.{Written, numbers, letters, figures, last_of, last_letter, size_at, packed_by, turns_of}
-use Rattle.rules.specs.Rules.{scaleless, few, bare, many}
+use Rattle.rules.specs.Rules.{rule_of, scaleless, few, bare, many}
 use Rattle.checking.specs.Account.{layer_of, Blame, blame, of_numbers, of_whole, blames, foremost, fault_by, scope_after, rounded_of, fault_from, at_start, fault_of}
 use Rattle.reading.specs.Refusal.{fault_said}
 use Rattle.checking.specs.declared.Scope.{Scope}
@@ -45,7 +45,6 @@ use Rattle.reading.proofs.Marks.{Mark, along_marks, found_by, one_place, marks_o
 use Rattle.reading.proofs.Blames.{capped-exact, sees_none, sees-3, sees-6, sees-7, sees_rounded, all_of_numbers, Wholly, of_whole_lem}
 use Rattle.reading.proofs.Facing.{abs_signed, letters_words, Faces, faces}
 use Rattle.reading.proofs.Packed.{packed, packed_none}
-use Rattle.std.specs.Prelude.{Result}
 
 -- ---- what stands
 
@@ -359,37 +358,38 @@ fits_after s σ g (a_nothing i) o f = unfold after in (rw (i.not_D, i.not_L) g)
 
 -- ---- the whole text
 
+-- a refusal that a command can meet: of such a rule the account keeps the number, and `rule_of` gives the rule again
 abbrev Low : Refusal → Type 0
-Low r = r.number < 10
+Low r = (number_of r.rule < 10) × (rule_of (number_of r.rule) ≡ r.rule)
 
-all_low : (n : ℕ) → n < 10 → (zs : List Number) → All (λ (z : Number). n < 10) zs
+all_same : {P : Type 0} → P → (zs : List Number) → All (λ (z : Number). P) zs
 unfolding All
-all_low n h [] = tt
-all_low n h (z ∷ zs) = (h, all_low n h zs)
+all_same h [] = tt
+all_same h (z ∷ zs) = (h, all_same h zs)
 
-low-numbers : (n : Rule) → number_of n < 10 → (t : ℤ → Bool) (zs : List Number) → All Low (at_numbers n t zs)
+low-numbers : (n : Rule) → Low (refuse n 0) → (t : ℤ → Bool) (zs : List Number) → All Low (at_numbers n t zs)
 unfolding at_numbers
-low-numbers n h t zs = all_map Low (λ d. refuse n d.place) (those (λ d. t d.what) zs) (all_low (number_of n) h (those (λ d. t d.what) zs))
+low-numbers n h t zs = all_map Low (λ d. refuse n d.place) (those (λ d. t d.what) zs) (all_same h (those (λ d. t d.what) zs))
 
-low-command : (n : Rule) → number_of n < 10 → (b : Bool) (p : ℕ) → All Low (at_command n b p)
+low-command : (n : Rule) → Low (refuse n 0) → (b : Bool) (p : ℕ) → All Low (at_command n b p)
 unfolding All
 low-command n h true p = (h, tt)
 low-command n h false p = tt
 
 low : (σ : Standing) (d : Placed Command) → All Low (faults σ d)
-unfolding faults
+unfolding faults rule_of
 low σ d =
-    all-++ Low _ _ (low-numbers NumberTooLarge (omega arith) beyond (numbers_of d.what))
-    (all-++ Low _ _ (low-command ZeroFactor (omega arith) (zero_scale d.what) d.place)
-    (all-++ Low _ _ (low-numbers ScaledTooLarge (omega arith) (λ z. beyond (scaled σ z)) (distances d.what))
-    (all-++ Low _ _ (low-command DegenerateCommand (omega arith) (degenerate σ d.what) d.place)
-    (all-++ Low _ _ (low-command NoLayer (omega arith) (layerless σ d.what) d.place) (low-command TooManyParts (omega arith) (has_too_many d.what) d.place)))))
+    all-++ Low _ _ (low-numbers NumberTooLarge (omega arith, refl) beyond (numbers_of d.what))
+    (all-++ Low _ _ (low-command ZeroFactor (omega arith, refl) (zero_scale d.what) d.place)
+    (all-++ Low _ _ (low-numbers ScaledTooLarge (omega arith, refl) (λ z. beyond (scaled σ z)) (distances d.what))
+    (all-++ Low _ _ (low-command DegenerateCommand (omega arith, refl) (degenerate σ d.what) d.place)
+    (all-++ Low _ _ (low-command NoLayer (omega arith, refl) (layerless σ d.what) d.place) (low-command TooManyParts (omega arith, refl) (has_too_many d.what) d.place)))))
 
 -- the first of a command's, or of those behind it
 said : (f : Result ℕ Refusal) (rs more : List Refusal) (n : ℕ) → All Low rs → (rs ≡ [] → f ≡ fault_said (first more) n) → fault_by (head_of rs) f ≡ fault_said (first (rs ++ more)) n
 unfolding first All
 said f [] more n h k = k refl
-said f (r ∷ rs) more n h k = rw (lt-ltb r.number 10 h.0) refl
+said f (r ∷ rs) more n h k = rw (lt-ltb (number_of r.rule) 10 h.0.0) (ap (λ (n : Rule). Err (refuse n r.place)) h.0.1)
 
 pub fault_from_lem : {cs : List Written} {ds : List (Placed Command)} → AllSay cs ds → (s : Scope) (σ : Standing) → Fits s σ → Ordered σ.inside ds → (n : ℕ)
     → fault_from s n cs ≡ fault_said (first (all_faults σ ds)) (n + rounded_from σ ds)

@@ -100,7 +100,7 @@ find-own n e false p r = refl
 
 abbrev pub head_of : List Refusal → Blame
 head_of [] = blame 10 0
-head_of (r ∷ rs) = blame r.number r.place
+head_of (r ∷ rs) = blame (number_of r.rule) r.place
 
 -- along numbers: what each brings, by the test and its place, to what those after it bring
 unfoldable pub along : {X : Type 0} → (Bool → ℕ → X → X) → (ℤ → Bool) → List Number → X → X

@@ -1,15 +1,13 @@
 -- Two answers that the contract of `refusal` allows are one: it settles refusals 2 to 9 of any bytes. So are two that the contract of `check_by` allows.
 -- Assumes nothing.
-use mathlib.Core.Path.{◌≡◌, refl, sym, ◌∙◌, subst}
+use Rattle.std.specs.Prelude.{Err, Ok, Result}
+use mathlib.Core.Path.{◌≡◌, sym, ◌∙◌, subst}
 use mathlib.Core.List.{List}
 use Prim.Native.Nat.{ℕ}
 use Rattle.grammar.specs.Viable.{Judged}
 use Rattle.grammar.proofs.Unique.{one_verdict}
-use Rattle.definition.specs.declared.Rule.TheVariants.{NotInGrammar}
-use Rattle.definition.specs.Rules.{refuse}
-use Rattle.reading.specs.Refusal.{Checked, by_verdict, Refuses}
-use Rattle.std.specs.Prelude.{Err, Ok, Result}
 use Rattle.definition.specs.declared.Refusal.{Refusal}
+use Rattle.reading.specs.Refusal.{Checked, by_verdict, Refuses}
 
 pub one_fault : (t : List ℕ) (r s : Result ℕ Refusal) → Checked t r → Checked t s → r ≡ s
 one_fault t r s h k = h.along ∙ sym k.along
@@ -22,10 +20,3 @@ pub one_refusal : (t : List ℕ) (r s : Result ℕ Refusal) → Refuses t r → 
 one_refusal t r s h k =
     by_one t h.verdict h.judged r s h.is
     (subst (λ (v : Result Unit ℕ). by_verdict t v s) (one_verdict t k.verdict h.verdict k.judged h.judged) k.is)
-
--- the two ways through the code
-pub refuses-stuck : (t : List ℕ) (v : Result Unit ℕ) → Judged t v → (n : ℕ) → v ≡ Err n → Refuses t (Err (refuse NotInGrammar n))
-refuses-stuck t v j n e = record { verdict = Err n; judged = subst (Judged t) e j; is = refl }
-
-pub refuses_checked : (t : List ℕ) (v : Result Unit ℕ) → Judged t v → v ≡ (Ok tt) → (r : Result ℕ Refusal) → by_verdict t (Ok tt) r → Refuses t r
-refuses_checked t v j e r k = record { verdict = (Ok tt); judged = subst (Judged t) e j; is = k }

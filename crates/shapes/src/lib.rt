@@ -8,7 +8,8 @@ ghost use Rattle.shapes.specs.Painting.{Reached, ShapeDraws};
 
 use definition::{Refusal, Rule};
 
-// Where the next byte of the flat file goes, and the layer of the last shape written, packed, 0 for none.
+// Where the next byte of the flat file goes, and the layer of the last shape written, packed. No layer is 0, the name without letters, and no Option:
+// packed names are only compared, and an Option would ask each time for a case that the comparison settles.
 #[derive(Clone, Copy)]
 pub struct Pen {
     pub at: usize,
@@ -62,21 +63,10 @@ pub fn draw_shape(
     })
 }
 
-// A symbol's number and a scale have no sign.
-fn magnitude(word: i32) -> usize
-    ensures { result ≡ nat_abs word }
-{
-    let z = word as i64;
-    if z < 0 {
-        return (-z) as usize;
-    }
-    z as usize
-}
-
-// A number of a command's words, without its sign.
+// A number of a command's words, without its sign: a symbol's number and a scale have none.
 pub fn size_at(words: &[i32], i: usize) -> usize
     requires { i < length words.now }
     ensures { result ≡ nat_abs (get_or words.now i (pos 0)) }
 {
-    magnitude(words[i])
+    words[i].unsigned_abs() as usize
 }

@@ -70,12 +70,12 @@ module _ (records : ℕ) (rows : List ℕ) (live : ℕ) (drawing : List ℕ) (le
       subst (λ (es : List Event). Painted ink es room chain (Err why) room) (sym (call_is records t chain outer call ts left ∙ s.are))
       (refusal ink s.event s.rest room why chain s.stops)
 
-  module _ {row : ℕ} {more : Counts} (e : o ≡ Ok (record { row = row; counts = more })) where
-    descends : Descent rows live (open_at drawing left) left call ink.counts row more × (length (open_at drawing left) < records)
+  module _ {entered : Entered} (e : o ≡ Ok entered) where
+    descends : Descent rows live (open_at drawing left) left call ink.counts entered.row entered.counts × (length (open_at drawing left) < records)
     unfolding OpensWith
     descends = subst (λ (o : Result Entered Refusal). OpensWith records rows live (open_at drawing left) left call ink.counts o) e x
 
-    pub call-led : Near ((33 - left) * 2 ^ 36) call.net → Led records live (open_at drawing left) left call row
+    pub call-led : Near ((33 - left) * 2 ^ 36) call.net → Led records live (open_at drawing left) left call entered.row
     call-led near = record {
       row_live = row_live rows live drawing left call ink descends.0;
       a_level = descends.0.some_left;
@@ -83,17 +83,17 @@ module _ (records : ℕ) (rows : List ℕ) (live : ℕ) (drawing : List ℕ) (le
       near = near;
     }
 
-    pub call-counts : more.calls ≡ ink.counts.calls + 1
-    call-counts = called_one ink.counts more call.place (open_at drawing left) descends.0.counts_it
+    pub call-counts : entered.counts.calls ≡ ink.counts.calls + 1
+    call-counts = called_one ink.counts entered.counts call.place (open_at drawing left) descends.0.counts_it
 
     -- the call is counted, and its body is left
     pub call-going : Reached ink → (b : List ℤ) (outer ts : List (Turn ℤ)) → call.askew ≡ off_axes ts → (later : List Event) {all : List Event} {ink₀ : Ink} {room₀ room : List ℕ}
         → PaintedSoFar all ink₀ room₀ (call_story records (table_of rows b live) left (open_at drawing left) outer call.place call.symbol ts ++ later) ink room
-        → PaintedSoFar all ink₀ room₀ (body_story records (table_of rows b live) (left - 1) (deeper (open_at drawing left) call) (ts ++ outer) (body_at rows b row) ++ later) (inked more ink.pen) room
+        → PaintedSoFar all ink₀ room₀ (body_story records (table_of rows b live) (left - 1) (deeper (open_at drawing left) call) (ts ++ outer) (body_at rows b entered.row) ++ later) (inked entered.counts ink.pen) room
     call-going reach b outer ts askew later {room = room} g =
         let t = table_of rows b live in
         let chain = open_at drawing left in
-        let d = definition_at rows b row in
+        let d = definition_at rows b entered.row in
         goes_on g (called call.place chain d ∷ []) _
         (ap (λ (es : List Event). es ++ later) (call-opened records t chain outer call ts left descends.0.some_left d (descends.0.no_fault b ts askew) descends.1))
-        (quiet ink more (called call.place chain d) room {chain = []} (descends.0.counts_it d) (unfold shapes_of in refl) (descent_reached rows live drawing left call ink descends.0 reach))
+        (quiet ink entered.counts (called call.place chain d) room {chain = []} (descends.0.counts_it d) (unfold shapes_of in refl) (descent_reached rows live drawing left call ink descends.0 reach))

@@ -1,7 +1,7 @@
 -- One call where so many records are lent: what crate opening answers of it stays, where there is a record; where there is none, 11 to 14 stay, and a call that they let
 -- through is refused with 21, before it is counted.
 -- Assumes nothing.
-use Rattle.std.specs.Prelude.{if◌then◌else◌}
+use Rattle.std.specs.Prelude.{if◌then◌else◌, Err, Ok, Result}
 use mathlib.Core.Path.{◌≡◌, refl, sym, ap, ◌∙◌, subst}
 use mathlib.Core.Bool.{Bool, true, false}
 use mathlib.Core.List.{List, [], ◌∷◌, map, head-eq_of_cons-eq, tail-eq_of_cons-eq}
@@ -33,7 +33,6 @@ use Rattle.opening.proofs.Opening.{called-first}
 use Rattle.shapes.proofs.Painting.{never}
 use Rattle.stacking.proofs.Stacked.{Fits, stacked_one}
 use Rattle.stretch.specs.Opening.{OpensWith}
-use Rattle.std.specs.Prelude.{Err, Ok, Result}
 use Rattle.opening.specs.declared.Entered.{Entered}
 
 -- ---- the first event of a call
@@ -90,17 +89,20 @@ module _ (records : ℕ) (rows : List ℕ) (live : ℕ) (chain : Chain) (left : 
   pub a_record : length chain < records → (o : Result Entered Refusal) → OpensFreely rows live chain left call c o → OpensWith records rows live chain left call c o
   unfolding OpensFreely OpensWith
   a_record h (Err why) x = λ b ts e go. stops_so records call.place chain go (passage_of left (table_of rows b live) chain call.symbol ts) c h (x b ts e go)
-  a_record h (Ok (record { row = row; counts = more })) x = (x, h)
+  a_record h (Ok entered) x = (x, h)
 
   module _ {none : Counts} (z : none ≡ zero_counts) {o : Result Entered Refusal} (x : OpensFreely rows live chain left call none o) where
-    pub no_record_refused : {why : Refusal} → o ≡ Err why → OpensWith records rows live chain left call c (Err why)
+    none_refused : {why : Refusal} → o ≡ Err why → OpensWith records rows live chain left call c (Err why)
     unfolding OpensFreely OpensWith
-    no_record_refused {why} q = λ b ts e go.
+    none_refused {why} q = λ b ts e go.
         let y : OpensFreely rows live chain left call zero_counts (Err why) = subst (OpensFreely rows live chain left call zero_counts) q (subst (λ (n : Counts). OpensFreely rows live chain left call n o) z x) in
         stops-before records call.place chain go (passage_of left (table_of rows b live) chain call.symbol ts) c (y b ts e go)
 
-    pub no_record_led : records ≤ length chain → {row : ℕ} {more : Counts} → o ≡ Ok (record { row = row; counts = more }) → OpensWith records rows live chain left call c (Err (refuse TooFewRecords call.place))
+    pub no_record_refused : {r : Result Entered Refusal} {why : Refusal} → o ≡ Err why → r ≡ Err why → OpensWith records rows live chain left call c r
+    no_record_refused q is = subst (OpensWith records rows live chain left call c) (sym is) (none_refused q)
+
+    pub no_record_led : records ≤ length chain → {entered : Entered} → o ≡ Ok entered → OpensWith records rows live chain left call c (Err (refuse TooFewRecords call.place))
     unfolding OpensFreely OpensWith
-    no_record_led h {row} {more} q = λ b ts e go.
-        let y : Descent rows live chain left call none row more = subst (OpensFreely rows live chain left call none) q x in
-        stops_there records call.place chain go (passage_of left (table_of rows b live) chain call.symbol ts) c (definition_at rows b row) h (y.no_fault b ts e)
+    no_record_led h {entered} q = λ b ts e go.
+        let y : Descent rows live chain left call none entered.row entered.counts = subst (OpensFreely rows live chain left call none) q x in
+        stops_there records call.place chain go (passage_of left (table_of rows b live) chain call.symbol ts) c (definition_at rows b entered.row) h (y.no_fault b ts e)

@@ -41,6 +41,7 @@ use Rattle.stretch.proofs.Calls.{call-stopped, call-led, call-counts, call-going
 use Rattle.stretch.proofs.Counting.{going-grows}
 use Rattle.std.specs.Prelude.{Err, Ok, Result}
 use Rattle.opening.specs.declared.Entered.{Entered}
+use Rattle.stretch.specs.declared.Body.{Body}
 use Rattle.stretch.specs.declared.Body.TheVariants.{Ends, Calls}
 
 abbrev pub here_at : (at end layer : ℕ) → Net → Here
@@ -79,9 +80,12 @@ module _ (records : ℕ) (t : Table) (left : ℕ) (chain : Chain) (outer : List 
   call-left p n ts ss = map-append (stacked_to records) (drawn_call left t chain outer p n ts) (drawn_body (drawn_call left t chain outer) chain outer ss)
 
 -- a refusal counts nothing
-pub stop-grows : (ink : Ink) (why : Refusal) → Grows ink (Err why)
+stop-grows : (ink : Ink) (why : Refusal) → Grows ink (Err why)
 unfolding Grows
 stop-grows ink why = tt
+
+pub stopped-grows : (ink : Ink) {r : Result Body Refusal} {why : Refusal} → r ≡ Err why → Grows ink r
+stopped-grows ink {why = why} e = subst (Grows ink) (sym e) (stop-grows ink why)
 
 -- ---- the loop
 
@@ -199,9 +203,12 @@ module _ {records : ℕ} {rows : List ℕ} {b : List ℤ} {live : ℕ} {drawing 
             onward (sym (ap (λ (x : Step). layer_after x (name_of l)) (shape_is m fits e f).1))
             (λ outer k. goes_on (w.along outer k) (drawn_shape chain outer h.place (name_of l) figure ∷ []) _ (shape-next outer) (painted outer k q))
 
-        pub shape-refused : {why : Refusal} → d ≡ Err why → BodyComes records rows b live chain left (here_at from end layer₀ net) ink₀ room₀ (Err why) room'
+        shape_stops : {why : Refusal} → d ≡ Err why → BodyComes records rows b live chain left (here_at from end layer₀ net) ink₀ room₀ (Err why) room'
         unfolding BodyComes
-        shape-refused {why} q = λ outer k. stops (w.along outer k) (drawn_shape chain outer h.place (name_of l) figure ∷ []) _ (shape-next outer) (painted outer k q)
+        shape_stops {why} q = λ outer k. stops (w.along outer k) (drawn_shape chain outer h.place (name_of l) figure ∷ []) _ (shape-next outer) (painted outer k q)
+
+        pub shape-refused : {r : Result Body Refusal} {why : Refusal} → d ≡ Err why → r ≡ Err why → BodyComes records rows b live chain left (here_at from end layer₀ net) ink₀ room₀ r room'
+        shape-refused q is = subst (λ (y : Result Body Refusal). BodyComes records rows b live chain left (here_at from end layer₀ net) ink₀ room₀ y room') (sym is) (shape_stops q)
 
     -- a call
     module _ (e : h.kind ≡ call_letter) where
@@ -228,14 +235,17 @@ module _ {records : ℕ} {rows : List ℕ} {b : List ℤ} {live : ℕ} {drawing 
             ∙ ap₂ {C = List Event} (λ (p n : ℕ). call_story records table left chain outer p n own ++ held outer m.rest) (sym it_reads.at_place) (sym it_reads.symbol))
 
         module _ {o : Result Entered Refusal} (x : OpensWith records rows live chain left read ink.counts o) where
-          pub call-refused : {why : Refusal} → o ≡ Err why → BodyComes records rows b live chain left (here_at from end layer₀ net) ink₀ room₀ (Err why) room
+          call_stops : {why : Refusal} → o ≡ Err why → BodyComes records rows b live chain left (here_at from end layer₀ net) ink₀ room₀ (Err why) room
           unfolding BodyComes
-          call-refused {why} q = λ outer k.
+          call_stops {why} q = λ outer k.
               stops (w.along outer k) (call_story records table left chain outer read.place read.symbol own) _ (call_next outer)
               (call-stopped records rows live drawing left read ink x q b outer own it_reads.askew room)
 
-          pub call_opens : left ≤ 32 → Near ((32 - left) * 2 ^ 36) net → {row : ℕ} {more : Counts} → o ≡ Ok (record { row = row; counts = more })
-              → BodyComes records rows b live chain left (here_at from end layer₀ net) ink₀ room₀ (Ok (Calls (here_at h.next end l net) read row (inked more ink.pen))) room
+          pub call-refused : {r : Result Body Refusal} {why : Refusal} → o ≡ Err why → r ≡ Err why → BodyComes records rows b live chain left (here_at from end layer₀ net) ink₀ room₀ r room
+          call-refused q is = subst (λ (y : Result Body Refusal). BodyComes records rows b live chain left (here_at from end layer₀ net) ink₀ room₀ y room) (sym is) (call_stops q)
+
+          pub call_opens : left ≤ 32 → Near ((32 - left) * 2 ^ 36) net → {entered : Entered} → o ≡ Ok entered
+              → BodyComes records rows b live chain left (here_at from end layer₀ net) ink₀ room₀ (Ok (Calls (here_at h.next end l net) read entered.row (inked entered.counts ink.pen))) room
           unfolding BodyComes
           call_opens le near q =
               let rests : Rests b (here_at h.next end l net) =
@@ -260,6 +270,6 @@ module _ {records : ℕ} {rows : List ℕ} {b : List ℤ} {live : ℕ} {drawing 
                 };
               }
 
-          pub call-grows : (on : Here) {row : ℕ} {more : Counts} → o ≡ Ok (record { row = row; counts = more }) → Grows ink₀ (Ok (Calls on read row (inked more ink.pen)))
+          pub call-grows : (on : Here) {entered : Entered} → o ≡ Ok entered → Grows ink₀ (Ok (Calls on read entered.row (inked entered.counts ink.pen)))
           unfolding Grows
           call-grows on q = let n = call-counts records rows live drawing left read ink x q in let k = grown in omega (arith, n, k)

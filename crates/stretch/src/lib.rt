@@ -136,15 +136,10 @@ pub fn draw_body(
         } else if kind == b'C' {
             let call = opening::read_call(&bodies[from..next], next - from, net, place);
             let entered = open_call(rows, live, drawing, left, records, call, ink.counts)?;
-            let on = Here {
-                at,
-                end,
-                layer,
-                net,
-            };
+            let on = Here { at, layer, ..here };
             let counted = Ink {
                 counts: entered.counts,
-                pen: ink.pen,
+                ..ink
             };
             return Ok(Body::Calls(on, call, entered.row, counted));
         } else {

@@ -13,14 +13,13 @@ use machine::State;
 fn refused(answer: Answer) -> Why
     ensures { result ≡ why_of answer }
 {
-    let chain = answer.chain;
     Why {
         number: answer.number,
         place: answer.place,
         line: answer.line,
         column: answer.column,
         opened: answer.opened,
-        chain,
+        chain: answer.chain,
         shape: 0,
         a: 0,
         b: 0,
@@ -37,14 +36,13 @@ fn found(answer: Answer, net: turns::Net) -> Why
 {
     let east = turns::aim_direction(net, 1, 0);
     let north = turns::aim_direction(net, 0, 1);
-    let chain = answer.chain;
     Why {
         number: 0,
         place: 0,
         line: 0,
         column: 0,
         opened: answer.opened,
-        chain,
+        chain: answer.chain,
         shape: answer.place,
         a: east.x,
         b: north.x,
@@ -71,11 +69,10 @@ fn told(text: &[u8], over: State) -> Why
 {
     let answer = over.answer;
     if answer.number == definition::number_of(Rule::TooManyShapes) {
-        let here = over.here;
-        let net = here.net;
-        return found(answer, net);
+        found(answer, over.here.net)
+    } else {
+        missing(text)
     }
-    missing(text)
 }
 
 // Of a text that is drawn through: the shape with this count, by the machine, before whose drawing so many shapes count as drawn that there is room for those before it and no more.
@@ -83,10 +80,7 @@ fn among(text: &[u8], words: &mut [i32], room: &mut [u8], count: usize) -> Why
     requires { Drawable text.now (length words.old) × Zeroed words.old }
     ensures { PromisedWhy text.now words.old count result words.new }
 {
-    if count == 0 {
-        return missing(text);
-    }
-    if definition::MOST_SHAPES < count {
+    if count == 0 || definition::MOST_SHAPES < count {
         return missing(text);
     }
     let mut rows = [0usize; library::ROW_NUMBERS];
@@ -103,11 +97,10 @@ pub fn why(text: &[u8], words: &mut [i32], count: usize) -> Why
 {
     let mut room = [0u8; 1];
     let answer = reader::flatten(text, words, &mut room);
-    if answer.number == 0 {
-        return among(text, words, &mut room, count);
+    let too_long = definition::number_of(Rule::FlatFileTooLong);
+    if answer.number == 0 || answer.number == too_long {
+        among(text, words, &mut room, count)
+    } else {
+        refused(answer)
     }
-    if answer.number == definition::number_of(Rule::FlatFileTooLong) {
-        return among(text, words, &mut room, count);
-    }
-    refused(answer)
 }

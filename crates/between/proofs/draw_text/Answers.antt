@@ -1,13 +1,10 @@
 -- `draw_text` meets its contract: it lends the tables and the words of one command.
-use mathlib.Core.Path.{refl}
 use native.Mathlib.Omega.{arith}
 use borrow.Author.Rules.{rules}
-use Rattle.grammar.specs.Tables.{kinds, table}
 use Rattle.between.proofs.draw_text.Goals as goal
 
 pub draw_commands-requires : goal.draw_commands-requires
-unfolding kinds table
-draw_commands-requires c = record { kinds_lent = (record { is = refl }, record { is = refl }); most_values_in_bounds = (omega arith, c.requires.0); pausing = c.requires.1 }
+draw_commands-requires c = record { most_values_in_bounds = (omega arith, c.requires.0); pausing = c.requires.1 }
 
 pub returns : goal.returns
 returns c = record { text_comes = c.draw_commands.ensures.text_comes; text_grows = c.draw_commands.ensures.text_grows }

@@ -3,8 +3,8 @@ use mathlib.Core.Path.{ap, sym, ◌∙◌}
 use Rattle.cif.specs.Told.{words_of_join}
 use Rattle.cif.proofs.join_words.Goals as goal
 
-pub returns-in-Written : goal.returns-in-Written
-returns-in-Written c = simp (c.words.ensures, c.accepted.ensures, c.no_counts.ensures, c.in-Written.is)
+pub returns-in-Ok : goal.returns-in-Ok
+returns-in-Ok c = simp (c.words.ensures, c.accepted.ensures, c.no_counts.ensures, c.in-Ok.is)
 
-pub returns-in-NotJoined : goal.returns-in-NotJoined
-returns-in-NotJoined c = c.refusal_words.ensures ∙ ap (words_of_join c.args.first.now c.args.second.now) (sym c.in-NotJoined.is)
+pub returns-in-Err : goal.returns-in-Err
+returns-in-Err c = c.refusal_words.ensures ∙ ap (words_of_join c.args.first.now c.args.second.now) (sym c.in-Err.is)

@@ -1,13 +1,11 @@
 -- `local::run` meets its contract: the loop's invariant is `RunSoFar`, and each goal is one law of it.
-use mathlib.Core.Path.{refl, ap}
+use mathlib.Core.Path.{refl}
 use native.Mathlib.Omega.{arith}
-use lib.ListN.{replicate}
-use Rattle.machine.specs.Underway.{turns_left}
-use Rattle.local.proofs.RunSoFar.{RunSoFar, begins, slot_low, asks, goes_on, falls, ends}
+use Rattle.local.proofs.RunSoFar.{begins, slot_low, asks, goes_on, falls, ends}
 use Rattle.local.proofs.run.Goals as goal
 
 pub loop-s-init : goal.loop-s-init
-loop-s-init c = begins c.requires.0 c.requires.1 (ap (replicate 64) c.no_record-none.ensures)
+loop-s-init c = begins c.requires.0 c.requires.1 refl
 
 pub offset_bounds-frames-slot : goal.offset_bounds-frames-slot
 offset_bounds-frames-slot c = omega (arith, slot_low c.loop-s.invariant c.loop-s-test.true, c.loop-s.invariant.full)

@@ -1,9 +1,6 @@
 -- `local::run` meets its contract: the loop's invariant is `RunSoFar`, and each need is one law of it.
-use mathlib.Core.Path.{refl, ap}
-use native.Mathlib.Omega.{arith}
-use lib.ListN.{replicate}
 use Rattle.machine.specs.Underway.{turns_left}
-use Rattle.local.proofs.RunSoFar.{RunSoFar, begins, slot_low, asks, goes_on, falls, ends}
+use Rattle.local.proofs.RunSoFar.{RunSoFar}
 use Rattle.local.proofs.run.Given as goal
 
 abbrev pub invariant-loop-s : goal.invariant-loop-s

@@ -1,10 +1,8 @@
 -- `stopped_outside` meets its contract: no body is open there.
-use borrow.Author.Rules.{rules}
-use Rattle.machine.proofs.Making.{stopped-here}
 use Rattle.machine.proofs.stopped_outside.Goals as goal
 
 pub stopped-requires : goal.stopped-requires
 stopped-requires c = c.requires
 
 pub returns : goal.returns
-returns c = stopped-here c.nowhere-here.ensures c.stopped.ensures
+returns c = c.stopped.ensures

@@ -2,4 +2,4 @@
 use Rattle.machine.proofs.zero_to.Goals as goal
 
 pub returns : goal.returns
-returns c = rw (c.zero_at.ensures, c.nowhere.ensures)
+returns c = c.zero_at.ensures

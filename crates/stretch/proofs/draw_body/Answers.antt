@@ -1,8 +1,10 @@
 -- `draw_body` meets its contract: it keeps what is left to draw (proofs/Running.antt), and ends where a call is opened.
 use Rattle.turns.proofs.Nets.{near-more}
 use native.Mathlib.Omega.{arith}
-use mathlib.Core.Path.{◌∙◌}
-use Rattle.stretch.proofs.Running.{Running, started, reached-here, room-here, was_all, two_more, met, layer_asked, was_layer, shape_asked, was_shape, shape-refused, call_asked, call-refused, call_opens, call-grows, all_grows, stop-grows}
+use mathlib.Core.Path.{ap, ◌∙◌}
+use Rattle.std.specs.Prelude.{Err}
+use Rattle.std.proofs.lemmas.Result.{err_from_is_err_and}
+use Rattle.stretch.proofs.Running.{Running, started, reached-here, room-here, was_all, two_more, met, layer_asked, was_layer, shape_asked, was_shape, shape-refused, call_asked, call-refused, call_opens, call-grows, all_grows, stopped-grows}
 use Prim.Native.Nat.{◌-◌}
 use Rattle.stretch.proofs.draw_body.Goals as goal
 
@@ -45,11 +47,11 @@ read_call-call-requires c = (call_asked c.loop-at.invariant (met c.loop-at.invar
 pub open_call-requires : goal.open_call-requires
 open_call-requires c = (c.requires.0.sorted, c.requires.0.some_left, c.requires.0.levels)
 
-pub returns-in-Refused : goal.returns-in-Refused
-returns-in-Refused c = record { body_comes = call-refused c.loop-at.invariant (met c.loop-at.invariant (omega (arith, c.loop-at-test.true)) c.head_at-head.ensures) c.requires.2.within c.if-kind-eq67.true c.read_call-call.ensures c.open_call.ensures c.in-Refused.is; grows = stop-grows _ _ }
+pub returns-in_err-entered : goal.returns-in_err-entered
+returns-in_err-entered c = let p = err_from_is_err_and _ c.from_residual.ensures.1 in let is = p.1 ∙ ap Err p.2 in record { body_comes = call-refused c.loop-at.invariant (met c.loop-at.invariant (omega (arith, c.loop-at-test.true)) c.head_at-head.ensures) c.requires.2.within c.if-kind-eq67.true c.read_call-call.ensures c.open_call.ensures c.in_err-entered.was is; grows = stopped-grows _ is }
 
-pub returns-in-Descends : goal.returns-in-Descends
-returns-in-Descends c = record { body_comes = call_opens c.loop-at.invariant (met c.loop-at.invariant (omega (arith, c.loop-at-test.true)) c.head_at-head.ensures) c.requires.2.within c.if-kind-eq67.true c.read_call-call.ensures c.open_call.ensures c.requires.0.some_left c.requires.1 c.in-Descends.is; grows = call-grows c.loop-at.invariant (met c.loop-at.invariant (omega (arith, c.loop-at-test.true)) c.head_at-head.ensures) c.requires.2.within c.if-kind-eq67.true c.read_call-call.ensures c.open_call.ensures _ c.in-Descends.is }
+pub returns-then-kind-eq67 : goal.returns-then-kind-eq67
+returns-then-kind-eq67 c = record { body_comes = call_opens c.loop-at.invariant (met c.loop-at.invariant (omega (arith, c.loop-at-test.true)) c.head_at-head.ensures) c.requires.2.within c.if-kind-eq67.true c.read_call-call.ensures c.open_call.ensures c.requires.0.some_left c.requires.1 c.in_ok-entered.was; grows = call-grows c.loop-at.invariant (met c.loop-at.invariant (omega (arith, c.loop-at-test.true)) c.head_at-head.ensures) c.requires.2.within c.if-kind-eq67.true c.read_call-call.ensures c.open_call.ensures _ c.in_ok-entered.was }
 
 pub offset_bounds-bodies-from-else-kind-eq67 : goal.offset_bounds-bodies-from-else-kind-eq67
 offset_bounds-bodies-from-else-kind-eq67 c = let m = met c.loop-at.invariant (omega (arith, c.loop-at-test.true)) c.head_at-head.ensures in omega (arith, m.next, m.within, c.requires.2.within, c.requires.0.short)
@@ -73,10 +75,10 @@ pub loop-at-smaller : goal.loop-at-smaller
 loop-at-smaller c = let m = met c.loop-at.invariant (omega (arith, c.loop-at-test.true)) c.head_at-head.ensures in omega (arith, m.next, m.within, c.loop-at-test.true)
 
 pub loop-at-preserved : goal.loop-at-preserved
-loop-at-preserved c = was_shape c.loop-at.invariant (met c.loop-at.invariant (omega (arith, c.loop-at-test.true)) c.head_at-head.ensures) c.requires.2.within c.if-kind-eq76.false c.if-kind-eq67.false c.draw_shape.ensures c.in-Done.is
+loop-at-preserved c = was_shape c.loop-at.invariant (met c.loop-at.invariant (omega (arith, c.loop-at-test.true)) c.head_at-head.ensures) c.requires.2.within c.if-kind-eq76.false c.if-kind-eq67.false c.draw_shape.ensures c.in_ok-ink.was
 
-pub returns-in-Refused-draw_shape : goal.returns-in-Refused-draw_shape
-returns-in-Refused-draw_shape c = record { body_comes = shape-refused c.loop-at.invariant (met c.loop-at.invariant (omega (arith, c.loop-at-test.true)) c.head_at-head.ensures) c.requires.2.within c.if-kind-eq76.false c.if-kind-eq67.false c.draw_shape.ensures c.in-Refused-draw_shape.is; grows = stop-grows _ _ }
+pub returns-in_err-ink : goal.returns-in_err-ink
+returns-in_err-ink c = let p = err_from_is_err_and _ c.from_residual-in_err-ink.ensures.1 in let is = p.1 ∙ ap Err p.2 in record { body_comes = shape-refused c.loop-at.invariant (met c.loop-at.invariant (omega (arith, c.loop-at-test.true)) c.head_at-head.ensures) c.requires.2.within c.if-kind-eq76.false c.if-kind-eq67.false c.draw_shape.ensures c.in_err-ink.was is; grows = stopped-grows _ is }
 
 pub returns : goal.returns
 returns c = record { body_comes = was_all c.loop-at.invariant (omega (arith, c.loop-at-test.false)); grows = all_grows c.loop-at.invariant }

@@ -1,8 +1,5 @@
 -- `draw_body` meets its contract: it keeps what is left to draw (proofs/Running.antt), and ends where a call is opened.
-use Rattle.turns.proofs.Nets.{near-more}
-use native.Mathlib.Omega.{arith}
-use mathlib.Core.Path.{◌∙◌}
-use Rattle.stretch.proofs.Running.{Running, started, reached-here, room-here, was_all, two_more, met, layer_asked, was_layer, shape_asked, was_shape, shape-refused, call_asked, call-refused, call_opens, call-grows, all_grows, stop-grows}
+use Rattle.stretch.proofs.Running.{Running}
 use Prim.Native.Nat.{◌-◌}
 use Rattle.stretch.proofs.draw_body.Given as goal
 
