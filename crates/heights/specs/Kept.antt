@@ -1,7 +1,7 @@
 -- What is kept beside the rows while bodies are gone through: the height of each finished symbol and the set of its layers, and which symbols are open.
 -- A running account, not to be believed.
 -- Assumes nothing.
-use Rattle.std.specs.Prelude.{◌≡◌, true, List, [], ◌∷◌, ℕ, Some, None, Result, Ok, Err, ◌+◌, ◌≤◌, ◌<◌, eqb, ℤ, length, get_or}
+use Rattle.std.specs.Prelude.{◌≡◌, Bool, true, false, List, [], ◌∷◌, ℕ, Some, None, Result, Ok, Err, ◌+◌, ◌≤◌, ◌<◌, ℤ, length, get_or}
 use Rattle.definition.specs.Limits.{deepest}
 use Rattle.definition.specs.declared.Rule.{Rule}
 use Rattle.definition.specs.declared.Rule.TheVariants.{UndefinedSymbol, BeingDrawn, TooDeep}
@@ -10,30 +10,32 @@ use Rattle.library.specs.Sound.{Stocked}
 use Rattle.library.specs.Rows.{Sorted, Finds}
 use Rattle.heights.specs.Calls.{calls_of}
 use Rattle.heights.specs.declared.Standing.{Standing}
+use Rattle.heights.specs.declared.Seen.{Seen}
+use Rattle.heights.specs.declared.Seen.TheVariants.{Unknown, Open, Known}
 use Rattle.heights.specs.declared.Looked.{Looked}
-use Rattle.heights.specs.declared.Looked.TheVariants.{Known, Fresh}
+use Rattle.heights.specs.declared.Looked.TheVariants.{Stands, Fresh}
 use Rattle.heights.specs.Walk.{Graph, graph_in, among, standing, walk, free, through}
 
--- the mark of a symbol that is open
-abbrev pub open_mark : ℕ
-open_mark = 33
+abbrev pub seen_at : List Seen → ℕ → Seen
+seen_at seen i = get_or seen i Unknown
 
-abbrev pub height_at : List ℕ → ℕ → ℕ
-height_at heights i = get_or heights i 0
+abbrev pub open? : Seen → Bool
+open? Unknown = false
+open? Open = true
+open? (Known x) = false
 
 -- the row of a live symbol
 pub record AtRow (rows : List ℕ) (live n i : ℕ) : Type 0 where
   pub finds : Finds rows live n (Some i)
 
 -- what `look_up` answers, with so many levels left
-pub data Looks (rows : List ℕ) (live : ℕ) (heights layers : List ℕ) (n left : ℕ) : Result Looked Rule → Type 0 where
-  undefined : Finds rows live n None → Looks rows live heights layers n left (Err UndefinedSymbol)
-  is_open : {i : ℕ} → AtRow rows live n i → height_at heights i ≡ open_mark → Looks rows live heights layers n left (Err BeingDrawn)
-  too_tall : {i : ℕ} → AtRow rows live n i → (height_at heights i ≡ open_mark → ⊥) → left < height_at heights i → Looks rows live heights layers n left (Err TooDeep)
-  known : {i : ℕ} → AtRow rows live n i → (height_at heights i ≡ open_mark → ⊥) → 0 < height_at heights i → height_at heights i ≤ left
-      → Looks rows live heights layers n left (Ok (Known (height_at heights i) (get_or layers i 0)))
-  too_deep : {i : ℕ} → AtRow rows live n i → height_at heights i ≡ 0 → left ≡ 0 → Looks rows live heights layers n left (Err TooDeep)
-  fresh : {i : ℕ} → AtRow rows live n i → height_at heights i ≡ 0 → 0 < left → Looks rows live heights layers n left (Ok (Fresh i))
+pub data Looks (rows : List ℕ) (live : ℕ) (seen : List Seen) (n left : ℕ) : Result Looked Rule → Type 0 where
+  undefined : Finds rows live n None → Looks rows live seen n left (Err UndefinedSymbol)
+  is_open : {i : ℕ} → AtRow rows live n i → seen_at seen i ≡ Open → Looks rows live seen n left (Err BeingDrawn)
+  too_tall : {i : ℕ} {x : Standing} → AtRow rows live n i → seen_at seen i ≡ Known x → left < x.height → Looks rows live seen n left (Err TooDeep)
+  known : {i : ℕ} {x : Standing} → AtRow rows live n i → seen_at seen i ≡ Known x → x.height ≤ left → Looks rows live seen n left (Ok (Stands x))
+  too_deep : {i : ℕ} → AtRow rows live n i → seen_at seen i ≡ Unknown → left ≡ 0 → Looks rows live seen n left (Err TooDeep)
+  fresh : {i : ℕ} → AtRow rows live n i → seen_at seen i ≡ Unknown → 0 < left → Looks rows live seen n left (Ok (Fresh i))
 
 -- a symbol stands where so many levels are left, whatever is open
 pub record Stood (g : Graph) (left n h s : ℕ) : Type 0 where
@@ -50,54 +52,51 @@ unfoldable pub Each : (ℕ → Type 0) → List ℕ → Type 0
 Each P [] = Unit {0}
 Each P (c ∷ cs) = P c × Each P cs
 
--- a kept height and set are the symbol's
-abbrev pub Remembered : (rows : List ℕ) (b : List ℤ) (live : ℕ) (own heights layers : List ℕ) → Type 0
-Remembered rows b live own heights layers =
-    (i : ℕ) → i < live → 0 < height_at heights i → (height_at heights i ≡ open_mark → ⊥)
-    → Stood (graph_in rows b live own) deepest (symbol_at rows i) (height_at heights i) (get_or layers i 0)
+-- what is kept of a symbol is what it gives
+abbrev pub Remembered : (rows : List ℕ) (b : List ℤ) (live : ℕ) (own : List ℕ) → List Seen → Type 0
+Remembered rows b live own seen =
+    (i : ℕ) → i < live → (x : Standing) → seen_at seen i ≡ Known x → Stood (graph_in rows b live own) deepest (symbol_at rows i) x.height x.layers
 
 -- these symbols are open, and no others
-abbrev pub Marked : (rows : List ℕ) (live : ℕ) (heights : List ℕ) → List ℕ → Type 0
-Marked rows live heights o = (i : ℕ) → i < live → among (symbol_at rows i) o ≡ eqb (height_at heights i) open_mark
+abbrev pub Marked : (rows : List ℕ) (live : ℕ) → List Seen → List ℕ → Type 0
+Marked rows live seen o = (i : ℕ) → i < live → among (symbol_at rows i) o ≡ open? (seen_at seen i)
 
-pub record Ready (rows : List ℕ) (b : List ℤ) (live : ℕ) (own heights layers : List ℕ) (left : ℕ) : Type 0 where
+pub record Ready (rows : List ℕ) (b : List ℤ) (live : ℕ) (own : List ℕ) (seen : List Seen) (left : ℕ) : Type 0 where
   pub sorted : Sorted rows live
   pub stocked : Stocked rows b live
   pub short : length b ≤ most_words
-  pub heights_sized : length heights ≡ most
-  pub layers_sized : length layers ≡ most
+  pub sized : length seen ≡ most
   pub some_left : left ≤ deepest
-  pub remembered : Remembered rows b live own heights layers
+  pub remembered : Remembered rows b live own seen
 
 -- before a call of a symbol: every open symbol leads to it
-pub record Opened (rows : List ℕ) (b : List ℤ) (live : ℕ) (own heights : List ℕ) (n : ℕ) (o : List ℕ) : Type 0 where
-  pub marked : Marked rows live heights o
+pub record Opened (rows : List ℕ) (b : List ℤ) (live : ℕ) (own : List ℕ) (seen : List Seen) (n : ℕ) (o : List ℕ) : Type 0 where
+  pub marked : Marked rows live seen o
   pub leads : (m : ℕ) → among m o ≡ true → Leads (graph_in rows b live own) m n
 
 -- before the body of a row: every open symbol leads to each that it calls
-pub record Inside (rows : List ℕ) (b : List ℤ) (live : ℕ) (own heights : List ℕ) (row : ℕ) (o : List ℕ) : Type 0 where
+pub record Inside (rows : List ℕ) (b : List ℤ) (live : ℕ) (own : List ℕ) (seen : List Seen) (row : ℕ) (o : List ℕ) : Type 0 where
   pub here : row < live
-  pub marked : Marked rows live heights o
+  pub marked : Marked rows live seen o
   pub leads : (m : ℕ) → among m o ≡ true → Each (Leads (graph_in rows b live own) m) (calls_of (body_at rows b row))
 
 -- where a symbol stands, the same are open as before, and what is kept is right
-pub record Keeps (rows : List ℕ) (b : List ℤ) (live : ℕ) (own heights heights' layers' : List ℕ) : Type 0 where
-  pub same_open : (i : ℕ) → i < live → eqb (height_at heights' i) open_mark ≡ eqb (height_at heights i) open_mark
-  pub heights_sized : length heights' ≡ most
-  pub layers_sized : length layers' ≡ most
-  pub remembered : Remembered rows b live own heights' layers'
+pub record Keeps (rows : List ℕ) (b : List ℤ) (live : ℕ) (own : List ℕ) (seen seen' : List Seen) : Type 0 where
+  pub same_open : (i : ℕ) → i < live → open? (seen_at seen' i) ≡ open? (seen_at seen i)
+  pub sized : length seen' ≡ most
+  pub remembered : Remembered rows b live own seen'
 
 abbrev pub KeepsIf : Result Standing Rule → Type 0 → Type 0
 KeepsIf (Err r) K = Unit {0}
 KeepsIf (Ok x) K = K
 
 -- the contract of `reply_to`
-pub record Replies (rows : List ℕ) (b : List ℤ) (live : ℕ) (own heights : List ℕ) (n left : ℕ) (r : Result Standing Rule) (heights' layers' : List ℕ) : Type 0 where
-  pub reply : (o : List ℕ) → Opened rows b live own heights n o → r ≡ walk (graph_in rows b live own) left o n
-  pub keeps : KeepsIf r (Keeps rows b live own heights heights' layers')
+pub record Replies (rows : List ℕ) (b : List ℤ) (live : ℕ) (own : List ℕ) (seen : List Seen) (n left : ℕ) (r : Result Standing Rule) (seen' : List Seen) : Type 0 where
+  pub reply : (o : List ℕ) → Opened rows b live own seen n o → r ≡ walk (graph_in rows b live own) left o n
+  pub keeps : KeepsIf r (Keeps rows b live own seen seen')
 
 -- of `reply_of_body`
-pub record BodyReplies (rows : List ℕ) (b : List ℤ) (live : ℕ) (own heights : List ℕ) (row left : ℕ) (r : Result Standing Rule) (heights' layers' : List ℕ) : Type 0 where
-  pub reply : (o : List ℕ) → Inside rows b live own heights row o
+pub record BodyReplies (rows : List ℕ) (b : List ℤ) (live : ℕ) (own : List ℕ) (seen : List Seen) (row left : ℕ) (r : Result Standing Rule) (seen' : List Seen) : Type 0 where
+  pub reply : (o : List ℕ) → Inside rows b live own seen row o
       → r ≡ through (walk (graph_in rows b live own) left o) 0 (get_or own row 0) (calls_of (body_at rows b row))
-  pub keeps : KeepsIf r (Keeps rows b live own heights heights' layers')
+  pub keeps : KeepsIf r (Keeps rows b live own seen seen')

@@ -29,17 +29,20 @@ struct Next {
     at: usize,
 }
 
-// What is known of a symbol before its body is gone through, if no rule bars it: its height and its set, or its row.
+// What has been seen of a symbol: nothing yet; that its body is being gone through; or what it gives, which answers for any allowance.
 #[derive(Clone, Copy)]
-enum Looked {
-    Known(usize, u64),
-    Fresh(usize),
+enum Seen {
+    Unknown,
+    Open,
+    Known(Standing),
 }
 
-// What stands for the height of a symbol whose body is being gone through, and of one that was not gone through yet: no symbol has such a height.
-const OPEN: usize = 33;
-
-const UNKNOWN: usize = 0;
+// A symbol that no rule bars: what it gives, or the row whose body is still to be gone through.
+#[derive(Clone, Copy)]
+enum Looked {
+    Stands(Standing),
+    Fresh(usize),
+}
 
 // The first call from a place of a body on: shapes and L commands are passed over.
 fn next_call(bodies: &[i32], from: usize, end: usize) -> Option<Next>
@@ -64,29 +67,21 @@ fn next_call(bodies: &[i32], from: usize, end: usize) -> Option<Next>
 fn look_up(
     rows: &[usize; library::ROW_NUMBERS],
     live: usize,
-    heights: &[usize; library::MOST],
-    layers: &[u64; library::MOST],
+    seen: &[Seen; library::MOST],
     symbol: usize,
     left: usize,
 ) -> Result<Looked, Rule>
     requires { Sorted rows.now live }
-    ensures { Looks rows.now live heights.now layers.now symbol left result }
+    ensures { Looks rows.now live seen.now symbol left result }
 {
     let row = library::find(rows, live, symbol).ok_or(Rule::UndefinedSymbol)?;
-    let height = heights[row];
-    if height == OPEN {
-        return Err(Rule::BeingDrawn);
+    match seen[row] {
+        Seen::Open => Err(Rule::BeingDrawn),
+        Seen::Known(standing) if left < standing.height => Err(Rule::TooDeep),
+        Seen::Known(standing) => Ok(Looked::Stands(standing)),
+        Seen::Unknown if left == 0 => Err(Rule::TooDeep),
+        Seen::Unknown => Ok(Looked::Fresh(row)),
     }
-    if left < height {
-        return Err(Rule::TooDeep);
-    }
-    if height != UNKNOWN {
-        return Ok(Looked::Known(height, layers[row]));
-    }
-    if left == 0 {
-        return Err(Rule::TooDeep);
-    }
-    Ok(Looked::Fresh(row))
 }
 
 // One call: refused, known, or its body is gone through with the symbol open, and its height is one more than its tallest callee.
@@ -96,29 +91,24 @@ fn reply_to(
     rows: &[usize; library::ROW_NUMBERS],
     live: usize,
     own: &[u64; library::MOST],
-    heights: &mut [usize; library::MOST],
-    layers: &mut [u64; library::MOST],
+    seen: &mut [Seen; library::MOST],
     symbol: usize,
     left: usize,
 ) -> Result<Standing, Rule>
-    requires { Ready rows.now bodies.now live own.now heights.old layers.old left × ((o : List ℕ) × Opened rows.now bodies.now live own.now heights.old symbol o) }
-    ensures { Replies rows.now bodies.now live own.now heights.old symbol left result heights.new layers.new }
+    requires { Ready rows.now bodies.now live own.now seen.old left × ((o : List ℕ) × Opened rows.now bodies.now live own.now seen.old symbol o) }
+    ensures { Replies rows.now bodies.now live own.now seen.old symbol left result seen.new }
 {
-    match look_up(rows, live, heights, layers, symbol, left)? {
-        Looked::Known(height, set) => Ok(Standing {
-            height,
-            layers: set,
-        }),
+    match look_up(rows, live, seen, symbol, left)? {
+        Looked::Stands(standing) => Ok(standing),
         Looked::Fresh(row) => {
-            heights[row] = OPEN;
-            let body = reply_of_body(bodies, rows, live, own, heights, layers, row, left - 1)?;
-            let height = body.height + 1;
-            heights[row] = height;
-            layers[row] = body.layers;
-            Ok(Standing {
-                height,
+            seen[row] = Seen::Open;
+            let body = reply_of_body(bodies, rows, live, own, seen, row, left - 1)?;
+            let standing = Standing {
+                height: body.height + 1,
                 layers: body.layers,
-            })
+            };
+            seen[row] = Seen::Known(standing);
+            Ok(standing)
         }
     }
 }
@@ -130,13 +120,12 @@ fn reply_of_body(
     rows: &[usize; library::ROW_NUMBERS],
     live: usize,
     own: &[u64; library::MOST],
-    heights: &mut [usize; library::MOST],
-    layers: &mut [u64; library::MOST],
+    seen: &mut [Seen; library::MOST],
     row: usize,
     left: usize,
 ) -> Result<Standing, Rule>
-    requires { Ready rows.now bodies.now live own.now heights.old layers.old left × ((o : List ℕ) × Inside rows.now bodies.now live own.now heights.old row o) }
-    ensures { BodyReplies rows.now bodies.now live own.now heights.old row left result heights.new layers.new }
+    requires { Ready rows.now bodies.now live own.now seen.old left × ((o : List ℕ) × Inside rows.now bodies.now live own.now seen.old row o) }
+    ensures { BodyReplies rows.now bodies.now live own.now seen.old row left result seen.new }
 {
     let mut at = library::start_at(rows, row);
     let end = at + library::length_at(rows, row);
@@ -152,7 +141,7 @@ fn reply_of_body(
             }
             Some(next) => {
                 at = next.at;
-                let called = reply_to(bodies, rows, live, own, heights, layers, next.symbol, left)?;
+                let called = reply_to(bodies, rows, live, own, seen, next.symbol, left)?;
                 tallest = tallest.max(called.height);
                 set = set | called.layers;
             }
@@ -172,15 +161,13 @@ pub fn ask(
     ensures symbol_replies { SymbolReplies rows.now bodies.now live own.now symbol result }
     ensures value { result ≡ walk (graph_in rows.now bodies.now live own.now) deepest [] symbol }
 {
-    let mut heights = [UNKNOWN; library::MOST];
-    let mut layers = [0u64; library::MOST];
+    let mut seen = [Seen::Unknown; library::MOST];
     reply_to(
         bodies,
         rows,
         live,
         own,
-        &mut heights,
-        &mut layers,
+        &mut seen,
         symbol,
         definition::DEEPEST,
     )

@@ -33,43 +33,37 @@ reply_of_body-loop-next-smaller t c = let n = next_is _ (c.next_call.ensures c.l
 pub reply_of_body-loop-next-preserved : goal.reply_of_body-loop-next-preserved
 reply_of_body-loop-next-preserved t c = let n = next_is _ (c.next_call.ensures c.loop-next.invariant.rest c.loop-next.invariant.remains) c.in-Some.is in went_on _ _ _ _ c.loop-next.invariant n.1 c.reply_to.ensures c.in_ok-called-in-Some.was n.2 c.requires.1.0 c.requires.1.1 c.max-tallest.ensures
 
-pub reply_to-returns-in_err-height : goal.reply_to-returns-in_err-height
-reply_to-returns-in_err-height t c =
+pub reply_to-returns-in_err-standing : goal.reply_to-returns-in_err-standing
+reply_to-returns-in_err-standing t c =
     let p = err_from_is_err_and c.from_residual.result c.from_residual.ensures.1 in
-    rw (p.1, p.2) (refused_says _ _ _ _ c.requires.0 c.look_up.ensures c.in_err-height.was)
+    rw (p.1, p.2) (refused_says _ _ _ _ c.requires.0 c.look_up.ensures c.in_err-standing.was)
 
-pub reply_to-returns-in-Known : goal.reply_to-returns-in-Known
-reply_to-returns-in-Known t c = known-says _ _ _ _ c.requires.0 c.look_up.ensures (c.in_ok-height.was ∙ ap Ok c.in-Known.is)
+pub reply_to-returns-in-Stands : goal.reply_to-returns-in-Stands
+reply_to-returns-in-Stands t c = known-says _ _ _ _ c.requires.0 c.look_up.ensures (c.in_ok-standing.was ∙ ap Ok c.in-Stands.is)
 
-pub reply_to-offset_bounds-heights-row : goal.reply_to-offset_bounds-heights-row
-reply_to-offset_bounds-heights-row t c = let u = untried _ _ _ _ c.requires.0 c.look_up.ensures (c.in_ok-height.was ∙ ap Ok c.in-Fresh.is) in let z = row_low u.row c.requires.0.sorted in omega (arith, z)
+pub reply_to-offset_bounds-seen-row : goal.reply_to-offset_bounds-seen-row
+reply_to-offset_bounds-seen-row t c = let u = untried _ _ _ _ c.requires.0 c.look_up.ensures (c.in_ok-standing.was ∙ ap Ok c.in-Fresh.is) in let z = row_low u.row c.requires.0.sorted in omega (arith, z)
 
-pub reply_to-bounds-heights-row : goal.reply_to-bounds-heights-row
-reply_to-bounds-heights-row t c = let u = untried _ _ _ _ c.requires.0 c.look_up.ensures (c.in_ok-height.was ∙ ap Ok c.in-Fresh.is) in row_low u.row c.requires.0.sorted
+pub reply_to-bounds-seen-row : goal.reply_to-bounds-seen-row
+reply_to-bounds-seen-row t c = let u = untried _ _ _ _ c.requires.0 c.look_up.ensures (c.in_ok-standing.was ∙ ap Ok c.in-Fresh.is) in row_low u.row c.requires.0.sorted
 
 pub reply_to-reply_of_body-requires : goal.reply_to-reply_of_body-requires
-reply_to-reply_of_body-requires t c = let u = untried _ _ _ _ c.requires.0 c.look_up.ensures (c.in_ok-height.was ∙ ap Ok c.in-Fresh.is) in (omega (arith, u.some_left, c.decreases), (ready-inside _ _ _ _ c.requires.0 u, (_ ∷ c.requires.1.0, inside _ _ _ _ c.requires.0 u c.requires.1.0 c.requires.1.1)))
+reply_to-reply_of_body-requires t c = let u = untried _ _ _ _ c.requires.0 c.look_up.ensures (c.in_ok-standing.was ∙ ap Ok c.in-Fresh.is) in (omega (arith, u.some_left, c.decreases), (ready-inside _ _ _ _ c.requires.0 u, (_ ∷ c.requires.1.0, inside _ _ _ _ c.requires.0 u c.requires.1.0 c.requires.1.1)))
 
 pub reply_to-returns-in_err-body-in-Fresh : goal.reply_to-returns-in_err-body-in-Fresh
 reply_to-returns-in_err-body-in-Fresh t c =
-    let u = untried _ _ _ _ c.requires.0 c.look_up.ensures (c.in_ok-height.was ∙ ap Ok c.in-Fresh.is) in
+    let u = untried _ _ _ _ c.requires.0 c.look_up.ensures (c.in_ok-standing.was ∙ ap Ok c.in-Fresh.is) in
     let p = err_from_is_err_and c.from_residual-in_err-body-in-Fresh.result c.from_residual-in_err-body-in-Fresh.ensures.1 in
     rw (p.1, p.2) (body_refused _ _ _ _ c.requires.0 u c.reply_of_body.ensures c.in_err-body-in-Fresh.was)
 
-pub reply_to-overflow_add-height : goal.reply_to-overflow_add-height
-reply_to-overflow_add-height t c = let z = low-enough _ _ _ _ c.requires.0 (untried _ _ _ _ c.requires.0 c.look_up.ensures (c.in_ok-height.was ∙ ap Ok c.in-Fresh.is)) c.reply_of_body.ensures c.in_ok-body-in-Fresh.was c.requires.1.0 c.requires.1.1 in omega (arith, z)
+pub reply_to-overflow_add-standing : goal.reply_to-overflow_add-standing
+reply_to-overflow_add-standing t c = let z = low-enough _ _ _ _ c.requires.0 (untried _ _ _ _ c.requires.0 c.look_up.ensures (c.in_ok-standing.was ∙ ap Ok c.in-Fresh.is)) c.reply_of_body.ensures c.in_ok-body-in-Fresh.was c.requires.1.0 c.requires.1.1 in omega (arith, z)
 
-pub reply_to-offset_bounds-heights-row-in-Fresh : goal.reply_to-offset_bounds-heights-row-in-Fresh
-reply_to-offset_bounds-heights-row-in-Fresh t c = let u = untried _ _ _ _ c.requires.0 c.look_up.ensures (c.in_ok-height.was ∙ ap Ok c.in-Fresh.is) in let z = row_low u.row c.requires.0.sorted in omega (arith, z)
+pub reply_to-offset_bounds-seen-row-in-Fresh : goal.reply_to-offset_bounds-seen-row-in-Fresh
+reply_to-offset_bounds-seen-row-in-Fresh t c = let u = untried _ _ _ _ c.requires.0 c.look_up.ensures (c.in_ok-standing.was ∙ ap Ok c.in-Fresh.is) in let z = row_low u.row c.requires.0.sorted in omega (arith, z)
 
-pub reply_to-bounds-heights-row-in-Fresh : goal.reply_to-bounds-heights-row-in-Fresh
-reply_to-bounds-heights-row-in-Fresh t c = let u = untried _ _ _ _ c.requires.0 c.look_up.ensures (c.in_ok-height.was ∙ ap Ok c.in-Fresh.is) in row_low u.row c.requires.0.sorted
-
-pub reply_to-offset_bounds-layers-row : goal.reply_to-offset_bounds-layers-row
-reply_to-offset_bounds-layers-row t c = let u = untried _ _ _ _ c.requires.0 c.look_up.ensures (c.in_ok-height.was ∙ ap Ok c.in-Fresh.is) in let z = row_low u.row c.requires.0.sorted in omega (arith, z)
-
-pub reply_to-bounds-layers-row : goal.reply_to-bounds-layers-row
-reply_to-bounds-layers-row t c = let u = untried _ _ _ _ c.requires.0 c.look_up.ensures (c.in_ok-height.was ∙ ap Ok c.in-Fresh.is) in row_low u.row c.requires.0.sorted
+pub reply_to-bounds-seen-row-in-Fresh : goal.reply_to-bounds-seen-row-in-Fresh
+reply_to-bounds-seen-row-in-Fresh t c = let u = untried _ _ _ _ c.requires.0 c.look_up.ensures (c.in_ok-standing.was ∙ ap Ok c.in-Fresh.is) in row_low u.row c.requires.0.sorted
 
 pub reply_to-returns-in_ok-body-in-Fresh : goal.reply_to-returns-in_ok-body-in-Fresh
-reply_to-returns-in_ok-body-in-Fresh t c = finished _ _ _ _ c.requires.0 (untried _ _ _ _ c.requires.0 c.look_up.ensures (c.in_ok-height.was ∙ ap Ok c.in-Fresh.is)) c.reply_of_body.ensures c.in_ok-body-in-Fresh.was c.requires.1.0 c.requires.1.1
+reply_to-returns-in_ok-body-in-Fresh t c = finished _ _ _ _ c.requires.0 (untried _ _ _ _ c.requires.0 c.look_up.ensures (c.in_ok-standing.was ∙ ap Ok c.in-Fresh.is)) c.reply_of_body.ensures c.in_ok-body-in-Fresh.was c.requires.1.0 c.requires.1.1

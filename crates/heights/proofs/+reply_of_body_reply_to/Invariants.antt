@@ -11,7 +11,7 @@ decreases-reply_to l = 2 * l.left
 
 abbrev pub invariant-reply_of_body-loop-next : goal.invariant-reply_of_body-loop-next
 invariant-reply_of_body-loop-next l =
-    WalkedSoFar l.rows l.bodies l.live l.own l.row l.left l.initial.heights l.end l.heights l.layers l.at l.tallest l.set
+    WalkedSoFar l.rows l.bodies l.live l.own l.row l.left l.initial.seen l.end l.seen l.at l.tallest l.set
 
 abbrev pub decreases-reply_of_body-loop-next : goal.decreases-reply_of_body-loop-next
 decreases-reply_of_body-loop-next l =
