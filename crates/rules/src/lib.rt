@@ -2,7 +2,7 @@
 // scaled. They stand below both passes over a text, the check and the drawing, so that both go by the same rules.
 #![tactic(auto)]
 
-ghost use Rattle.std.specs.Prelude.{◌≡◌, not, ◌+◌, ◌*◌, ◌%◌, ◌≤◌, eqb};
+ghost use Rattle.std.specs.Prelude.{◌≡◌, not, ◌*◌, ◌%◌, ◌≤◌, eqb};
 ghost use Rattle.definition.specs.Standing.{nearest};
 ghost use Rattle.pieces.specs.Pieces.{too_large};
 ghost use Rattle.rules.specs.Written.{one};
@@ -12,7 +12,8 @@ use definition::Rule;
 
 // RULES 12, refusal 7.
 const LEAST_POINTS: usize = 3;
-// Above the refusals that a command can meet: none.
+// Above the refusals that a command can meet: none. The account keeps the lowest by its number, so no refusal is a number too, and the lower of two is one
+// comparison; an Option<Rule> would be turned into a number for each.
 pub const NO_REFUSAL: usize = 10;
 
 // The rule of the lowest refusal that a command meets.
@@ -50,7 +51,8 @@ pub fn is_distance(letter: u8, word: u8, index: usize) -> bool
     }
 }
 
-// A number at a scale: its value, and 1 if it was rounded, else 0.
+// A number at a scale: its value, and 1 if it was rounded, else 0: it is added up, and the wrong program that counts one twice is tried here
+// (must-fail/rounded_down_counted_twice).
 #[derive(Clone, Copy)]
 pub struct AtScale {
     pub value: usize,
@@ -103,8 +105,7 @@ fn is_vital(letter: u8, word: u8, index: usize, zero: bool) -> bool
     match letter {
         b'B' => index < 2 || (index == 5 && zero),
         b'C' => word == b'R' && index % 2 == 0 && zero,
-        b'R' | b'W' => index == 0,
-        _ => false,
+        _ => index == 0 && matches!(letter, b'R' | b'W'),
     }
 }
 
