@@ -1,6 +1,7 @@
 -- What holds while a text is checked, piece by piece: `Checking`, and how each piece keeps it. What the code needs so that nothing wraps is kept by
 -- laws, so that the contracts of its parts are plain equations.
 -- Assumes nothing.
+use Rattle.std.specs.Prelude.{Err, Ok, Result}
 use mathlib.Core.Path.{◌≡◌, refl, sym, ap, ◌∙◌, subst}
 use mathlib.Core.Bool.{Bool, true, false, not, ◌&&◌, ◌||◌}
 use mathlib.Core.List.{List, [], ◌∷◌}
@@ -11,6 +12,7 @@ use borrow.Author.Tests.{ltb-false, eqb-false}
 use lib.Dec.{ltb, eqb}
 use Rattle.grammar.specs.Notation.{lead, head}
 use Rattle.grammar.specs.Steps.{choose, number}
+use Rattle.definition.specs.declared.Refusal.{Refusal}
 use Rattle.pieces.specs.Pieces.{too_large, stream, start, Fit, Step}
 use Rattle.pieces.specs.declared.Spot.{Spot}
 use Rattle.pieces.specs.declared.Piece.{Piece}
@@ -19,14 +21,12 @@ use Rattle.rules.specs.Letters.{letter_d, letter_l, no_refusal}
 use Rattle.pieces.specs.Pieces.{letter_s, letter_f}
 use Rattle.rules.specs.Written.{turning}
 use Rattle.rules.specs.Rules.{distance, scaleless, few, bare, many, whole_refusal}
-use Rattle.definition.specs.declared.Refusal.{Refusal}
 use Rattle.checking.specs.Account.{layer_of, refusal, scope, at_start}
 use Rattle.checking.specs.Along.{fresh, begun, idle, counted, worded, after_doing, finished, onward, runs, Fair, Sane}
 use Rattle.checking.specs.declared.Scope.{Scope}
 use Rattle.checking.specs.declared.Doing.{Doing}
 use Rattle.pieces.proofs.Finds.{Finds, none, some}
 use Rattle.names.proofs.Naming.{name-room}
-use Rattle.std.specs.Prelude.{Err, Ok, Result}
 
 -- what the code needs is kept
 abbrev FairEnd : Result Scope Refusal → Type 0

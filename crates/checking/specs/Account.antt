@@ -1,7 +1,7 @@
 -- Refusals 3 to 9 of whole commands as they are written, in text order. A running account, not to be believed: the refusals stand in crates/definition,
 -- and crates/reading shows that on a text of the grammar the two come to the same. All is over ℕ: a number is its distance from zero.
 -- Assumes nothing.
-use Rattle.std.specs.Prelude.{Bool, true, false, ◌&&◌, List, [], ◌∷◌, ℕ, ◌+◌, ltb, eqb, length, if◌then◌else◌}
+use Rattle.std.specs.Prelude.{Bool, true, false, ◌&&◌, List, [], ◌∷◌, ℕ, ◌+◌, ltb, eqb, length, if◌then◌else◌, Err, Ok, Result}
 use Rattle.grammar.specs.Notation.{Letter}
 use Rattle.definition.specs.declared.Refusal.{Refusal}
 use Rattle.definition.specs.Limits.{largest}
@@ -10,7 +10,6 @@ use Rattle.rules.specs.Letters.{letter_d, letter_l, no_refusal, first_unit}
 use Rattle.rules.specs.Written.{Written, Figure, written, numbers, letters, last_letter, size_at, packed_by, turns_of}
 use Rattle.rules.specs.Rules.{rule_of, scaled_by, rounded_by, vital, scaleless, few, bare, many}
 use Rattle.checking.specs.declared.Scope.{Scope}
-use Rattle.std.specs.Prelude.{Err, Ok, Result}
 
 -- the layer that is set, packed; 0 for none
 abbrev pub layer_of : Scope → ℕ

@@ -1,7 +1,8 @@
 -- The account as the code goes along, piece by piece, with what it keeps of the command that it is in. Not to be believed: crates/reading shows, in
 -- proofs/Meaning.antt, that it comes to what specs/Account.antt says of whole commands.
 -- Assumes nothing.
-use Rattle.std.specs.Prelude.{Bool, true, false, List, [], ◌∷◌, ℕ, ◌+◌, ◌*◌, ◌/◌, ◌≤◌, ltb, eqb, if◌then◌else◌}
+use Rattle.std.specs.Prelude.{Bool, true, false, List, [], ◌∷◌, ℕ, ◌+◌, ◌*◌, ◌/◌, ◌≤◌, ltb, eqb, if◌then◌else◌, Err, Ok, Result}
+use Rattle.definition.specs.declared.Refusal.{Refusal}
 use Rattle.pieces.specs.Pieces.{too_large}
 use Rattle.pieces.specs.declared.Piece.{Piece}
 use Rattle.pieces.specs.declared.Piece.TheVariants.{First, Second, Number, Word, Stop}
@@ -11,8 +12,6 @@ use Rattle.rules.specs.Rules.{scaled_by, rounded_by, number_refusal, whole_refus
 use Rattle.checking.specs.Account.{layer_of, refusal, scope_by}
 use Rattle.checking.specs.declared.Scope.{Scope}
 use Rattle.checking.specs.declared.Doing.{Doing}
-use Rattle.std.specs.Prelude.{Err, Ok, Result}
-use Rattle.definition.specs.declared.Refusal.{Refusal}
 
 -- the lower of refusal k and the one before, n, and its place: 7 is placed at the command, others here
 abbrev pub lower : ℕ → ℕ → ℕ

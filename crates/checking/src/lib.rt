@@ -2,7 +2,7 @@
 // leaves the grammar it has no more pieces, and so no more commands. That the account is the definition's is proved in reading, above.
 #![tactic(auto)]
 
-ghost use Rattle.std.specs.Prelude.{◌≡◌, true, false, ◌+◌, ◌≤◌};
+ghost use Rattle.std.specs.Prelude.{◌≡◌, false, ◌+◌, ◌≤◌};
 ghost use Rattle.pieces.specs.Pieces.{farthest, too_large, stream, start};
 ghost use Rattle.rules.specs.Written.{turning, one};
 ghost use Rattle.checking.specs.Account.{layer_of, scope, at_start};
@@ -10,7 +10,8 @@ ghost use Rattle.checking.specs.Along.{lower, blamed, kept, fresh, idle, counted
 
 use definition::Refusal;
 
-// What stands between commands: whether a definition is open, its scale, and the layers set outside and inside, packed, 0 for none.
+// What stands between commands: whether a definition is open, its scale, and the layers set outside and inside, packed, 0 for none: no name packs to 0,
+// and the account goes by these numbers, so an Option would only be turned into one where it is asked.
 #[derive(Clone, Copy)]
 pub struct Scope {
     pub inside: bool,
@@ -22,7 +23,7 @@ pub struct Scope {
 
 // The command that is being checked: its place and first letter, its last letter, how many numbers it has had and whether the last was 0, its
 // transformations, what its next letter counts in its name, its second and third number, its name, its lowest refusal so far with the place, and how many
-// distances of the text are rounded so far.
+// distances of the text are rounded so far. Between commands, where `busy` is false, the count of rounded distances goes on, so this is no Option.
 #[derive(Clone, Copy)]
 pub struct Doing {
     pub busy: bool,

@@ -1,5 +1,6 @@
 -- Two outcomes that `read_command` may give are one: the command, its words, and where the next begins.
 -- Assumes nothing.
+use Rattle.std.specs.Prelude.{None, Option, Some}
 use mathlib.Core.Path.{◌≡◌, refl, sym, ap, ◌∙◌, subst}
 use mathlib.Core.List.{List, nil≢cons, head-eq_of_cons-eq}
 use Prim.Native.Nat.{ℕ}
@@ -7,7 +8,6 @@ use lib.IntN.{ℤ}
 use Rattle.pieces.specs.declared.Spot.{Spot}
 use Rattle.rules.specs.Written.{Written}
 use Rattle.commands.specs.Words.{DecodedOne, ReadsCommand}
-use Rattle.std.specs.Prelude.{None, Option, Some}
 use Rattle.commands.specs.declared.Decoded.{Decoded}
 
 module _ (t : List ℕ) (s : Spot) (a b : ℕ) (ws : List ℤ) where

@@ -1,6 +1,7 @@
 -- A command laid out in words: runs of stores, what has been written and what is left to write (`Wording`), and the way to a command's first letter
 -- (`Seeking`).
 -- Assumes nothing.
+use Rattle.std.specs.Prelude.{Some}
 use mathlib.Core.Path.{◌≡◌, refl, sym, ap, ◌∙◌, subst}
 use mathlib.Core.Bool.{Bool, true, false}
 use mathlib.Core.List.{List, [], ◌∷◌, ◌++◌, append_assoc, append-nil}
@@ -31,7 +32,6 @@ use Rattle.commands.specs.Words.{widest, held, signed, word, value_of, letter_wo
 use Rattle.commands.specs.declared.Line.{Line}
 use Rattle.pieces.proofs.Finds.{Finds, none, some}
 use Rattle.names.proofs.Naming.{name-room}
-use Rattle.std.specs.Prelude.{Some}
 use Rattle.commands.specs.declared.Decoded.{Decoded}
 
 never : false ≡ true → ⊥

@@ -1,7 +1,7 @@
 -- A command as words: its kind and how many words follow its place, its place, and then its numbers after scaling, with what is left out filled in.
 -- A running account, not to be believed: a proof shows that on a sound text these are the numbers of the command that crates/definition reads.
 -- Assumes nothing.
-use Rattle.std.specs.Prelude.{◌≡◌, Bool, true, false, List, [], ◌∷◌, ◌++◌, ℕ, zero, suc, ◌+◌, ◌-◌, ◌*◌, ◌/◌, ◌≤◌, ◌<◌, ltb, eqb, ℤ, pos, neg_ℤ, length, if◌then◌else◌}
+use Rattle.std.specs.Prelude.{◌≡◌, Bool, true, false, List, [], ◌∷◌, ◌++◌, ℕ, zero, suc, ◌+◌, ◌-◌, ◌*◌, ◌/◌, ◌≤◌, ◌<◌, ltb, eqb, ℤ, pos, neg_ℤ, length, if◌then◌else◌, None, Option, Some}
 use Rattle.std.proofs.lemmas.List.Edits.{sets}
 use Rattle.grammar.specs.Notation.{lead}
 use Rattle.grammar.specs.Steps.{inside, number}
@@ -14,7 +14,6 @@ use Rattle.rules.specs.Letters.{letter_b, letter_c, letter_d, letter_l, letter_m
 use Rattle.rules.specs.Written.{Written, written, written_at, letters, last_letter, packed_by, one, inside_behind}
 use Rattle.rules.specs.Rules.{scaled_by}
 use Rattle.commands.specs.declared.Line.{Line}
-use Rattle.std.specs.Prelude.{None, Option, Some}
 use Rattle.commands.specs.declared.Decoded.{Decoded}
 
 -- the largest number that a word holds

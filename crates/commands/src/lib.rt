@@ -2,10 +2,9 @@
 // any bytes: where a text leaves the grammar it has no more pieces, and so no more commands. Which numbers these are is proved in reading, above.
 #![tactic(auto)]
 
-ghost use Rattle.std.specs.Prelude.{◌≡◌, false, [], ◌∷◌, ◌+◌, ◌*◌, ◌/◌, ◌<◌, ◌≤◌, if◌then◌else◌};
+ghost use Rattle.std.specs.Prelude.{◌≡◌, false, [], ◌∷◌, ◌+◌, ◌*◌, ◌<◌, ◌≤◌};
 ghost use Rattle.pieces.specs.Pieces.{too_large, Fit};
 ghost use Rattle.rules.specs.Letters.{byte_unit, first_unit};
-ghost use Rattle.rules.specs.Rules.{distance};
 ghost use Rattle.commands.specs.Words.{widest, held, word, value_of, letter_words, closing, kind_by, Writes, Lined, line_number, line_letter, Closed, outmost, ReadsCommand, ReadsItems};
 
 // The largest number that a word holds.

@@ -3,13 +3,13 @@
 -- Assumes nothing.
 use mathlib.Core.Path.{◌≡◌, refl, sym, ap, ◌∙◌, subst}
 use mathlib.Core.List.{List, [], ◌∷◌, ◌++◌, append_assoc, append-nil}
-use Prim.Native.Nat.{ℕ, zero, suc, ◌+◌, ◌*◌, ◌-◌, ◌/◌, ◌%◌, ◌≤◌, ◌<◌}
+use Prim.Native.Nat.{ℕ, zero, suc, ◌+◌, ◌*◌, ◌-◌, ◌/◌, ◌%◌, ◌^◌, ◌≤◌, ◌<◌}
 use native.Mathlib.Nat.{mul_comm, mul_assoc, mul_left_comm, mul_right_comm, mul-add, mul-le-mul_left, mul-le-mul_right, lt_of_mul-lt-mul_right, mod-lt}
+use Rattle.std.proofs.Math.Nat.{pow-succ'}
 use native.Mathlib.Omega.{arith}
 use borrow.Author.Tests.{lt-ltb, le-ltb}
 use lib.IntN.{ℤ, pos, negsuc, nat_abs}
 use lib.ListN.{length, set, length-append}
-use lib.Seq.{sets}
 use Rattle.definition.specs.Flat.{digits, shortest, decimal}
 use Rattle.laws.proofs.FlatFile.Decimals.{by_shortest}
 use Rattle.laws.proofs.FlatFile.Lengths.{shortest-length}
@@ -57,6 +57,16 @@ counts_between (suc k) n h l =
     let z = tens_positive k in
     let i = counts_between k (n / 10) (omega (arith, h)) (omega (arith, l)) in
     omega (arith, counts-more n (omega (arith, h, z)), i)
+
+tens-power : (k : ℕ) → tens k ≡ 10 ^ k
+unfolding tens
+tens-power zero = refl
+tens-power (suc k) = ap (λ (n : ℕ). 10 * n) (tens-power k) ∙ sym (pow-succ' 10 k)
+
+-- the digits by the power of ten that is the greatest not above the number
+pub counts_power : (k n : ℕ) → 10 ^ k ≤ n → n < 10 * 10 ^ k → length (shortest n) ≡ k + 1
+unfolding tens
+counts_power k n h l = let p = tens-power k in omega (arith, counts_between k n (omega (arith, p, h)) (omega (arith, p, l)))
 
 pub lasts-length : (k n : ℕ) → length (lasts k n) ≡ k
 unfolding lasts
@@ -128,13 +138,6 @@ pub ends_with_nine : (n : ℕ) → 1000000000 ≤ n → shortest (n / 1000000000
 unfolding tens
 ends_with_nine n h = sym (in_parts 9 n h)
 
-pub counts-parts : (n : ℕ) → 1000000000 ≤ n → length (shortest n) ≡ length (shortest (n / 1000000000)) + 9
-counts-parts n h =
-    let l = lasts-length 9 (n % 1000000000) in
-    let a = length-append (shortest (n / 1000000000)) (lasts 9 (n % 1000000000)) in
-    let e = ap length (ends_with_nine n h) in
-    omega (arith, l, a, e)
-
 -- ---- the loop: `rest` has the digits that are left, as many as `k`, and the product is `rest` in units of 2^57 / 10^(k - 1)
 
 pub record Falling (old new : List ℕ) (at i : ℕ) (all : List ℕ) (left : ℕ) : Type 0 where
@@ -173,13 +176,13 @@ begins_to_fall {room} {at} {n} {count} {unit} r h =
       small = lt_of_mul-lt-mul_right (tens count) {m = n * unit} {n = 10 * whole} (omega (arith, little.1, more));
     }
 
-pub falls_by : {old new new' : List ℕ} {at i i' : ℕ} {all : List ℕ} {left : ℕ} → Falling old new at i all left → i < at + length all
-    → Writes new new' i i' ((48 + left / whole) ∷ []) → Falling old new' at i' all (left % whole * 10)
+pub falls : {old new : List ℕ} {at i : ℕ} {all : List ℕ} {left : ℕ} → Falling old new at i all left → i < at + length all
+    → Falling old (set new i (48 + left / whole)) at (i + 1) all (left % whole * 10)
 unfolding tens
-falls_by {old} {new} {new'} {at} {i} {i'} {all} {left} f h w = by f.k f.rest f.going f.below f.low f.high
+falls {old} {new} {at} {i} {all} {left} f h = by f.k f.rest f.going f.below f.low f.high
   where
     by : (k rest : ℕ) → WrittenSoFar old new at i all (lasts k rest) → rest < tens k → rest * (10 * whole) ≤ left * tens k → left * tens k < (rest + 1) * (10 * whole)
-        → Falling old new' at i' all (left % whole * 10)
+        → Falling old (set new i (48 + left / whole)) at (i + 1) all (left % whole * 10)
     by zero rest g b l m = absurd (let r = reaches g in let n = lasts-length 0 rest in omega (arith, r, n, h))
     by (suc j) rest g b l m =
         let u = tens j in
@@ -195,16 +198,12 @@ falls_by {old} {new} {new'} {at} {i} {i'} {all} {left} f h w = by f.k f.rest f.g
         record {
           rest = rest % u;
           k = j;
-          going = goes_on ((48 + left / whole) ∷ []) g e w;
+          going = goes_on ((48 + left / whole) ∷ []) g e (written refl refl);
           below = mod-lt rest {m = u} z;
           low = omega (arith, lo, s);
           high = omega (arith, hi, s);
           small = omega arith;
         }
-
-pub falls : {old new : List ℕ} {at i : ℕ} {all : List ℕ} {left : ℕ} → Falling old new at i all left → i < at + length all
-    → Falling old (set new i (48 + left / whole)) at (i + 1) all (left % whole * 10)
-falls f h = falls_by f h (written refl refl)
 
 -- where the loop ends, at the last digit or at the room's end, what is left lies past the room
 pub fallen : {old new : List ℕ} {at i next : ℕ} {all : List ℕ} {left : ℕ} → Falling old new at i all left → next ≡ at + length all

@@ -4,7 +4,6 @@ use mathlib.Core.Path.{◌≡◌, refl, sym, ap, ◌∙◌, subst}
 use mathlib.Core.Bool.{Bool, true, false, cond}
 use mathlib.Core.List.{List, [], ◌∷◌, ◌++◌}
 use Prim.Native.Nat.{ℕ, zero, suc, ◌+◌, ◌≤◌, ◌<◌}
-use native.Mathlib.Numerals.{add-one}
 use native.Mathlib.Omega.{arith}
 use borrow.Author.Tests.{ltb-true, leb-false, le-ltb}
 use lib.IntN.{ℤ, pos, negsuc, nat_abs, ◌+ℤ◌, ◌-ℤ◌, +ℤ_idl, +ℤ_one}
@@ -76,11 +75,13 @@ at_most (pos n) f e = absurd (let t = rw (to_z-of_z f) at e in omega (arith, leb
 at_most (negsuc n) f e = rw (to_z-of_z f)
 
 -- the sign before it
-pub minus : (z : ℤ) → Negative z → 45 ∷ [] ≡ sign z
-minus z h = rw h.is
+pub minus : (z : ℤ) → lt_z z (pos 0) ≡ true → 45 ∷ [] ≡ sign z
+minus (pos n) e = absurd (omega (arith, ltb-true n 0 e))
+minus (negsuc n) e = refl
 
-pub no_minus : (z : ℤ) → Positive z → [] ≡ sign z
-no_minus z h = rw h.is
+pub no_minus : (z : ℤ) → lt_z z (pos 0) ≡ false → [] ≡ sign z
+no_minus (pos n) e = refl
+no_minus (negsuc n) e = cc
 
 pub sign-short : (z : ℤ) → length (sign z) ≤ 1
 sign-short (pos n) = omega arith
@@ -96,17 +97,8 @@ pub signed : {r₀ r₁ r₂ : List ℕ} {at next last : ℕ} (z : ℤ) → Writ
 signed z v w = same_bytes (sign-size z) (both v w)
 
 -- how many bytes they have
-pub negative-length : (z : ℤ) → Negative z → length (decimal z) ≡ length (shortest (nat_abs z)) + 1
-negative-length z h =
-    let e = ap length (sign-size z) in
-    let m = ap length (minus z h) in
-    omega (arith, e, m, length-append (sign z) (shortest (nat_abs z)))
-
-pub positive_length : (z : ℤ) → Positive z → length (decimal z) ≡ length (shortest (nat_abs z))
-positive_length z h =
-    let e = ap length (sign-size z) in
-    let m = ap length (no_minus z h) in
-    omega (arith, e, m, length-append (sign z) (shortest (nat_abs z)))
+pub decimal-length : (z : ℤ) → length (decimal z) ≡ length (sign z) + length (shortest (nat_abs z))
+decimal-length z = sym (ap length (sign-size z)) ∙ length-append (sign z) (shortest (nat_abs z))
 
 -- an element of a lent run
 pub lent : (z : ℤ) → mag z < 9223372036854775808 → (wrap z ≡ z) × (nat_abs z ≤ 9223372036854775808)

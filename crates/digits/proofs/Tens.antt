@@ -1,13 +1,12 @@
 -- Digits counted by comparisons and written from the highest on: what tens do to a number, and that no digit is reached by the rounding of the product
 -- from which they fall out.
 -- Assumes nothing.
-use mathlib.Core.Path.{◌≡◌, refl, sym, ap, ◌∙◌, subst}
-use mathlib.Core.Logic.{◌↔◌}
-use mathlib.Core.List.{List, [], ◌∷◌, ◌++◌, append_assoc, append-nil}
-use Prim.Native.Nat.{ℕ, zero, suc, ◌+◌, ◌*◌, ◌-◌, ◌/◌, ◌%◌, ◌≤◌, ◌<◌}
-use native.Mathlib.Nat.{mul_comm, mul_assoc, mul_right_comm, mul-add, add-mul, mul-le-mul_right, mul-le-mul_left, mul-pos, le_of_mul-le-mul_right, lt_of_mul-lt-mul_right, mod-lt, div-add-mod, div-add-mod', add-mul-div_left, div-eq_of_lt, lt-div-mul-add, div-mul-le_self, le-div_iff_mul-le, div-lt_iff_lt-mul}
+use mathlib.Core.Path.{◌≡◌, sym, ap, ◌∙◌}
+use mathlib.Core.List.{List, [], ◌∷◌, ◌++◌}
+use Prim.Native.Nat.{ℕ, zero, suc, ◌+◌, ◌*◌, ◌/◌, ◌%◌, ◌≤◌, ◌<◌}
+use native.Mathlib.Nat.{mul_assoc, mul_right_comm, add-mul, mul-le-mul_right, le_of_mul-le-mul_right, lt_of_mul-lt-mul_right, mod-lt, div-add-mod, div-add-mod', add-mul-div_left, div-eq_of_lt, lt-div-mul-add, div-mul-le_self, le-div_iff_mul-le, div-lt_iff_lt-mul}
 use native.Mathlib.Omega.{arith}
-use Rattle.digits.specs.Tens.{tens, lasts, whole, Raises}
+use Rattle.digits.specs.Tens.{tens, lasts}
 
 pub tens_positive : (k : ℕ) → 0 < tens k
 unfolding tens

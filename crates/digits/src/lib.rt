@@ -2,8 +2,7 @@
 // so one drawing measures, on an empty room, and writes.
 #![tactic(auto)]
 
-ghost use Rattle.std.specs.Prelude.{◌≡◌, ◌∷◌, [], ◌+◌, ◌^◌, ◌<◌, ◌≤◌, pos, nat_abs, length};
-ghost use Rattle.std.specs.Int.Signed.{lt_z};
+ghost use Rattle.std.specs.Prelude.{◌≡◌, ◌∷◌, [], ◌+◌, ◌^◌, ◌<◌, ◌≤◌, min, length};
 ghost use Rattle.definition.specs.Flat.{shortest, decimal};
 ghost use Rattle.digits.specs.Writes.{Writes, sign};
 ghost use Rattle.digits.specs.Tens.{tens, lasts, Raises, Wide};
@@ -25,10 +24,8 @@ pub fn put_word(room: &mut [u8], start: usize, word: &[u8]) -> usize
     ensures { Writes room.old room.new start result word.now }
 {
     let mut at = start;
-    let mut i = 0;
-    while i < word.len() {
-        at = put(room, at, word[i]);
-        i += 1;
+    for byte in word {
+        at = put(room, at, *byte);
     }
     at
 }
@@ -55,8 +52,11 @@ struct Width {
     unit: u64,
 }
 
-// The unit of nine digits.
-const NINE_UNIT: u64 = 1_441_151_881;
+// The width of nine digits.
+const NINE: Width = Width {
+    count: 9,
+    unit: 1_441_151_881,
+};
 
 // By comparisons alone: a division for each digit is dear.
 fn width_of(n: u64) -> Width
@@ -111,35 +111,30 @@ fn width_of(n: u64) -> Width
             unit: 14_411_518_808,
         };
     }
-    Width {
-        count: 9,
-        unit: NINE_UNIT,
-    }
+    NINE
 }
 
-fn lower_of(a: usize, b: usize) -> usize
-    ensures { (result ≤ a) × (result ≤ b) × ((result < a → result ≡ b)) }
+// So many digits, from the highest on, up to the lower of where they end and where the room ends, which is known to the caller. The product is a little too
+// large, by less than one of the last digit.
+fn store_short(room: &mut [u8], at: usize, stop: usize, n: u64, width: Width)
+    requires width { Raises width.count width.unit × (n < tens width.count) }
+    requires stop { stop ≡ min (at + width.count) (length room.old) }
+    ensures { Writes room.old room.new at (at + width.count) (lasts width.count n) }
 {
-    if a < b {
-        return a;
-    }
-    b
-}
-
-// So many digits, from the highest on, as far as the room reaches. The product is a little too large, by less than one of the last digit.
-fn put_short(room: &mut [u8], at: usize, n: u64, count: usize, unit: u64) -> usize
-    requires { Raises count unit × (n < tens count) × (at ≤ 2 ^ 63) }
-    ensures { Writes room.old room.new at result (lasts count n) }
-{
-    let end = at + count;
-    let stop = lower_of(end, room.len());
-    let mut left = n * unit;
-    let mut i = at;
-    while i < stop {
+    let mut left = n * width.unit;
+    for i in at..stop {
         room[i] = (48 + left / WHOLE) as u8;
         left = left % WHOLE * 10;
-        i += 1;
     }
+}
+
+// So many digits, as far as the room reaches.
+fn put_short(room: &mut [u8], at: usize, n: u64, width: Width) -> usize
+    requires { Raises width.count width.unit × (n < tens width.count) × (at ≤ 2 ^ 63) }
+    ensures { Writes room.old room.new at result (lasts width.count n) }
+{
+    let end = at + width.count;
+    store_short(room, at, end.min(room.len()), n, width);
     end
 }
 
@@ -148,8 +143,7 @@ fn put_first(room: &mut [u8], at: usize, n: u64) -> usize
     requires { (n < 1000000000) × (at ≤ 2 ^ 63) }
     ensures { Writes room.old room.new at result (shortest n) }
 {
-    let width = width_of(n);
-    put_short(room, at, n, width.count, width.unit)
+    put_short(room, at, n, width_of(n))
 }
 
 // A number of ten digits or more: nine digits at a time, after the first of them.
@@ -160,11 +154,11 @@ fn put_long(room: &mut [u8], at: usize, n: u64) -> usize
     let high = n / BILLION;
     if high < BILLION {
         let next = put_first(room, at, high);
-        return put_short(room, next, n % BILLION, 9, NINE_UNIT);
+        return put_short(room, next, n % BILLION, NINE);
     }
     let next = put_first(room, at, high / BILLION);
-    let last = put_short(room, next, high % BILLION, 9, NINE_UNIT);
-    put_short(room, last, n % BILLION, 9, NINE_UNIT)
+    let last = put_short(room, next, high % BILLION, NINE);
+    put_short(room, last, n % BILLION, NINE)
 }
 
 // From the highest digit on, straight into the room.
@@ -206,39 +200,17 @@ pub fn digit_count(n: u64) -> usize
     if n <= 99_999_999 {
         return 8;
     }
-    let mut count: usize = 1;
-    let mut high = n;
-    while 10 <= high {
-        high /= 10;
-        count += 1;
-    }
-    count
-}
-
-// How far a number is from zero. The lowest number of 64 bits has no positive of its own, so one is added before the sign is turned, and again behind.
-fn size_of(z: i64) -> u64
-    ensures { result ≡ nat_abs z }
-{
-    if 0 <= z {
-        return z as u64;
-    }
-    (-(z + 1)) as u64 + 1
-}
-
-fn is_negative(z: i64) -> bool
-    ensures { result ≡ lt_z z (pos 0) }
-{
-    z < 0
+    n.ilog10() as usize + 1
 }
 
 fn put_sign(room: &mut [u8], at: usize, z: i64) -> usize
     requires { at ≤ 2 ^ 61 }
     ensures { Writes room.old room.new at result (sign z) }
 {
-    if is_negative(z) {
-        return put(room, at, b'-');
+    if 0 <= z {
+        return at;
     }
-    at
+    put(room, at, b'-')
 }
 
 // The sign apart, so that the digits are written at one place in the code.
@@ -247,31 +219,27 @@ pub fn put_decimal(room: &mut [u8], at: usize, z: i64) -> usize
     ensures { Writes room.old room.new at result (decimal z) }
 {
     let next = put_sign(room, at, z);
-    put_digits(room, next, size_of(z))
+    put_digits(room, next, z.unsigned_abs())
 }
 
 // How many bytes a number has, where it is only measured.
 pub fn decimal_length(z: i64) -> usize
     ensures { result ≡ length (decimal z) }
 {
-    if is_negative(z) {
-        return digit_count(size_of(z)) + 1;
+    let count = digit_count(z.unsigned_abs());
+    if z < 0 {
+        return count + 1;
     }
-    digit_count(size_of(z))
+    count
 }
 
 // So many digits that surely lie within the room: no test.
-fn lay_short(room: &mut [u8], at: usize, n: u64, count: usize, unit: u64) -> usize
-    requires { Raises count unit × (n < tens count) × (at + count ≤ length room.old) }
-    ensures { Writes room.old room.new at result (lasts count n) }
+fn lay_short(room: &mut [u8], at: usize, n: u64, width: Width) -> usize
+    requires { Raises width.count width.unit × (n < tens width.count) × (at + width.count ≤ length room.old) }
+    ensures { Writes room.old room.new at result (lasts width.count n) }
 {
-    let end = at + count;
-    let mut left = n * unit;
-    let mut i = at;
-    while i < end {
-        i = lay(room, i, (48 + left / WHOLE) as u8);
-        left = left % WHOLE * 10;
-    }
+    let end = at + width.count;
+    store_short(room, at, end, n, width);
     end
 }
 
@@ -284,8 +252,7 @@ fn lay_digits(room: &mut [u8], at: usize, n: u64) -> usize
         return lay(room, at, (48 + n) as u8);
     }
     if n < BILLION {
-        let width = width_of(n);
-        return lay_short(room, at, n, width.count, width.unit);
+        return lay_short(room, at, n, width_of(n));
     }
     put_long(room, at, n)
 }
@@ -295,9 +262,9 @@ pub fn lay_decimal(room: &mut [u8], at: usize, z: i64) -> usize
     requires { (at + 20 ≤ length room.old) × (at ≤ 2 ^ 61) }
     ensures { Writes room.old room.new at result (decimal z) }
 {
-    if is_negative(z) {
+    if z < 0 {
         let first = lay(room, at, b'-');
-        return lay_digits(room, first, size_of(z));
+        return lay_digits(room, first, z.unsigned_abs());
     }
-    lay_digits(room, at, size_of(z))
+    lay_digits(room, at, z.unsigned_abs())
 }

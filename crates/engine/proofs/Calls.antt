@@ -90,7 +90,7 @@ module _ (rows : List ℕ) (live : ℕ) (drawing : List ℕ) (left : ℕ) (call 
       (refusal ink s.event s.rest room why chain s.stops))
 
   -- where `open_call` lets a call through
-  pub answered_descent : {o : Result Entered Refusal} {row : ℕ} {more : Counts} → OpensHere o → o ≡ Ok (record { row = row; counts = more }) → Led row more
+  pub answered_descent : {o : Result Entered Refusal} {entered : Entered} → OpensHere o → o ≡ Ok entered → Led entered.row entered.counts
   unfolding Opens
   answered_descent x e = subst (λ (o : Result Entered Refusal). OpensHere o) e x
 

@@ -63,34 +63,33 @@ fn draw_call(
     ensures call_draws { CallDraws rows.now bodies.now live drawing.old call left ink room.old (chain_in drawing.new) result room.new }
     ensures kept { Kept (deepest - left) drawing.old drawing.new }
 {
-    match opening::open_call(rows, live, drawing, left, call, ink.counts) {
+    let entered = match opening::open_call(rows, live, drawing, left, call, ink.counts) {
+        Ok(entered) => entered,
         Err(refusal) => {
             chain::stop(drawing, definition::DEEPEST - left);
             return Err(refusal);
         }
-        Ok(entered) => {
-            chain::push(drawing, definition::DEEPEST - left, call.place, call.symbol);
-            let from = library::start_at(rows, entered.row);
-            let end = from + library::length_at(rows, entered.row);
-            let more = Ink {
-                counts: entered.counts,
-                pen: ink.pen,
-            };
-            draw_body(
-                bodies,
-                rows,
-                live,
-                numbers,
-                drawing,
-                room,
-                call.net,
-                left - 1,
-                from,
-                end,
-                more,
-            )
-        }
-    }
+    };
+    chain::push(drawing, definition::DEEPEST - left, call.place, call.symbol);
+    let from = library::start_at(rows, entered.row);
+    let end = from + library::length_at(rows, entered.row);
+    let more = Ink {
+        counts: entered.counts,
+        ..ink
+    };
+    draw_body(
+        bodies,
+        rows,
+        live,
+        numbers,
+        drawing,
+        room,
+        call.net,
+        left - 1,
+        from,
+        end,
+        more,
+    )
 }
 
 // A body: its commands in written order. The layer that is set in it is its own.
@@ -115,38 +114,38 @@ fn draw_body(
     let mut at = from;
     let mut layer: u32 = 0;
     let mut ink = before;
+    // a `while`, since commands differ in length: an iterator over them would keep the same index
     while at < end {
-        let head = head_at(bodies, at);
         let here = at;
-        let next = head.next;
-        let kind = head.kind;
-        let place = head.place;
+        let Head { kind, place, next } = head_at(bodies, here);
         at = next;
-        if kind == b'L' {
-            layer = name_at(bodies, here + 2);
-        } else if kind == b'C' {
-            let call = opening::read_call(&bodies[here..next], next - here, net, place);
-            ink = draw_call(bodies, rows, live, numbers, drawing, room, call, left, ink)?;
-        } else {
-            match shapes::draw_shape(
-                &bodies[here..next],
-                numbers,
-                room,
-                kind,
-                next - here,
-                net,
-                layer,
-                place,
-                ink,
-            ) {
-                Ok(shown) => {
-                    ink = shown;
-                }
-                Err(refusal) => {
-                    let level = definition::DEEPEST - left;
-                    chain::stop(drawing, level);
-                    return Err(refusal);
-                }
+        match kind {
+            b'L' => {
+                layer = name_at(bodies, here + 2);
+            }
+            b'C' => {
+                let call = opening::read_call(&bodies[here..next], next - here, net, place);
+                ink = draw_call(bodies, rows, live, numbers, drawing, room, call, left, ink)?;
+            }
+            letter => {
+                ink = match shapes::draw_shape(
+                    &bodies[here..next],
+                    numbers,
+                    room,
+                    letter,
+                    next - here,
+                    net,
+                    layer,
+                    place,
+                    ink,
+                ) {
+                    Ok(shown) => shown,
+                    Err(refusal) => {
+                        let level = definition::DEEPEST - left;
+                        chain::stop(drawing, level);
+                        return Err(refusal);
+                    }
+                };
             }
         }
     }

@@ -34,12 +34,12 @@ proper_then l (x ∷ ss) s p f n = (p.0, p.1, proper_then (layer_after x.what l)
 is_setting : (x : Step) → is_layer x ≡ true → Setting x
 unfolding is_layer Setting
 is_setting (setting l) e = tt
-is_setting (shape l k) e = let z : ◌≡◌ {A = ℕ} 0 1 = cc in omega arith
-is_setting (instance n ts) e = let z : ◌≡◌ {A = ℕ} 0 1 = cc in omega arith
+is_setting (shape l k) e = cc
+is_setting (instance n ts) e = cc
 
 not_both : (x y : Step) → (is_layer x && is_layer y) ≡ false → Setting x → Setting y → ⊥
 unfolding is_layer Setting
-not_both (setting l) (setting m) e h g = let z : ◌≡◌ {A = ℕ} 0 1 = cc in omega arith
+not_both (setting l) (setting m) e h g = cc
 not_both (setting l) (shape m k) e h g = g
 not_both (setting l) (instance n ts) e h g = g
 not_both (shape l k) y e h g = h
@@ -69,7 +69,7 @@ pub record Front (ss : List (Placed Step)) : Type 0 where
 
 pub front_of : (ss : List (Placed Step)) → last_sets ss ≡ true → Front ss
 unfolding last_sets
-front_of [] e = absurd (let z : ◌≡◌ {A = ℕ} 0 1 = cc in omega arith)
+front_of [] e = absurd (cc)
 front_of (a ∷ []) e = record { kept = []; layer = a; are = refl; sets = e }
 front_of (a ∷ c ∷ ss) e =
     let r = front_of (c ∷ ss) e in
@@ -84,8 +84,8 @@ proper_front l (a ∷ ss) s p = (p.0, p.1, proper_front (layer_after a.what l) s
 pub fair_anywhere : (l m : List ℕ) (s : Step) → is_layer s ≡ true → Fair l s → Fair m s
 unfolding is_layer Fair
 fair_anywhere l m (setting k) e f = f
-fair_anywhere l m (shape k x) e f = absurd (let z : ◌≡◌ {A = ℕ} 0 1 = cc in omega arith)
-fair_anywhere l m (instance n ts) e f = absurd (let z : ◌≡◌ {A = ℕ} 0 1 = cc in omega arith)
+fair_anywhere l m (shape k x) e f = absurd (cc)
+fair_anywhere l m (instance n ts) e f = absurd (cc)
 
 pub layer_words_lem : (s : Placed Step) → is_layer s.what ≡ true → length (step_words s) ≡ layer_words
 layer_words_lem s e = go s.what e
@@ -119,8 +119,8 @@ layer_then l (a ∷ ss) s = layer_then (layer_after a.what l) ss s
 layer_anyway : (l m : List ℕ) (x : Step) → is_layer x ≡ true → layer_after x l ≡ layer_after x m
 unfolding is_layer
 layer_anyway l m (setting k) e = refl
-layer_anyway l m (shape k x) e = absurd (let z : ◌≡◌ {A = ℕ} 0 1 = cc in omega arith)
-layer_anyway l m (instance n ts) e = absurd (let z : ◌≡◌ {A = ℕ} 0 1 = cc in omega arith)
+layer_anyway l m (shape k x) e = absurd (cc)
+layer_anyway l m (instance n ts) e = absurd (cc)
 
 pub layer-added : (l : List ℕ) (ss : List (Placed Step)) (s : Placed Step) → layer_now l (add ss s) ≡ layer_after s.what (layer_now l ss)
 layer-added l ss s = go (last_sets ss) refl (is_layer s.what) refl

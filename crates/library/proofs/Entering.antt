@@ -1,14 +1,13 @@
 -- A row entered between the others or in the place of one: the table is what crates/definition's `enter` makes of it, and all other bodies stay.
 -- Assumes nothing.
 use mathlib.Core.Path.{◌≡◌, refl, sym, ap, ap₂, ◌∙◌, subst}
-use mathlib.Core.Bool.{Bool, true, false, ◌&&◌}
+use mathlib.Core.Bool.{false}
 use mathlib.Core.List.{List, [], ◌∷◌}
 use mathlib.Core.Option.{none}
 use Prim.Native.Nat.{ℕ, zero, suc, ◌+◌, ◌-◌, ◌*◌, ◌≤◌, ◌<◌}
 use native.Mathlib.Nat.{not-suc-le-zero}
 use native.Mathlib.Omega.{arith}
-use borrow.Author.Tests.{eqb-true, eqb-false, eq-eqb, ne_eqb, lt-ltb, le-ltb}
-use lib.Dec.{eqb, ltb}
+use borrow.Author.Tests.{eq-eqb, ne_eqb, lt-ltb, le-ltb}
 use lib.IntN.{ℤ}
 use lib.ListN.{length, get_or, set, length-set}
 use lib.Seq.{get_or-set_same, get_or-set_other}
@@ -22,7 +21,7 @@ use Rattle.std.specs.Prelude.{Some, None}
 use Rattle.library.specs.declared.Begun.TheVariants.{Replaced, Added}
 use Rattle.library.proofs.Runs.{same-table}
 use Rattle.library.proofs.Looking.{none_from, some_from}
-use Rattle.library.proofs.Seeking.{standing, not_standing, above_strict}
+use Rattle.library.proofs.Seeking.{above_strict}
 use Rattle.library.proofs.Sums.{sum_one, sum_in}
 use Rattle.library.proofs.Cases.{equal_or, side}
 
@@ -33,31 +32,6 @@ pub record Shifting (rows : List ℕ) (live k : ℕ) (rows' : List ℕ) : Type 0
   pub below : (j : ℕ) → j < k + 5 → get_or rows' j 0 ≡ get_or rows j 0
   pub above : (j : ℕ) → k ≤ j → j < 5 * live → get_or rows' (j + 5) 0 ≡ get_or rows j 0
   pub beyond : (j : ℕ) → 5 * live + 5 ≤ j → get_or rows' j 0 ≡ get_or rows j 0
-
-pub shift_start : (rows : List ℕ) (live : ℕ) → Shifting rows live (5 * live) rows
-shift_start rows live = record { size = refl; below = λ j l. refl; above = λ j l m. absurd (omega arith); beyond = λ j l. refl }
-
-pub shift_on : (rows : List ℕ) (live k : ℕ) (rows' : List ℕ) → Shifting rows live k rows' → 0 < k → k ≤ 5 * live → k - 1 + 5 < length rows
-    → Shifting rows live (k - 1) (set rows' (k - 1 + 5) (get_or rows' (k - 1) 0))
-shift_on rows live k rows' s p w l = record {
-  size = length-set rows' (k - 1 + 5) (get_or rows' (k - 1) 0) ∙ s.size;
-  below = λ j m. get_or-set_other rows' (k - 1 + 5) j (get_or rows' (k - 1) 0) 0 (λ e. omega arith) ∙ s.below j (omega arith);
-  above = λ j m n. go j m n (eqb j (k - 1)) refl;
-  beyond = λ j m. get_or-set_other rows' (k - 1 + 5) j (get_or rows' (k - 1) 0) 0 (λ e. omega arith) ∙ s.beyond j m;
-}
-  where
-    go : (j : ℕ) → k - 1 ≤ j → j < 5 * live → (t : Bool) → eqb j (k - 1) ≡ t → get_or (set rows' (k - 1 + 5) (get_or rows' (k - 1) 0)) (j + 5) 0 ≡ get_or rows j 0
-    go j m n true e =
-        let f : k - 1 ≡ j = sym (eqb-true j (k - 1) e) in
-        let q : k - 1 + 5 ≡ j + 5 = omega arith in
-        subst (λ (x : ℕ). get_or (set rows' (k - 1 + 5) (get_or rows' (k - 1) 0)) x 0 ≡ get_or rows j 0) q
-        (get_or-set_same rows' (k - 1 + 5) (get_or rows' (k - 1) 0) 0 (omega (arith, s.size)) ∙ (s.below (k - 1) (omega arith) ∙ ap (λ (x : ℕ). get_or rows x 0) f))
-    go j m n false e =
-        let f : ¬ (j ≡ k - 1) = eqb-false j (k - 1) e in
-        get_or-set_other rows' (k - 1 + 5) (j + 5) (get_or rows' (k - 1) 0) 0 (λ z. omega arith) ∙ s.above j (omega arith) n
-
-pub shifted : (rows : List ℕ) (live i k : ℕ) (rows' : List ℕ) → Shifting rows live k rows' → k ≤ 5 * i → 5 * i ≤ k → Shifted rows live i rows'
-shifted rows live i k rows' s a b = record { size = s.size; below = λ j l. s.below j (omega arith); above = λ j l m. s.above j (omega arith) m; beyond = s.beyond }
 
 -- ---- a row put
 
@@ -224,7 +198,7 @@ module _ (rows : List ℕ) (live n p i : ℕ) (sorted : Sorted rows live) (sized
     pub was_there : (b : List ℤ) → find n (table_of rows b live) ≡ none → ⊥
     was_there b e =
         let f = some_from rows b n i live 0 i (omega arith) lt (λ k a c q. let z = parted.below k c in omega arith) is in
-        let z : ◌≡◌ {A = ℕ} 0 1 = cc in omega arith
+        cc
 
   -- between the others
   module _ (not_there : i < live → symbol_at rows i ≡ n → ⊥) where
@@ -394,26 +368,18 @@ needed_in_lem rows live n p rows' i e =
 
 -- ---- what `begin` answers
 
-module _ (rows : List ℕ) (live n p i : ℕ) (sorted : Sorted rows live) (sized : length rows ≡ row_numbers) (parted : Parted rows live n i) (t : Bool) (test : t ≡ (ltb i live && eqb (symbol_at rows i) n)) where
-  there : t ≡ true → (i < live) × (symbol_at rows i ≡ n)
-  there e = standing rows live i n t test e
+module _ (rows : List ℕ) (live n p i : ℕ) (sorted : Sorted rows live) (sized : length rows ≡ row_numbers) (parted : Parted rows live n i) where
+  pub begins_over : i < live → symbol_at rows i ≡ n → (freed : ℕ) → freed ≡ needed_at rows i → {rows' : List ℕ} → rows' ≡ with_row rows i n p → Begins rows live n p (Some (Replaced i freed)) rows'
+  begins_over l e freed f q =
+      subst (Begins rows live n p (Some (Replaced i freed))) (sym q)
+      (unfold Begins in (entry_over rows live n p i sorted sized parted l e, f, e, was_there rows live n p i sorted sized parted l e))
 
-  not_at : t ≡ false → i < live → symbol_at rows i ≡ n → ⊥
-  not_at e = not_standing rows live i n t test e
-
-  pub at_place : t ≡ true → i < most
-  at_place e = omega (arith, (there e).0, sorted.few)
-
-  pub begins_over : t ≡ true → (freed : ℕ) → freed ≡ needed_at rows i → Begins rows live n p (Some (Replaced i freed)) (with_row rows i n p)
+  pub begins_not : (i < live → symbol_at rows i ≡ n → ⊥) → live ≡ most → Begins rows live n p None rows
   unfolding Begins
-  begins_over e freed f = (entry_over rows live n p i sorted sized parted (there e).0 (there e).1, f, (there e).1, was_there rows live n p i sorted sized parted (there e).0 (there e).1)
+  begins_not h q = (refl, q, was_not_there rows live n p i sorted sized parted h)
 
-  pub begins_full : t ≡ false → live ≡ most → Begins rows live n p None rows
-  unfolding Begins
-  begins_full e q = (refl, q, was_not_there rows live n p i sorted sized parted (not_at e))
-
-  pub begins_in : t ≡ false → (live ≡ most → ⊥) → (rows' : List ℕ) → Shifted rows live i rows' → Begins rows live n p (Some (Added i)) (with_row rows' i n p)
-  unfolding Begins
-  begins_in e q rows' s =
-      let f : ¬ (live ≡ most) = q in
-      (entry_in rows live n p i sorted sized parted (not_at e) (omega (arith, sorted.few)) rows' s, was_not_there rows live n p i sorted sized parted (not_at e))
+  pub begins_in : (i < live → symbol_at rows i ≡ n → ⊥) → live < most → (between : List ℕ) → Shifted rows live i between → {rows' : List ℕ} → rows' ≡ with_row between i n p
+      → Begins rows live n p (Some (Added i)) rows'
+  begins_in h f between s q =
+      subst (Begins rows live n p (Some (Added i))) (sym q)
+      (unfold Begins in (entry_in rows live n p i sorted sized parted h f between s, was_not_there rows live n p i sorted sized parted h))

@@ -1,20 +1,18 @@
 -- What DD leaves, and the words that it gives back.
 -- Assumes nothing.
-use mathlib.Core.Path.{◌≡◌, refl, sym, ap, ◌∙◌}
+use mathlib.Core.Path.{◌≡◌, refl, sym, ap}
 use mathlib.Core.List.{List, [], ◌∷◌}
-use Prim.Native.Nat.{ℕ, zero, suc, ◌+◌, ◌^◌, ◌≤◌, ◌<◌}
+use Prim.Native.Nat.{ℕ, zero, suc, ◌+◌, ◌≤◌, ◌<◌}
 use native.Mathlib.Nat.{not-suc-le-zero}
 use native.Mathlib.Omega.{arith}
 use borrow.Author.Tests.{lt-ltb, le-ltb}
 use lib.IntN.{ℤ}
-use lib.ListN.{length}
 use Rattle.definition.specs.Words.{those}
 use Rattle.definition.specs.Table.{Table, forget}
-use Rattle.library.specs.Memory.{row_numbers, symbol_at, needed_at, needed_in, definition_at, table_from}
+use Rattle.library.specs.Memory.{symbol_at, definition_at, table_from}
 use Rattle.library.specs.Sound.{Stocked}
 use Rattle.library.specs.Moving.{Laid}
 use Rattle.library.specs.Rows.{Sorted, Parted, Forgets}
-use Rattle.library.proofs.Sums.{sum_next, sum_rises}
 
 module _ (rows : List ℕ) (b : List ℤ) (n : ℕ) where
   all_gone : (m j : ℕ) → ((k : ℕ) → j ≤ k → k < j + m → n ≤ symbol_at rows k) → forget n (table_from rows b j m) ≡ []
@@ -49,24 +47,3 @@ laid_fewer h l m = record {
 
 pub stocked_fewer : {rows : List ℕ} {b : List ℤ} {live left : ℕ} → Stocked rows b live → left ≤ live → Stocked rows b left
 stocked_fewer h l = record { few = omega (arith, h.few); within = λ i m. h.within i (omega arith); sound = λ i m. h.sound i (omega arith) }
-
--- where no row is live yet
-pub sorted_none : (rows : List ℕ) → Sorted rows 0
-sorted_none rows = record { few = omega arith; rising = λ i j h l. absurd (omega arith) }
-
-pub laid_none : (rows : List ℕ) → length rows ≡ row_numbers → Laid rows 0 0
-laid_none rows e = record { few = omega arith; sized = e; within = λ i l. absurd (omega arith); apart = λ i j k l. absurd (omega arith) }
-
-pub stocked_none : (rows : List ℕ) (b : List ℤ) → Stocked rows b 0
-stocked_none rows b = record { few = omega arith; within = λ i l. absurd (omega arith); sound = λ i l. absurd (omega arith) }
-
--- ---- the loop of `needed_between`: what is counted so far
-
-pub count_fits : (rows : List ℕ) (left live i sum n : ℕ) → needed_in rows left + sum ≡ needed_in rows i → i < live → needed_in rows live < 2 ^ 64 → n ≡ needed_at rows i → sum + n < 2 ^ 64
-count_fits rows left live i sum n h l m e = let a = sum_next (needed_at rows) i in let c = sum_rises (needed_at rows) (i + 1) live (omega arith) in omega (arith, a, c)
-
-pub count_on : (rows : List ℕ) (left i sum n : ℕ) → needed_in rows left + sum ≡ needed_in rows i → n ≡ needed_at rows i → needed_in rows left + (sum + n) ≡ needed_in rows (i + 1)
-count_on rows left i sum n h e = let a = sum_next (needed_at rows) i in omega (arith, a)
-
-pub count_end : (rows : List ℕ) (left live i sum : ℕ) → needed_in rows left + sum ≡ needed_in rows i → i ≡ live → needed_in rows left + sum ≡ needed_in rows live
-count_end rows left live i sum h e = h ∙ ap (needed_in rows) e

@@ -11,8 +11,7 @@ use lib.IntN.{ℤ}
 use Rattle.std.specs.Prelude.{Option, Some, None}
 use Rattle.definition.specs.Table.{find}
 use Rattle.library.specs.Memory.{symbol_at, definition_at, table_from, table_of}
-use Rattle.library.specs.Rows.{Nearest, Finds}
-use Rattle.library.proofs.Cases.{side}
+use Rattle.library.specs.Rows.{Finds}
 
 module _ (rows : List ℕ) (b : List ℤ) (n : ℕ) where
   pub none_from : (m j : ℕ) → ((k : ℕ) → j ≤ k → k < j + m → symbol_at rows k ≡ n → ⊥) → find n (table_from rows b j m) ≡ none
@@ -41,14 +40,3 @@ module _ (rows : List ℕ) (b : List ℤ) (n : ℕ) where
   found live r i h e =
       let f : (i < live) × (symbol_at rows i ≡ n) × ((k : ℕ) → k < i → symbol_at rows k ≡ n → ⊥) = unfold Finds in subst (Finds rows live n) e h in
       (f.0, some_from i live 0 i (omega arith) f.0 (λ k a c. f.2 k c) f.1)
-
--- ---- what `find` answers
-
-pub here : (rows : List ℕ) (live n i : ℕ) → Nearest rows live n i → (i < live) × (symbol_at rows i ≡ n) → Finds rows live n (Some i)
-unfolding Finds
-here rows live n i h g = (g.0, g.1, λ k l e. let a = h.below k l in omega arith)
-
-pub nowhere : (rows : List ℕ) (live n i : ℕ) → Nearest rows live n i → (i < live → symbol_at rows i ≡ n → ⊥) → Finds rows live n None
-unfolding Finds
-nowhere rows live n i h g k m e =
-    side ⊥ k i (λ l. let a = h.below k l in omega arith) (λ f. g (omega arith) (subst (λ (x : ℕ). symbol_at rows x ≡ n) f e)) (λ l. let a = h.above k l m in omega arith)

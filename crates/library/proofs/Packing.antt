@@ -13,7 +13,7 @@ use lib.ListN.{length, get_or, set, length-set}
 use lib.Seq.{get_or-set_same, get_or-set_other}
 use Rattle.definition.specs.Words.{Placed}
 use Rattle.definition.specs.Table.{Definition, Step}
-use Rattle.library.specs.Memory.{words_at, steps_in, steps_of, definition_at, symbol_at, place_at, start_at, length_at, sum_of, words_held, most}
+use Rattle.library.specs.Memory.{words_at, steps_in, steps_of, definition_at, symbol_at, place_at, start_at, length_at, sum_of, words_held}
 use Rattle.library.specs.Moving.{Laid, Moved, SameRow, length_below, held_below, Covered, Compacted}
 use Rattle.library.proofs.Runs.{same_words, same-table}
 use Rattle.library.proofs.Sums.{sum_same, sum_one}
@@ -304,12 +304,6 @@ module _ (rows : List ℕ) (b : List ℤ) (live : ℕ) (rows' : List ℕ) (b' : 
 -- the same, of what callees answered
 module _ (rows : List ℕ) (b : List ℤ) (live : ℕ) (rows' : List ℕ) (b' : List ℤ) (to m from k : ℕ) (p : Packing rows b live rows' b' to) (w : Lowest rows' live to live m) (some : m ≡ live → ⊥)
     (f : from ≡ start_at rows' m) (e : k ≡ length_at rows' m) where
-  pub real_row : (m < most) × (0 < k) × (to ≤ from) × (from + k ≤ length b)
-  real_row =
-      let r = w.real some in
-      let h = p.laid.within m r.0 r.1 in
-      (omega (arith, r.0, p.laid.few), omega (arith, r.1), omega (arith, r.2), omega arith)
-
   pub pack_by : (b'' : List ℤ) → Moved b' from to k b'' → Packing rows b live (set rows' (5 * m + 2) to) b'' (to + k)
   pack_by b'' x =
       subst (λ (y : ℕ). Packing rows b live (set rows' (5 * m + 2) to) b'' (to + y)) (sym e)

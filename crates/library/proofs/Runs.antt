@@ -1,20 +1,13 @@
 -- Words of a run, and tables, that are the same since each word and each row is.
 -- Assumes nothing.
-use mathlib.Core.Path.{◌≡◌, refl, sym, ap, ap₂, ◌∙◌, subst}
-use mathlib.Core.Bool.{Bool, true, false}
+use mathlib.Core.Path.{◌≡◌, refl, sym, ap, ap₂, ◌∙◌}
 use mathlib.Core.List.{List, [], ◌∷◌, ◌++◌}
 use Prim.Native.Nat.{ℕ, zero, suc, ◌+◌, ◌-◌, ◌≤◌, ◌<◌}
 use native.Mathlib.Numerals.{add-one}
 use native.Mathlib.Omega.{arith}
-use borrow.Author.Tests.{eqb-true, eqb-false}
-use lib.Dec.{eqb}
 use lib.IntN.{ℤ, pos}
-use lib.Signed.{mag}
-use mir.Syntax.{w32}
-use mir.Val.{to_z, of_z}
-use mir.Facts.{to_z-of_z}
-use lib.ListN.{length, take, drop, get_or, set, length-set}
-use lib.Seq.{get_or-set_same, get_or-set_other, drop-cons}
+use lib.ListN.{length, take, drop, get_or}
+use lib.Seq.{drop-cons}
 use Rattle.definition.specs.Table.{Definition, Table}
 use Rattle.library.specs.Memory.{words_at, table_from, definition_at}
 use Rattle.library.specs.Moving.{Moved}
@@ -41,73 +34,18 @@ same-table rows rows' b b' (suc n) i h =
 
 -- ---- words moved down
 
-pub record Sinking (b : List ℤ) (from to : ℕ) (k : ℕ) (b' : List ℤ) : Type 0 where
-  pub size : length b' ≡ length b
-  pub here : (j : ℕ) → j < k → get_or b' (to + j) (pos 0) ≡ get_or b (from + j) (pos 0)
-  pub below : (j : ℕ) → j < to → get_or b' j (pos 0) ≡ get_or b j (pos 0)
-  pub above : (j : ℕ) → to + k ≤ j → get_or b' j (pos 0) ≡ get_or b j (pos 0)
-
-pub sink_start : (b : List ℤ) (from to : ℕ) → Sinking b from to 0 b
-sink_start b from to = record { size = refl; here = λ j l. absurd (omega arith); below = λ j l. refl; above = λ j l. refl }
-
--- one word more is put where it is to go
-pub sink_put : (b : List ℤ) (from to k : ℕ) (b' : List ℤ) → Sinking b from to k b' → to + k < length b → (v : ℤ) → v ≡ get_or b (from + k) (pos 0) → Sinking b from to (k + 1) (set b' (to + k) v)
-sink_put b from to k b' s l v f = record {
-  size = length-set b' (to + k) v ∙ s.size;
-  here = λ j m. go j m (eqb j k) refl;
-  below = λ j m. get_or-set_other b' (to + k) j v (pos 0) (λ e. omega arith) ∙ s.below j m;
-  above = λ j m. get_or-set_other b' (to + k) j v (pos 0) (λ e. omega arith) ∙ s.above j (omega arith);
-}
-  where
-    go : (j : ℕ) → j < k + 1 → (t : Bool) → eqb j k ≡ t → get_or (set b' (to + k) v) (to + j) (pos 0) ≡ get_or b (from + j) (pos 0)
-    go j m true e =
-        let g : j ≡ k = eqb-true j k e in
-        subst (λ (x : ℕ). get_or (set b' (to + k) v) (to + x) (pos 0) ≡ get_or b (from + x) (pos 0)) (sym g) (get_or-set_same b' (to + k) v (pos 0) (omega (arith, s.size)) ∙ f)
-    go j m false e =
-        let g : ¬ (j ≡ k) = eqb-false j k e in
-        get_or-set_other b' (to + k) (to + j) v (pos 0) (λ z. omega arith) ∙ s.here j (omega arith)
-
-pub sink_on : (b : List ℤ) (from to k : ℕ) (b' : List ℤ) → Sinking b from to k b' → to ≤ from → from + k < length b
-    → Sinking b from to (k + 1) (set b' (to + k) (get_or b' (from + k) (pos 0)))
-sink_on b from to k b' s h l = sink_put b from to k b' s (omega arith) (get_or b' (from + k) (pos 0)) (s.above (from + k) (omega arith))
-
--- the same, of what callees answered
-pub sink_next : {b : List ℤ} {from to k i j : ℕ} {b' b'' : List ℤ} {v : ℤ} → Sinking b from to k b' → i ≡ to + k → j ≡ from + k → to + k < length b → v ≡ get_or b j (pos 0) → b'' ≡ set b' i v
-    → Sinking b from to (k + 1) b''
-sink_next {b} {from} {to} {k} {i} {j} {b'} {b''} {v} s p q l f e =
-    subst (Sinking b from to (k + 1)) (sym (e ∙ ap (λ (x : ℕ). set b' x v) p)) (sink_put b from to k b' s l v (f ∙ ap (λ (x : ℕ). get_or b x (pos 0)) q))
-
--- a part of them after those that were moved before
-pub sink_part : (b : List ℤ) (from to k n : ℕ) (b' b'' : List ℤ) → Sinking b from to k b' → to ≤ from → Moved b' (from + k) (to + k) n b'' → Sinking b from to (k + n) b''
-sink_part b from to k n b' b'' s h m = record {
-  size = m.size ∙ s.size;
-  here = λ j l. by_place _ j k (λ c. m.below (to + j) (omega arith) ∙ s.here j c)
+-- some words, and then others after them
+pub moved_on : {b : List ℤ} {from to k m n : ℕ} {b' b'' : List ℤ} → to ≤ from → Moved b from to k b' → Moved b' (from + k) (to + k) m b'' → k + m ≡ n → Moved b from to n b''
+moved_on {b} {from} {to} {k} {m} {n} {b'} {b''} h s r e = record {
+  size = r.size ∙ s.size;
+  here = λ j l. by_place _ j k (λ c. r.below (to + j) (omega arith) ∙ s.here j c)
       (λ c.
       let p : to + j ≡ to + k + (j - k) = omega arith in
       let q : from + k + (j - k) ≡ from + j = omega arith in
-      ap (λ (x : ℕ). get_or b'' x (pos 0)) p ∙ (m.here (j - k) (omega arith) ∙ (ap (λ (x : ℕ). get_or b' x (pos 0)) q ∙ s.above (from + j) (omega arith))));
-  below = λ j l. m.below j (omega arith) ∙ s.below j l;
-  above = λ j l. m.above j (omega arith) ∙ s.above j (omega arith);
+      ap (λ (x : ℕ). get_or b'' x (pos 0)) p ∙ (r.here (j - k) (omega arith) ∙ (ap (λ (x : ℕ). get_or b' x (pos 0)) q ∙ s.above (from + j) (omega arith))));
+  below = λ j l. r.below j (omega arith) ∙ s.below j l;
+  above = λ j l. r.above j (omega arith) ∙ s.above j (omega arith);
 }
-
-pub sunk : (b : List ℤ) (from to k n : ℕ) (b' : List ℤ) → Sinking b from to k b' → k ≡ n → Moved b from to n b'
-sunk b from to k n b' s e = subst (λ (x : ℕ). Moved b from to x b') e (record { size = s.size; here = s.here; below = s.below; above = s.above })
-
--- some words, and then the rest
-pub moved_on : {b : List ℤ} {from to k n : ℕ} {b' b'' : List ℤ} → to ≤ from → k ≤ n → Moved b from to k b' → Moved b' (from + k) (to + k) (n - k) b'' → Moved b from to n b''
-moved_on {b} {from} {to} {k} {n} {b'} {b''} h l m r =
-    sunk b from to (k + (n - k)) n b'' (sink_part b from to k (n - k) b' b'' (record { size = m.size; here = m.here; below = m.below; above = m.above }) h r) (omega arith)
-
--- words that stand where they are to go
-pub stays : (b : List ℤ) (from to n : ℕ) → from ≡ to → Moved b from to n b
-stays b from to n e = record { size = refl; here = λ k l. ap (λ (x : ℕ). get_or b (x + k) (pos 0)) (sym e); below = λ k l. refl; above = λ k l. refl }
-
-pub back : (z : ℤ) → mag z < 2147483648 → to_z w32 (of_z w32 z) ≡ z
-back z h = to_z-of_z {w = w32} {z = z} (record { sfits = h })
-
-pub sink_by : (b : List ℤ) (from to k : ℕ) (b' : List ℤ) → Sinking b from to k b' → to ≤ from → from + k < length b → (v : ℤ) → mag v < 2147483648 → v ≡ get_or b' (from + k) (pos 0)
-    → Sinking b from to (k + 1) (set b' (to + k) (to_z w32 (of_z w32 v)))
-sink_by b from to k b' s h l v f e = subst (λ (x : ℤ). Sinking b from to (k + 1) (set b' (to + k) x)) (sym (back v f ∙ e)) (sink_on b from to k b' s h l)
 
 -- ---- parts of a run
 

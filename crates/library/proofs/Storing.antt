@@ -16,14 +16,13 @@ use Rattle.definition.specs.Lean.{add}
 use Rattle.moves.specs.Moves.{most_values}
 use Rattle.library.specs.Memory.{words_at, steps_in, body_at, steps_of, definition_at, table_from, table_of, symbol_at, place_at, start_at, length_at, needed_at, needed_in, row_numbers}
 use Rattle.library.specs.Sound.{values_of, step_words, all_words, Fair, Proper, Sound, Stocked}
-use Rattle.library.specs.Moving.{Laid, Moved, SameRow}
+use Rattle.library.specs.Moving.{Laid, SameRow}
 use Rattle.library.specs.Storing.{start_of, extended, layer_words, Relayered, grown, layer_now, is_layer, last_sets, Growing, Grows, Put, Storable, Stores}
 use Rattle.library.proofs.Runs.{same_words, same-table, split_words}
 use Rattle.library.proofs.Sums.{sum_one}
 use Rattle.library.proofs.Decoded.{steps_are, words_length}
 use Rattle.library.proofs.Adding.{words_then, proper_then, add-plain, add-again, last-added, Front, front_of, proper_front, fair_anywhere, layer_words_lem}
 use Rattle.library.proofs.Cases.{by_row, by_place, none_or_some}
-use Rattle.library.proofs.Seeking.{both_true}
 
 pub words_add : (b : List ℤ) (m n i : ℕ) → words_at b i (m + n) ≡ words_at b i m ++ words_at b (i + m) n
 unfolding words_at
@@ -353,6 +352,10 @@ module _ {rows : List ℕ} {b : List ℤ} {live used i : ℕ} {layered : Bool} (
           subst (λ (x : ℕ). Grows rows b live i s rows' b'' x) e
           (renewed_grows g relayered_is proper-kept (fair_anywhere (layer_now [] (body_at rows b i)) (layer_now [] kept-steps) s.what layer fair) few again_is)
 
+both_true : (x y : Bool) → (x && y) ≡ true → (x ≡ true) × (y ≡ true)
+both_true true y e = (refl, e)
+both_true false y e = absurd (cc)
+
 -- one law for both: what `store` leaves where the words of a step were laid
 pub stored : {rows : List ℕ} {b : List ℤ} {live used i : ℕ} {layered : Bool} (g : Growing rows b live used i layered) {s : Placed Step} {b' : List ℤ} → Put b used s b'
     → Fair (layer_now [] (body_at rows b i)) s.what → length (values_of s.what) ≤ most_values → (again : Bool) → again ≡ (layered && is_layer s.what)
@@ -384,33 +387,3 @@ pub needed-grown : {rows : List ℕ} {b : List ℤ} {live i : ℕ} {s : Placed S
 needed-grown {rows} {b} {live} {i} {s} {rows'} h =
     let a = sum_one (needed_at rows) (needed_at rows') i live h.growing.here (λ k l d. (h.others k l d).needed) in
     omega (arith, a, h.needs)
-
--- ---- what `store` answers
-
-pub stores_again : (rows : List ℕ) (b : List ℤ) (i used n : ℕ) (again : Bool) (rows' : List ℕ) (b' : List ℤ) → again ≡ true → Relayered rows b i used rows' b' → Stores again rows b i used n rows' b' used
-stores_again rows b i used n again rows' b' e c = subst (λ (x : Bool). Stores x rows b i used n rows' b' used) (sym e) (now-again rows b i used n rows' b' c)
-  where
-    now-again : (rows : List ℕ) (b : List ℤ) (i used n : ℕ) (rows' : List ℕ) (b' : List ℤ) → Relayered rows b i used rows' b' → Stores true rows b i used n rows' b' used
-    now-again rows b i used n rows' b' c = unfold Stores in (c, refl)
-
-pub stores_after : (rows : List ℕ) (b : List ℤ) (i used n : ℕ) (again : Bool) (rows' : List ℕ) → again ≡ false → rows' ≡ extended rows i used n → Stores again rows b i used n rows' b (used + n)
-stores_after rows b i used n again rows' e c = subst (λ (x : Bool). Stores x rows b i used n rows' b (used + n)) (sym e) (now-after rows b i used n rows' c)
-  where
-    now-after : (rows : List ℕ) (b : List ℤ) (i used n : ℕ) (rows' : List ℕ) → rows' ≡ extended rows i used n → Stores false rows b i used n rows' b (used + n)
-    now-after rows b i used n rows' c = unfold Stores in (c, refl, refl)
-
--- ---- what `start_for` and `extend` answer
-
-pub start-empty : (rows : List ℕ) (i used k : ℕ) → k ≡ length_at rows i → k ≡ 0 → used ≡ start_of rows i used
-start-empty rows i used k e z = sym (starts-empty rows i used (sym e ∙ z))
-
-pub start_some : (rows : List ℕ) (i used k r : ℕ) → k ≡ length_at rows i → (k ≡ 0 → ⊥) → r ≡ start_at rows i → r ≡ start_of rows i used
-start_some rows i used k r e z q = let f : ¬ (k ≡ 0) = z in q ∙ sym (starts_some rows i used (omega arith))
-
-pub extend_is : (rows : List ℕ) (i used n r k d : ℕ) → r ≡ start_of rows i used → k ≡ length_at rows i → d ≡ needed_at rows i
-    → set (set (set rows (5 * i + 2) r) (5 * i + 3) (k + n)) (5 * i + 4) (d + n) ≡ extended rows i used n
-extend_is rows i used n r k d e f g = λ j. set (set (set rows (5 * i + 2) (e j)) (5 * i + 3) (f j + n)) (5 * i + 4) (g j + n)
-
-pub relayered_by : (rows : List ℕ) (b : List ℤ) (i used d : ℕ) (b' : List ℤ) → d ≡ needed_at rows i → Moved b used (used - layer_words) layer_words b'
-    → Relayered rows b i used (set rows (5 * i + 4) (d + layer_words)) b'
-relayered_by rows b i used d b' e m = record { rows_are = ap (λ (x : ℕ). set rows (5 * i + 4) (x + layer_words)) e; moved = m }

@@ -1,124 +1,17 @@
 -- Bodies met in the order of their places: the first word of each is its row's number until the walk comes there.
 -- Assumes nothing.
 use mathlib.Core.Path.{◌≡◌, refl, sym, ap, ◌∙◌, subst}
-use mathlib.Core.Bool.{Bool, true, false, cond}
 use mathlib.Core.List.{List, ◌++◌}
 use Prim.Native.Nat.{ℕ, ◌+◌, ◌-◌, ◌*◌, ◌≤◌, ◌<◌}
 use native.Mathlib.Omega.{arith}
-use borrow.Author.Tests.{ltb-true}
-use lib.Dec.{T}
-use lib.IntN.{ℤ, pos, negsuc, nat_abs}
-use lib.Signed.{lt_z, non_neg}
+use lib.IntN.{ℤ, pos}
 use lib.ListN.{length, take, drop, get_or, set, length-set, length-append, length-drop, get_or-append}
 use lib.Seq.{ext_get_or, get_or-set_same, get_or-set_other, length-take-le, get_or-take, get_or-drop, get_or-append-add}
-use mir.Syntax.{w32, w64}
-use mir.Val.{SFits, Fits, to_z, of_z}
-use mir.Facts.{to_z_pos}
-use Rattle.turns.proofs.Signed.{narrow, worth}
+use Rattle.std.specs.Prelude.{Option, Some, None}
 use Rattle.library.specs.Memory.{start_at, length_at, most}
-use Rattle.library.specs.Moving.{Laid, Moved, Numbered, Tagged, Owns, Settled, Compacted}
+use Rattle.library.specs.Moving.{Laid, Moved, Tagged, Owns, Settled, Compacted}
 use Rattle.library.proofs.Packing.{Lowest, Packing, pack_start, packed, pack_by}
-use Rattle.library.proofs.Cases.{equal_or, by_row, by_place, none_or_some}
-
--- ---- a row's number as a word
-
-pub number_fits : (z : ℤ) (f : SFits w32 z) → lt_z (to_z w64 (of_z w64 (to_z w32 (of_z w32 z)))) (pos 0) ≡ false
-    → T (non_neg (to_z w64 (of_z w64 (to_z w32 (of_z w32 z))))) × Fits w64 (nat_abs (to_z w64 (of_z w64 (to_z w32 (of_z w32 z)))))
-number_fits z f e = subst (λ (y : ℤ). T (non_neg y) × Fits w64 (nat_abs y)) (sym (worth z f)) (go z f (ap (λ (y : ℤ). lt_z y (pos 0)) (sym (worth z f)) ∙ e))
-  where
-    go : (y : ℤ) → SFits w32 y → lt_z y (pos 0) ≡ false → T (non_neg y) × Fits w64 (nat_abs y)
-    go (pos n) g h = (tt, record { fits = omega (arith, narrow (pos n) g) })
-    go (negsuc n) g h = absurd (let t : true ≡ false = h in subst (λ (b : Bool). cond b (Unit {0}) ⊥) t tt)
-
-pub number-back : (z : ℤ) (f : SFits w32 z) (i : ℕ) → z ≡ pos i → nat_abs (to_z w64 (of_z w64 (to_z w32 (of_z w32 z)))) ≡ i
-number-back z f i e = ap nat_abs (worth z f ∙ e)
-
-pub number_not : (z : ℤ) (f : SFits w32 z) (i : ℕ) → lt_z (to_z w64 (of_z w64 (to_z w32 (of_z w32 z)))) (pos 0) ≡ true → z ≡ pos i → ⊥
-number_not z f i e h = omega (arith, ltb-true i 0 (sym (ap (λ (y : ℤ). lt_z y (pos 0)) (worth z f ∙ h)) ∙ e))
-
--- a row's number is a word
-pub number_word : (i : ℕ) → i < most → to_z w32 i ≡ pos i
-number_word i h = to_z_pos w32 (omega arith)
-
-pub number_none : (rows : List ℕ) (i : ℕ) (b firsts : List ℤ) → length_at rows i ≡ 0 → Numbered rows i b firsts b firsts
-number_none rows i b firsts z = record { none = λ _. (refl, refl); some = λ y. absurd (omega arith) }
-
-pub number_some : {rows : List ℕ} {i at : ℕ} {first v : ℤ} {b firsts b' firsts' : List ℤ} → 0 < length_at rows i → at ≡ start_at rows i → first ≡ get_or b at (pos 0) → v ≡ pos i → firsts' ≡ set firsts i first
-    → b' ≡ set b at v → Numbered rows i b firsts b' firsts'
-number_some {rows} {i} {at} {first} {v} {b} {firsts} y e f g h k = record {
-  none = λ z. absurd (omega arith);
-  some = λ _. (
-    k ∙ (ap (λ (x : ℕ). set b x v) e ∙ ap (set b (start_at rows i)) g),
-    h ∙ ap (set firsts i) (f ∙ ap (λ (x : ℕ). get_or b x (pos 0)) e),
-  );
-}
-
--- no row that the word names starts here
-pub owned_not : (rows : List ℕ) (b : List ℤ) (live at i : ℕ) (word : ℤ) → word ≡ get_or b at (pos 0) → ((j : ℕ) → word ≡ pos j → i ≡ j)
-    → (i < live → 0 < length_at rows i → start_at rows i ≡ at → ⊥) → Owns rows b live at live
-owned_not rows b live at i word e f h = record {
-  none = λ _ j l g y z. subst (λ (x : ℕ). x < live → 0 < length_at rows x → start_at rows x ≡ at → ⊥) (f j (e ∙ g)) h l y z;
-  some = λ n. absurd (n refl);
-}
-
-pub settled : {rows : List ℕ} {b : List ℤ} {i at to n : ℕ} {first v : ℤ} {b' b'' : List ℤ} → n ≡ length_at rows i → v ≡ first → b' ≡ set b at v → Moved b' at to n b''
-    → Settled rows b i at to first n (set rows (5 * i + 2) to) b''
-settled {b = b} {at = at} {to = to} {n = n} {b'' = b''} e f g m = record { words = e; row = refl; body = subst (λ (x : List ℤ). Moved x at to n b'') (g ∙ ap (set b at) f) m }
-
--- ---- rows are numbered
-
--- no two bodies start at one place
-pub start_once : {rows : List ℕ} {live n : ℕ} → Laid rows live n → (i j : ℕ) → i < live → j < live → (i ≡ j → ⊥) → 0 < length_at rows i → 0 < length_at rows j → start_at rows i ≡ start_at rows j → ⊥
-start_once h i j k l e x y z = let a = h.apart i j k l e x y (omega arith) in omega arith
-
-pub tag_start : (rows : List ℕ) (b firsts : List ℤ) → length firsts ≡ most → Tagged rows b 0 0 b firsts
-tag_start rows b firsts e = record { size = refl; many = e; tags = λ i l. absurd (omega arith); noted = λ i l. absurd (omega arith); others = λ k l h. refl }
-
-module _ {rows : List ℕ} {b : List ℤ} {live i : ℕ} {b' firsts b'' firsts'' : List ℤ} (h : Laid rows live (length b)) (t : Tagged rows b i 0 b' firsts) (l : i < live) (n : Numbered rows i b' firsts b'' firsts'') where
-  tag_none : length_at rows i ≡ 0 → Tagged rows b (i + 1) 0 b'' firsts''
-  tag_none z =
-      let e = n.none z in
-      subst (λ (x : List ℤ). Tagged rows b (i + 1) 0 x firsts'') (sym e.0)
-      (subst (λ (x : List ℤ). Tagged rows b (i + 1) 0 b' x) (sym e.1) (record {
-        size = t.size;
-        many = t.many;
-        tags = λ j m y. by_row i (λ x. x < i + 1 → 0 < length_at rows x → 0 ≤ start_at rows x → get_or b' (start_at rows x) (pos 0) ≡ pos x) j (λ _ w. absurd (omega arith))
-            (λ g _ w. let f : ¬ (j ≡ i) = g in t.tags j (omega arith) w) m y;
-        noted = λ j m y. by_row i (λ x. x < i + 1 → 0 < length_at rows x → 0 ≤ start_at rows x → get_or firsts x (pos 0) ≡ get_or b (start_at rows x) (pos 0)) j (λ _ w. absurd (omega arith))
-            (λ g _ w. let f : ¬ (j ≡ i) = g in t.noted j (omega arith) w) m y;
-        others = λ k q g. t.others k q (λ j m. g j (omega arith));
-      }))
-
-  abbrev s : ℕ
-  s = start_at rows i
-
-  tag_some : 0 < length_at rows i → Tagged rows b (i + 1) 0 b'' firsts''
-  tag_some y =
-      let e = n.some y in
-      subst (λ (x : List ℤ). Tagged rows b (i + 1) 0 x firsts'') (sym e.0)
-      (subst (λ (x : List ℤ). Tagged rows b (i + 1) 0 (set b' s (pos i)) x) (sym e.1) (record {
-        size = length-set b' s (pos i) ∙ t.size;
-        many = length-set firsts i (get_or b' s (pos 0)) ∙ t.many;
-        tags = λ j m w. by_row i (λ x. x < i + 1 → 0 < length_at rows x → 0 ≤ start_at rows x → get_or (set b' s (pos i)) (start_at rows x) (pos 0) ≡ pos x) j
-            (λ _ _ _. get_or-set_same b' s (pos i) (pos 0) (omega (arith, t.size, ends)))
-            (λ g _ v q. let f : ¬ (j ≡ i) = g in get_or-set_other b' s (start_at rows j) (pos i) (pos 0) (apart j (omega arith) v) ∙ t.tags j (omega arith) v q) m w;
-        noted = λ j m w. by_row i (λ x. x < i + 1 → 0 < length_at rows x → 0 ≤ start_at rows x → get_or (set firsts i (get_or b' s (pos 0))) x (pos 0) ≡ get_or b (start_at rows x) (pos 0)) j
-            (λ _ _ _. get_or-set_same firsts i (get_or b' s (pos 0)) (pos 0) (omega (arith, t.many, h.few)) ∙ t.others s (omega arith) apart)
-            (λ g _ v q. let f : ¬ (j ≡ i) = g in get_or-set_other firsts i j (get_or b' s (pos 0)) (pos 0) g ∙ t.noted j (omega arith) v q) m w;
-        others = λ k q g. get_or-set_other b' s k (pos i) (pos 0) (λ z. g i (omega arith) y (sym z)) ∙ t.others k q (λ j m. g j (omega arith));
-      }))
-    where
-      ends : s + length_at rows i ≤ length b
-      ends = h.within i l y
-
-      apart : (j : ℕ) → j < i → 0 < length_at rows j → start_at rows j ≡ s → ⊥
-      apart j m v z = start_once h j i (omega arith) l (λ e. omega arith) v y z
-
-  pub tag_on : Tagged rows b (i + 1) 0 b'' firsts''
-  tag_on = none_or_some _ (length_at rows i) tag_none tag_some
-
-pub tag_all : {rows : List ℕ} {b : List ℤ} {live i : ℕ} {b' firsts : List ℤ} → Tagged rows b i 0 b' firsts → i ≤ live → live ≤ i → Tagged rows b live 0 b' firsts
-tag_all {rows} {b} {live} {i} {b'} {firsts} t x y = let e : i ≡ live = omega arith in subst (λ (z : ℕ). Tagged rows b z 0 b' firsts) e t
+use Rattle.library.proofs.Cases.{equal_or, by_row, by_place}
 
 -- ---- the walk
 
@@ -185,7 +78,7 @@ module _ {rows : List ℕ} {b : List ℤ} {live : ℕ} {rows' : List ℕ} {b' fi
 
   -- ---- a word of a hole
 
-  module _ {r : ℕ} (o : Owns rows' b' live at r) (e : r ≡ live) (room : at < length b') where
+  module _ {r : Option ℕ} (o : Owns rows' b' live at r) (e : r ≡ None) (room : at < length b') where
     nobody : (i : ℕ) → i < live → 0 < length_at rows' i → start_at rows' i ≡ at → ⊥
     nobody i l y z = o.none e i l (subst (λ (x : ℕ). get_or b' x (pos 0) ≡ pos i) z (w.tagged.tags i l y (omega arith))) y z
 
@@ -210,9 +103,9 @@ module _ {rows : List ℕ} {b : List ℤ} {live : ℕ} {rows' : List ℕ} {b' fi
 
   -- ---- a body
 
-  module _ {i : ℕ} (o : Owns rows' b' live at i) (e : i ≡ live → ⊥) where
+  module _ {r : Option ℕ} {i : ℕ} (o : Owns rows' b' live at r) (e : r ≡ Some i) where
     here : (i < live) × (0 < length_at rows' i) × (start_at rows' i ≡ at)
-    here = o.some e
+    here = o.some i e
 
     -- what settling it asks for
     pub at_a_body : (i < most) × (to ≤ at) × (0 < length_at rows' i) × (at + length_at rows' i ≤ length b')
@@ -220,7 +113,7 @@ module _ {rows : List ℕ} {b : List ℤ} {live : ℕ} {rows' : List ℕ} {b' fi
 
     lowest : Lowest rows' live to live i
     lowest = record {
-      within = λ x. absurd (e x);
+      within = λ x. absurd (omega (arith, here.0));
       real = λ _. (here.0, here.1, omega (arith, here.2, w.behind));
       least = λ _ j l y z. let a = w.ahead j l y z in omega (arith, here.2);
     }
@@ -269,7 +162,7 @@ module _ {rows : List ℕ} {b : List ℤ} {live : ℕ} {rows' : List ℕ} {b' fi
       rows''' = set rows' (5 * i + 2) to
 
       onward : Packing rows b live rows''' mix.run (to + n)
-      onward = pack_by rows b live rows' w.clean to i at n p lowest e (sym here.2) s.words mix.run moved
+      onward = pack_by rows b live rows' w.clean to i at n p lowest (λ x. omega (arith, here.0)) (sym here.2) s.words mix.run moved
 
       start_other : (j : ℕ) → (j ≡ i → ⊥) → start_at rows''' j ≡ start_at rows' j
       start_other j g = get_or-set_other rows' (5 * i + 2) (5 * j + 2) to 0 (λ x. g (omega arith))

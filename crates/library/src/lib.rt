@@ -2,7 +2,7 @@
 // deleted bodies is used again: when the run is full, the live bodies are moved together.
 #![tactic(auto)]
 
-ghost use Rattle.std.specs.Prelude.{◌≡◌, ℕ, ◌+◌, ◌*◌, ◌<◌, ◌≤◌, ◌^◌, List, ℤ, pos, ltb, leb, eqb, length, get_or, set, replicate, ◌&&◌};
+ghost use Rattle.std.specs.Prelude.{◌≡◌, ℕ, ◌+◌, ◌*◌, ◌<◌, ◌≤◌, ◌^◌, List, ℤ, pos, length, get_or, set, replicate};
 ghost use Rattle.library.specs.Memory.{row_numbers, most, symbol_at, start_at, length_at, needed_at, needed_in};
 ghost use Rattle.library.specs.Rows.{Sorted, Nearest, Parted, Finds, Forgets, Shifted, with_row, Begins};
 ghost use Rattle.library.specs.Storing.{start_of, extended, layer_words, Relayered, Storable, Stores};
@@ -38,6 +38,14 @@ pub enum Begun {
     Added(usize),
 }
 
+// The number of a row.
+fn symbol_at(rows: &[usize; ROW_NUMBERS], i: usize) -> usize
+    requires { i < most }
+    ensures { result ≡ symbol_at rows.now i }
+{
+    rows[PER_ROW * i]
+}
+
 // Where the body of a row starts, how many words are stored of it, and how many its definition needs.
 pub fn start_at(rows: &[usize; ROW_NUMBERS], i: usize) -> usize
     requires { i < most }
@@ -60,36 +68,22 @@ pub fn needed_at(rows: &[usize; ROW_NUMBERS], i: usize) -> usize
     rows[PER_ROW * i + NEEDED]
 }
 
-fn word_at(bodies: &[i32], i: usize) -> i32
-    requires { i < length bodies.now }
-    ensures { result ≡ get_or bodies.now i (pos 0) }
-{
-    bodies[i]
-}
-
-fn put_at(bodies: &mut [i32], i: usize, word: i32)
-    requires { i < length bodies.old }
-    ensures { bodies.new ≡ set bodies.old i word }
-{
-    bodies[i] = word;
-}
-
 // Moves four words down. All are read before one is written, so a compiler may move them as one, however near the two places are.
 fn move_four(bodies: &mut [i32], from: usize, to: usize)
     requires { (to ≤ from) × (from + 4 ≤ length bodies.old) }
     ensures { Moved bodies.old from to 4 bodies.new }
 {
-    let a = word_at(bodies, from);
-    let b = word_at(bodies, from + 1);
-    let c = word_at(bodies, from + 2);
-    let d = word_at(bodies, from + 3);
-    put_at(bodies, to, a);
-    put_at(bodies, to + 1, b);
-    put_at(bodies, to + 2, c);
-    put_at(bodies, to + 3, d);
+    let a = bodies[from];
+    let b = bodies[from + 1];
+    let c = bodies[from + 2];
+    let d = bodies[from + 3];
+    bodies[to] = a;
+    bodies[to + 1] = b;
+    bodies[to + 2] = c;
+    bodies[to + 3] = d;
 }
 
-// Moves words down, four at a time, while so many are left; how many.
+// Moves words down, four at a time, while so many are left; how many. (A `while`, since each turn moves four, and how many were moved is the answer.)
 fn move_fours(bodies: &mut [i32], from: usize, to: usize, n: usize) -> usize
     requires { (to ≤ from) × (from + n ≤ length bodies.old) }
     ensures { (result ≤ n) × Moved bodies.old from to result bodies.new }
@@ -107,11 +101,8 @@ fn move_singly(bodies: &mut [i32], from: usize, to: usize, n: usize)
     requires { (to ≤ from) × (from + n ≤ length bodies.old) }
     ensures { Moved bodies.old from to n bodies.new }
 {
-    let mut k = 0;
-    while k < n {
-        let w = word_at(bodies, from + k);
-        bodies[to + k] = w;
-        k += 1;
+    for k in 0..n {
+        bodies[to + k] = bodies[from + k];
     }
 }
 
@@ -140,49 +131,27 @@ fn number_row(rows: &[usize; ROW_NUMBERS], bodies: &mut [i32], firsts: &mut [i32
         return;
     }
     let at = start_at(rows, i);
-    let first = word_at(bodies, at);
-    put_at(firsts, i, first);
-    put_at(bodies, at, i as i32);
+    firsts[i] = bodies[at];
+    bodies[at] = i as i32;
 }
 
 fn number_rows(rows: &[usize; ROW_NUMBERS], bodies: &mut [i32], firsts: &mut [i32], live: usize)
     requires { Laid rows.now live (length bodies.old) × (length firsts.old ≡ most) }
     ensures { Tagged rows.now bodies.old live 0 bodies.new firsts.new }
 {
-    let mut i: usize = 0;
-    while i < live {
+    for i in 0..live {
         number_row(rows, bodies, firsts, i);
-        i += 1;
     }
 }
 
-// The number that a word is, if it is none below 0.
-fn number_in(word: i32) -> usize
-    ensures { (i : ℕ) → word ≡ pos i → result ≡ i }
-{
-    let z = word as i64;
-    if z < 0 {
-        return MOST;
-    }
-    z as usize
-}
-
-// The row whose body starts here, or `live`: the row that the word here names, if its body does start here. In a hole stand words of any value.
-fn owner(rows: &[usize; ROW_NUMBERS], bodies: &[i32], live: usize, at: usize) -> usize
+// The row whose body starts here: the row that the word here names, if its body does start here. In a hole stand words of any value; a word below 0, taken
+// without its sign, is more than any row's number.
+fn owner(rows: &[usize; ROW_NUMBERS], bodies: &[i32], live: usize, at: usize) -> Option<usize>
     requires { (live ≤ most) × (at < length bodies.now) }
     ensures { Owns rows.now bodies.now live at result }
 {
-    let i = number_in(word_at(bodies, at));
-    if live <= i {
-        return live;
-    }
-    if length_at(rows, i) == 0 {
-        return live;
-    }
-    if start_at(rows, i) == at {
-        return i;
-    }
-    live
+    let i = bodies[at].cast_unsigned() as usize;
+    (i < live && 0 < length_at(rows, i) && start_at(rows, i) == at).then_some(i)
 }
 
 // A body gets its first word back and is moved down, and its row says so; how many words it has.
@@ -198,13 +167,14 @@ fn settle(
     ensures { Settled rows.old bodies.old i at to first result rows.new bodies.new }
 {
     let n = length_at(rows, i);
-    put_at(bodies, at, first);
+    bodies[at] = first;
     move_down(bodies, at, to, n);
     rows[PER_ROW * i + START] = to;
     n
 }
 
-// Meets the bodies of numbered rows in the order of their places, and moves each down to those before it; how many words they have.
+// Meets the bodies of numbered rows in the order of their places, and moves each down to those before it; how many words they have. (A `while`, since it
+// goes on by a word of a hole or by a whole body.)
 fn walk(rows: &mut [usize; ROW_NUMBERS], bodies: &mut [i32], live: usize, firsts: &[i32]) -> usize
     requires { (b : List ℤ) × Laid rows.old live (length b) × Tagged rows.old b live 0 bodies.old firsts.now }
     ensures { (b : List ℤ) → Laid rows.old live (length b) → Tagged rows.old b live 0 bodies.old firsts.now → Compacted rows.old b live result rows.new bodies.new }
@@ -212,14 +182,15 @@ fn walk(rows: &mut [usize; ROW_NUMBERS], bodies: &mut [i32], live: usize, firsts
     let mut to: usize = 0;
     let mut at: usize = 0;
     while at < bodies.len() {
-        let i = owner(rows, bodies, live, at);
-        if i == live {
-            at += 1;
-        } else {
-            let first = word_at(firsts, i);
-            let n = settle(rows, bodies, i, at, to, first);
-            to += n;
-            at += n;
+        match owner(rows, bodies, live, at) {
+            Some(i) => {
+                let n = settle(rows, bodies, i, at, to, firsts[i]);
+                to += n;
+                at += n;
+            }
+            None => {
+                at += 1;
+            }
         }
     }
     to
@@ -236,39 +207,8 @@ pub fn compact(rows: &mut [usize; ROW_NUMBERS], bodies: &mut [i32], live: usize)
     walk(rows, bodies, live, &firsts)
 }
 
-// Whether a number that is at most the symbol stands at row i, one below it, or the symbol itself.
-fn at_most(rows: &[usize; ROW_NUMBERS], live: usize, i: usize, symbol: usize) -> bool
-    requires { live ≤ most }
-    ensures { result ≡ (ltb i live && leb (symbol_at rows.now i) symbol) }
-{
-    if i < live {
-        return rows[PER_ROW * i] <= symbol;
-    }
-    false
-}
-
-fn below(rows: &[usize; ROW_NUMBERS], live: usize, i: usize, symbol: usize) -> bool
-    requires { live ≤ most }
-    ensures { result ≡ (ltb i live && ltb (symbol_at rows.now i) symbol) }
-{
-    if i < live {
-        return rows[PER_ROW * i] < symbol;
-    }
-    false
-}
-
-fn stands(rows: &[usize; ROW_NUMBERS], live: usize, i: usize, symbol: usize) -> bool
-    requires { live ≤ most }
-    ensures { result ≡ (ltb i live && eqb (symbol_at rows.now i) symbol) }
-{
-    if i < live {
-        return rows[PER_ROW * i] == symbol;
-    }
-    false
-}
-
 // The last row whose number is at most the symbol, or 0, by halves: a live number stands there or nowhere. It is one of the `reach` rows from `at` on;
-// `reach` goes through 512, 256, .. 2, so that this takes nine comparisons.
+// `reach` goes through 512, 256, .. 2, so that this takes nine comparisons. (A `while`, since the reach is halved and not counted.)
 fn nearest(rows: &[usize; ROW_NUMBERS], live: usize, symbol: usize) -> usize
     requires { Sorted rows.now live }
     ensures { Nearest rows.now live symbol result }
@@ -278,7 +218,7 @@ fn nearest(rows: &[usize; ROW_NUMBERS], live: usize, symbol: usize) -> usize
     while 1 < reach {
         let half = reach / 2;
         reach -= half;
-        if at_most(rows, live, at + half, symbol) {
+        if at + half < live && symbol_at(rows, at + half) <= symbol {
             at += half;
         }
     }
@@ -286,15 +226,13 @@ fn nearest(rows: &[usize; ROW_NUMBERS], live: usize, symbol: usize) -> usize
 }
 
 // The row of a number, if it is live (refusal 12 where it is not): nine comparisons to come to the nearest number, one to see whether it is this.
+#[tactic(auto, unfolding(crate::specs::Rows::Finds))]
 pub fn find(rows: &[usize; ROW_NUMBERS], live: usize, symbol: usize) -> Option<usize>
     requires { Sorted rows.now live }
     ensures { Finds rows.now live symbol result }
 {
     let i = nearest(rows, live, symbol);
-    if stands(rows, live, i, symbol) {
-        return Some(i);
-    }
-    None
+    (i < live && symbol_at(rows, i) == symbol).then_some(i)
 }
 
 // The first row whose number is not below this one, or `live`: that of the nearest number, or the one after it.
@@ -303,7 +241,7 @@ fn seek(rows: &[usize; ROW_NUMBERS], live: usize, symbol: usize) -> usize
     ensures { Parted rows.now live symbol result }
 {
     let i = nearest(rows, live, symbol);
-    if below(rows, live, i, symbol) {
+    if i < live && symbol_at(rows, i) < symbol {
         return i + 1;
     }
     i
@@ -323,11 +261,8 @@ pub fn needed_between(rows: &[usize; ROW_NUMBERS], left: usize, live: usize) -> 
     ensures { needed_in rows.now left + result ≡ needed_in rows.now live }
 {
     let mut sum: usize = 0;
-    let mut i = left;
-    while i < live {
-        let n = needed_at(rows, i);
-        sum += n;
-        i += 1;
+    for i in left..live {
+        sum += needed_at(rows, i);
     }
     sum
 }
@@ -347,14 +282,12 @@ fn clear_part(bodies: &mut [i32], from: usize, end: usize)
     requires { (from ≤ end) × (end ≤ length bodies.old) × Cleared bodies.old bodies.old from }
     ensures { Cleared bodies.old bodies.new end }
 {
-    let mut i = from;
-    while i < end {
+    for i in from..end {
         bodies[i] = 0;
-        i += 1;
     }
 }
 
-// Every word zero, a part at a time.
+// Every word zero, a part at a time. (A `while`, since the last part may be shorter.)
 pub fn clear(bodies: &mut [i32])
     ensures { bodies.new ≡ replicate (length bodies.old) (pos 0) }
 {
@@ -403,6 +336,7 @@ pub fn replace_layer(rows: &mut [usize; ROW_NUMBERS], bodies: &mut [i32], i: usi
 }
 
 // Keeps a command whose words stand after those used, in the place of the L command that it follows or after the last; how many words are used then.
+#[tactic(auto, unfolding(crate::specs::Storing::Stores))]
 pub fn store(
     rows: &mut [usize; ROW_NUMBERS],
     bodies: &mut [i32],
@@ -427,10 +361,7 @@ fn shift(rows: &mut [usize; ROW_NUMBERS], live: usize, i: usize)
     requires { (i ≤ live) × (live < most) × (length rows.old ≡ row_numbers) }
     ensures { Shifted rows.old live i rows.new }
 {
-    let low = PER_ROW * i;
-    let mut k = PER_ROW * live;
-    while low < k {
-        k -= 1;
+    for k in (PER_ROW * i..PER_ROW * live).rev() {
         rows[k + PER_ROW] = rows[k];
     }
 }
@@ -458,7 +389,7 @@ pub fn begin(
     ensures { Begins rows.old live symbol place result rows.new }
 {
     let i = seek(rows, live, symbol);
-    if stands(rows, live, i, symbol) {
+    if i < live && symbol_at(rows, i) == symbol {
         let freed = needed_at(rows, i);
         put_row(rows, i, symbol, place);
         return Some(Begun::Replaced(i, freed));

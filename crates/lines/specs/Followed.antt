@@ -10,7 +10,6 @@ use Rattle.lines.specs.declared.Axis.TheVariants.{X, Y}
 use Rattle.lines.specs.declared.Line.{Line}
 use Rattle.lines.specs.declared.Numeral.{Numeral}
 use Rattle.lines.specs.declared.Span.{Span}
-use Rattle.lines.specs.declared.Window.{Window}
 use Rattle.lines.specs.declared.Lead.{Lead}
 use Rattle.lines.specs.declared.Seen.{Seen}
 

@@ -16,7 +16,7 @@ const BYTE_UNIT: u32 = names::BYTE_UNIT as u32;
 
 const LINE_FEED: u8 = 10;
 
-// Where the numbers of a point go.
+// Where the numbers of a point go. Other crates meet it in the account alone.
 #[derive(Clone, Copy, PartialEq, Eq)]
 pub enum Axis {
     X,
@@ -56,7 +56,7 @@ pub struct Window {
 }
 
 // The first numbers of a line, by which its shape reaches beyond its points: the sizes, and of a box its centre and the x of its direction, which is
-// known only after the centre. All 0 at a line's start.
+// known only after the centre. All 0 at a line's start, and no Options: none is read before it is known.
 #[derive(Clone, Copy, Default)]
 pub struct Lead {
     pub first: u32,
@@ -404,7 +404,8 @@ pub fn start() -> Seen
     }
 }
 
-// After one byte more.
+// After one byte more. That a layer's name fits its 32 bits is asked for, and no ghost field of `Line`: the account would have to prove it of each line
+// that it makes, so that is no plainer.
 #[tactic(auto, unfolding(crate::specs::Followed::seen_after))]
 pub fn after(seen: Seen, b: u8) -> Seen
     requires fits { Fits seen.line }

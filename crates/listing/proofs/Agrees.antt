@@ -128,9 +128,9 @@ refusal-listed t words {a} {f} h n w s =
     listed (record { warnings = []; due = λ l e. absurd (n e); writes = rw (le-ltb 16777216 (length f) h, ne_eqb a.number 0 n) w }) (omega arith)
 
 pub shapes-listed : {t : List ℕ} {words : ℕ} {a : Answer} {f r₀ r₁ r₂ r₃ : List ℕ} {j k : ℕ} (v : Walked) → length f ≤ 16777216 → a.number ≡ 0 → Walks f r₀ r₁ v
-    → WarnsAny t words r₁ r₂ v.at j → Writes r₂ r₃ j k (ending a v.window) × (k ≤ j + 160) → Listed t words a f r₀ r₃ k
+    → WarnsAny t words r₁ r₂ v.at j → Writes r₂ r₃ j k (ending a v.window) → k ≤ j + 160 → Listed t words a f r₀ r₃ k
 unfolding account
-shapes-listed {a = a} {f} v h n g w (x, q) =
+shapes-listed {a = a} {f} v h n g w x q =
     let e = g.writes.ends in
     let p = w.near in
     let all = both g.writes (both w.writes x) in

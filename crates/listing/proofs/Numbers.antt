@@ -19,7 +19,7 @@ use Rattle.definition.proofs.Rows.{same-eq}
 use Rattle.laws.proofs.FlatFile.Decimals.{DigitByte, val, val_grows, digit_low, digit_high, shortest_is}
 use Rattle.laws.proofs.FlatFile.Sound.{Near}
 use Rattle.pen.specs.Names.{packed}
-use Rattle.lines.specs.Followed.{line, fresh, named, line_after, numeral, ends, numeral_after, value_of, blank, kept, lead_after, axis_of, box_taken, taken, span_after}
+use Rattle.lines.specs.Followed.{line, fresh, named, line_after, numeral, ends, numeral_after, blank, kept, lead_after, axis_of, taken, span_after}
 use Rattle.lines.specs.declared.Axis.{Axis}
 use Rattle.lines.specs.declared.Line.{Line}
 use Rattle.lines.specs.declared.Numeral.{Numeral}

@@ -8,7 +8,7 @@ use native.Mathlib.Omega.{arith}
 use lib.ListN.{length, get_or, drop}
 use Rattle.digits.specs.Writes.{Writes}
 use Rattle.digits.proofs.Writing.{WrittenSoFar, begun, goes_on, over, next-byte, no_byte}
-use Rattle.lines.specs.Followed.{fresh, numeral, blank, line_after, numeral_after, lead_after, span_after, Fits, unread, seen_after}
+use Rattle.lines.specs.Followed.{fresh, line_after, numeral_after, lead_after, span_after, Fits, unread, seen_after}
 use Rattle.lines.specs.declared.Axis.{Axis}
 use Rattle.lines.specs.declared.Axis.TheVariants.{X, Y}
 use Rattle.lines.specs.declared.Line.{Line}

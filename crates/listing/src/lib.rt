@@ -96,6 +96,7 @@ fn put_byte(out: &mut [u8], at: usize, line: lines::Line, b: u8) -> usize
 }
 
 // The lines of all shapes, from one pass over the flat file.
+#[tactic(auto, using(crate::proofs::Walking::first, crate::proofs::Walking::fits))]
 fn put_shapes(flat: &[u8], out: &mut [u8]) -> Walked
     requires { length flat.now ≤ 16777216 }
     ensures { Walks flat.now out.old out.new result }
@@ -176,7 +177,8 @@ fn put_refusal(out: &mut [u8], answer: definition::Answer) -> usize
 // The total and the window.
 fn put_ending(out: &mut [u8], at: usize, answer: definition::Answer, window: lines::Window) -> usize
     requires { at ≤ 2 ^ 57 }
-    ensures { Writes out.old out.new at result (ending answer window) × (result ≤ at + 160) }
+    ensures writes { Writes out.old out.new at result (ending answer window) }
+    ensures upper_bound { result ≤ at + 160 }
 {
     let next = put_total(out, at, answer);
     put_window(out, next, window)

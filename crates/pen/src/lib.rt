@@ -2,8 +2,8 @@
 // place, exact whatever the room.
 #![tactic(auto)]
 
-ghost use Rattle.std.specs.Prelude.{◌≡◌, ◌∷◌, [], ◌+◌, ◌*◌, ◌^◌, ◌<◌, ◌≤◌, length};
-ghost use Rattle.definition.specs.Flat.{spaced, line};
+ghost use Rattle.std.specs.Prelude.{◌≡◌, ◌∷◌, [], ◌+◌, ◌*◌, ◌^◌, ◌<◌, ◌≤◌, IsTrue, length};
+ghost use Rattle.definition.specs.Flat.{decimal, spaced, line};
 ghost use Rattle.digits.specs.Writes.{Writes};
 ghost use Rattle.pen.specs.Lines.{space, number, layer_line};
 ghost use Rattle.pen.specs.Names.{name_of};
@@ -13,23 +13,77 @@ const FIRST_UNIT: u32 = names::FIRST_UNIT as u32;
 
 const BYTE_UNIT: u32 = names::BYTE_UNIT as u32;
 
+// A byte of a line. Where all of the line surely lies within the room (`SURE`), it is stored without a test.
+fn write_byte<const SURE: bool>(room: &mut [u8], at: usize, byte: u8) -> usize
+    requires { (at ≤ 2 ^ 60) × (IsTrue SURE → at < length room.old) }
+    ensures { Writes room.old room.new at result (byte ∷ []) }
+{
+    if SURE {
+        return digits::lay(room, at, byte);
+    }
+    digits::put(room, at, byte)
+}
+
+fn write_decimal<const SURE: bool>(room: &mut [u8], at: usize, z: i64) -> usize
+    requires { (at ≤ 2 ^ 61) × (IsTrue SURE → at + 20 ≤ length room.old) }
+    ensures { Writes room.old room.new at result (decimal z) }
+{
+    if SURE {
+        return digits::lay_decimal(room, at, z);
+    }
+    digits::put_decimal(room, at, z)
+}
+
 // A space stands before every number but a line's first.
-fn put_space(room: &mut [u8], at: usize, first: bool) -> usize
-    requires { at ≤ 2 ^ 60 }
+fn write_space<const SURE: bool>(room: &mut [u8], at: usize, first: bool) -> usize
+    requires { (at ≤ 2 ^ 60) × (IsTrue SURE → at < length room.old) }
     ensures { Writes room.old room.new at result (space first) }
 {
     if first {
         return at;
     }
-    digits::put(room, at, b' ')
+    write_byte::<SURE>(room, at, b' ')
+}
+
+fn write_number<const SURE: bool>(room: &mut [u8], at: usize, first: bool, z: i64) -> usize
+    requires { (at ≤ 2 ^ 60) × (IsTrue SURE → at + 21 ≤ length room.old) }
+    ensures { Writes room.old room.new at result (number first z) }
+{
+    let next = write_space::<SURE>(room, at, first);
+    write_decimal::<SURE>(room, next, z)
+}
+
+// A number has 21 bytes at most with its space.
+fn write_numbers<const SURE: bool>(room: &mut [u8], start: usize, numbers: &[i64]) -> usize
+    requires bounds { (start ≤ 2 ^ 59) × (length numbers.now ≤ 2 ^ 50) }
+    requires fits { IsTrue SURE → start + 21 * length numbers.now < length room.old }
+    ensures writes { Writes room.old room.new start result (spaced numbers.now) }
+    ensures upper_bound { result ≤ start + 21 * length numbers.now }
+{
+    let mut at = start;
+    for (i, z) in numbers.iter().enumerate() {
+        at = write_number::<SURE>(room, at, i == 0, *z);
+    }
+    at
+}
+
+fn write_line<const SURE: bool>(room: &mut [u8], at: usize, letter: u8, numbers: &[i64]) -> usize
+    requires bounds { (at ≤ 2 ^ 58) × (length numbers.now ≤ 2 ^ 50) }
+    requires fits { IsTrue SURE → at + 21 * length numbers.now + 3 ≤ length room.old }
+    ensures writes { Writes room.old room.new at result (line letter (spaced numbers.now)) }
+    ensures upper_bound { result ≤ at + 21 * length numbers.now + 3 }
+{
+    let first = write_byte::<SURE>(room, at, letter);
+    let next = write_numbers::<SURE>(room, first, numbers);
+    let last = write_byte::<SURE>(room, next, b';');
+    write_byte::<SURE>(room, last, 10)
 }
 
 pub fn put_number(room: &mut [u8], at: usize, first: bool, z: i64) -> usize
     requires { at ≤ 2 ^ 60 }
     ensures { Writes room.old room.new at result (number first z) }
 {
-    let next = put_space(room, at, first);
-    digits::put_decimal(room, next, z)
+    write_number::<false>(room, at, first, z)
 }
 
 pub fn put_numbers(room: &mut [u8], start: usize, numbers: &[i64]) -> usize
@@ -37,13 +91,7 @@ pub fn put_numbers(room: &mut [u8], start: usize, numbers: &[i64]) -> usize
     ensures writes { Writes room.old room.new start result (spaced numbers.now) }
     ensures upper_bound { result ≤ start + 21 * length numbers.now }
 {
-    let mut at = start;
-    let mut i = 0;
-    while i < numbers.len() {
-        at = put_number(room, at, i == 0, numbers[i]);
-        i += 1;
-    }
-    at
+    write_numbers::<false>(room, start, numbers)
 }
 
 pub fn put_end_of_line(room: &mut [u8], at: usize) -> usize
@@ -52,17 +100,6 @@ pub fn put_end_of_line(room: &mut [u8], at: usize) -> usize
 {
     let next = digits::put(room, at, b';');
     digits::put(room, next, 10)
-}
-
-// A line in a room that may end within it: each byte is tested.
-fn put_cut_line(room: &mut [u8], at: usize, letter: u8, numbers: &[i64]) -> usize
-    requires { (at ≤ 2 ^ 58) × (length numbers.now ≤ 2 ^ 50) }
-    ensures writes { Writes room.old room.new at result (line letter (spaced numbers.now)) }
-    ensures upper_bound { result ≤ at + 21 * length numbers.now + 3 }
-{
-    let first = digits::put(room, at, letter);
-    let next = put_numbers(room, first, numbers);
-    put_end_of_line(room, next)
 }
 
 fn number_length(first: bool, z: i64) -> usize
@@ -81,58 +118,10 @@ fn measure_numbers(start: usize, numbers: &[i64]) -> usize
     ensures { (result ≡ start + length (spaced numbers.now)) × (result ≤ start + 21 * length numbers.now) }
 {
     let mut at = start;
-    let mut i = 0;
-    while i < numbers.len() {
-        at += number_length(i == 0, numbers[i]);
-        i += 1;
+    for (i, z) in numbers.iter().enumerate() {
+        at += number_length(i == 0, *z);
     }
     at
-}
-
-// The same writers where all of it surely lies within the room: no test.
-fn lay_space(room: &mut [u8], at: usize, first: bool) -> usize
-    requires { at < length room.old }
-    ensures { Writes room.old room.new at result (space first) }
-{
-    if first {
-        return at;
-    }
-    digits::lay(room, at, b' ')
-}
-
-fn lay_number(room: &mut [u8], at: usize, first: bool, z: i64) -> usize
-    requires { (at + 21 ≤ length room.old) × (at ≤ 2 ^ 60) }
-    ensures { Writes room.old room.new at result (number first z) }
-{
-    let next = lay_space(room, at, first);
-    digits::lay_decimal(room, next, z)
-}
-
-fn lay_numbers(room: &mut [u8], start: usize, numbers: &[i64]) -> usize
-    requires start_bound { (start ≤ 2 ^ 59) × (length numbers.now ≤ 2 ^ 50) }
-    requires numbers_in_bounds { start + 21 * length numbers.now < length room.old }
-    ensures writes { Writes room.old room.new start result (spaced numbers.now) }
-    ensures upper_bound { result ≤ start + 21 * length numbers.now }
-{
-    let mut at = start;
-    let mut i = 0;
-    while i < numbers.len() {
-        at = lay_number(room, at, i == 0, numbers[i]);
-        i += 1;
-    }
-    at
-}
-
-fn lay_line(room: &mut [u8], at: usize, letter: u8, numbers: &[i64]) -> usize
-    requires at_bound { (at ≤ 2 ^ 58) × (length numbers.now ≤ 2 ^ 50) }
-    requires numbers_in_bounds { at + 21 * length numbers.now + 3 ≤ length room.old }
-    ensures writes { Writes room.old room.new at result (line letter (spaced numbers.now)) }
-    ensures upper_bound { result ≤ at + 21 * length numbers.now + 3 }
-{
-    let first = digits::lay(room, at, letter);
-    let next = lay_numbers(room, first, numbers);
-    let last = digits::lay(room, next, b';');
-    digits::lay(room, last, 10)
 }
 
 // A shape's line: its letter and its final numbers in written order, a box's direction among them. In a room that ends before it, as in a drawing that measures,
@@ -146,12 +135,13 @@ pub fn put_line(room: &mut [u8], at: usize, letter: u8, numbers: &[i64]) -> usiz
         return measure_numbers(at, numbers) + 3;
     }
     if 21 * numbers.len() + 3 <= room.len() - at {
-        return lay_line(room, at, letter, numbers);
+        return write_line::<true>(room, at, letter, numbers);
     }
-    put_cut_line(room, at, letter, numbers)
+    write_line::<false>(room, at, letter, numbers)
 }
 
 // A packed name's bytes, from the highest on until only zeros are left.
+// (A `while`: it goes through what is left of a number, and over no index or element.)
 pub fn put_name(room: &mut [u8], start: usize, name: u32) -> usize
     requires { start ≤ 2 ^ 60 }
     ensures { Writes room.old room.new start result (name_of name) }

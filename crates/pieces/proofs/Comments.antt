@@ -1,6 +1,6 @@
 -- Comments, passed over: within one the state stays, every letter is skipped, and no piece begins.
 -- Assumes nothing.
-use mathlib.Core.Path.{◌≡◌, refl, sym, ap, ◌∙◌}
+use mathlib.Core.Path.{◌≡◌, refl, sym, ap, ◌∙◌, subst}
 use mathlib.Core.List.{List, [], ◌∷◌}
 use Prim.Native.Nat.{ℕ, ◌+◌, ◌≤◌, ◌<◌}
 use native.Mathlib.Omega.{arith}
@@ -50,14 +50,18 @@ none_left : (t : List ℕ) (q i j : ℕ) → length t ≤ j → [] ≡ pieces j 
 none_left t q i j h = sym (ap (λ (l : List Letter). pieces j j l) (left_ended t q 0 j h) ∙ pieces_none j j)
 
 module _ (t : List ℕ) (q i₀ d i : ℕ) (g : Commented t q i₀ d i) where
-  pub comment_ended : length t ≤ i → Closes t q i₀ i
+  pub comment_ended : length t ≤ i → Closes t q i₀ (length t)
   unfolding closed_at
-  comment_ended h = record {
-    exact = sym (g.exact ∙ ap (λ (l : List ℕ). closed_at q d i l) (drop_of_length-le t h));
-    ahead = g.from;
-    within = g.within_text;
-    on = g.on ∙ ap (λ (l : List Letter). pieces i i l) (left_ended t q d i h) ∙ pieces_none i i ∙ none_left t q i i h;
-  }
+  comment_ended h =
+      let w = g.within_text in
+      let e : i ≡ length t = omega arith in
+      subst (λ (r : ℕ). Closes t q i₀ r) e
+      (record {
+        exact = sym (g.exact ∙ ap (λ (l : List ℕ). closed_at q d i l) (drop_of_length-le t h));
+        ahead = g.from;
+        within = w;
+        on = g.on ∙ ap (λ (l : List Letter). pieces i i l) (left_ended t q d i h) ∙ pieces_none i i ∙ none_left t q i i h;
+      })
 
   module _ (hi : i < length t) (hb : get_or t i 0 < 256) (r : Move) (mv : Moved q d (get_or t i 0) r) where
     open_still : d ≡ 0 → ⊥

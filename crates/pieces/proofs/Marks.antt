@@ -99,11 +99,13 @@ at_further i p b L head h = absurd (omega arith)
 at_further i p b L second h = absurd (omega arith)
 
 module _ (t : List ℕ) (q₀ i₀ q i p : ℕ) (g : Seeking t q₀ i₀ q i p) where
-  pub seek_ended : length t ≤ i → (m : Begun) → m ≡ ended i q → Begins t (spot i₀ q₀) m
+  pub seek_ended : length t ≤ i → (m : Begun) → m ≡ ended (length t) q → Begins t (spot i₀ q₀) m
   unfolding begun_by number
   seek_ended h m k =
+      let w = g.fit.within in
+      let e : length t ≡ i = omega arith in
       begins_none m (g.on ∙ ap (λ (l : List Letter). pieces i p l) (left_ended t q 0 i h) ∙ pieces_none i p) (ap (λ (x : Begun). x.mark) k)
-      (k ∙ sym (g.exact ∙ ap (λ (l : List ℕ). begun_by q i p l) (drop_of_length-le t h)))
+      (k ∙ ap (λ (n : ℕ). ended n q) e ∙ sym (g.exact ∙ ap (λ (l : List ℕ). begun_by q i p l) (drop_of_length-le t h)))
 
   module _ (hi : i < length t) (hb : get_or t i 0 < 256) (e : ℕ) (ee : e ≡ entry_of q (kind_of (get_or t i 0))) where
     abbrev b : ℕ

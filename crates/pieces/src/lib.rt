@@ -1,6 +1,6 @@
 // The pieces of a CIF text, one after another: what stands between its bytes and its commands. `next_mark` finds the letter that begins the next
 // piece, `read_number` reads on where that is a number. They give plain numbers back and not pieces: an enum that is handed up costs a reader more
-// than reading its bytes. Contracts speak of pieces, so that whoever reads them names no state.
+// than reading its bytes (measured: docs/DECISIONS.md 68). Contracts speak of pieces, so that whoever reads them names no state.
 #![tactic(auto)]
 
 ghost use Rattle.std.specs.Prelude.{◌≡◌, ◌+◌, ◌*◌, ◌<◌, ◌≤◌, ltb, length};
@@ -50,36 +50,33 @@ pub struct Numeral {
 fn digit(b: u8) -> usize
     ensures { (result ≡ digit_of b) × (result < 256) }
 {
-    if b'0' <= b {
-        return (b - b'0') as usize;
-    }
-    0
+    b.saturating_sub(b'0') as usize
 }
 
 // A number that the digit b makes longer.
+#[tactic(auto, unfolding(crate::specs::Pieces::capped))]
 fn grown(v: usize, b: u8) -> usize
     requires { v ≤ too_large }
     ensures { result ≡ capped (10 * v + digit_of b) }
 {
-    let n = 10 * v + digit(b);
-    if n < TOO_LARGE {
-        return n;
-    }
-    TOO_LARGE
+    (10 * v + digit(b)).min(TOO_LARGE)
 }
 
 // A number begins at its minus sign.
+#[tactic(auto, unfolding(crate::specs::Pieces::place_beyond, grammar::specs::Steps::number))]
 fn next_place(mark: usize, i: usize) -> usize
     requires { i < farthest }
     ensures { result ≡ place_beyond mark i }
 {
     if mark == grammar::tables::SIGN {
-        return i;
+        i
+    } else {
+        i + 1
     }
-    i + 1
 }
 
 // No more pieces.
+#[tactic(auto, unfolding(grammar::specs::Steps::number))]
 fn nothing(at: usize, state: usize) -> Begun
     ensures { result ≡ ended at state }
 {
@@ -92,38 +89,31 @@ fn nothing(at: usize, state: usize) -> Begun
     }
 }
 
+#[tactic(auto, unfolding(crate::specs::Pieces::digital))]
 fn is_digit(b: u8) -> bool
     ensures { result ≡ digital b }
 {
-    if b < b'0' {
-        return false;
-    }
-    b <= b'9'
+    matches!(b, b'0'..=b'9')
 }
 
-// The rest of a number: behind its first digit every digit belongs to it, so the table is not asked.
+// The rest of a number: behind its first digit every digit belongs to it, so the table is not asked. Where a reader does not stand in the text it stays where
+// it is, so this is no `for` over the bytes that are left.
 pub fn read_number(text: &[u8], first: Begun) -> Numeral
     ensures step { (s : Spot) → Led text.now s first → Step text.now s (Number first.place (ltb first.place first.at) result.size) result.to }
     ensures value { result ≡ numeral_of text.now first }
 {
-    let q = first.to.state;
     let mut i = first.to.at;
     let mut v = digit(first.byte);
-    while i < text.len() {
-        let b = text[i];
-        if is_digit(b) {
-            v = grown(v, b);
-            i += 1;
-        } else {
-            return Numeral {
-                size: v,
-                to: Spot { at: i, state: q },
-            };
-        }
+    while i < text.len() && is_digit(text[i]) {
+        v = grown(v, text[i]);
+        i += 1;
     }
     Numeral {
         size: v,
-        to: Spot { at: i, state: q },
+        to: Spot {
+            at: i,
+            state: first.to.state,
+        },
     }
 }
 
@@ -133,19 +123,17 @@ fn after_comment(text: &[u8], recogniser: &grammar::Recogniser, q: usize, from: 
     ensures { Closes text.now q from result }
 {
     let mut d: usize = 1;
-    let mut i = from;
-    while i < text.len() {
+    for i in from..text.len() {
         let m = grammar::step(recogniser, q, d, text[i]);
         if m.state == grammar::tables::STUCK {
             return text.len();
         }
         d = m.depth;
-        i += 1;
         if d == 0 {
-            return i;
+            return i + 1;
         }
     }
-    i
+    text.len()
 }
 
 // The letter that begins the next piece of any bytes from a spot on. Blanks and user text are passed over; where the text leaves the grammar it has no
@@ -155,9 +143,8 @@ pub fn next_mark(text: &[u8], recogniser: &grammar::Recogniser, from: Spot) -> B
     ensures { Begins text.now from result }
 {
     let mut q = from.state;
-    let mut i = from.at;
-    let mut p = i;
-    while i < text.len() {
+    let mut p = from.at;
+    for i in from.at..text.len() {
         let b = text[i];
         let e = grammar::entry_at(recogniser, q, b);
         let s = e % grammar::tables::ROLE_UNIT;
@@ -188,7 +175,6 @@ pub fn next_mark(text: &[u8], recogniser: &grammar::Recogniser, from: Spot) -> B
         }
         p = next_place(mark, i);
         q = s;
-        i = j;
     }
-    nothing(i, q)
+    nothing(text.len(), q)
 }

@@ -13,10 +13,10 @@ use lib.Seq.{take_at}
 use Rattle.grammar.specs.Viable.{Grammatical, LongestViable}
 use Rattle.definition.specs.declared.Answer.{Answer}
 use Rattle.definition.specs.declared.Refusal.{Refusal}
-use Rattle.definition.specs.Limits.{most_bytes}
-use Rattle.definition.specs.Words.{Placed}
 use Rattle.definition.specs.declared.Rule.{Rule}
 use Rattle.definition.specs.declared.Rule.TheVariants.{TextTooLong, NotInGrammar, TooFewWords, XOutOfRange, YOutOfRange, FlatFileTooLong}
+use Rattle.definition.specs.Limits.{most_bytes}
+use Rattle.definition.specs.Words.{Placed}
 use Rattle.definition.specs.Rules.{number_of, refuse}
 use Rattle.definition.specs.Commands.{Command}
 use Rattle.definition.specs.Drawing.{Chain, Event}
@@ -24,7 +24,7 @@ use Rattle.definition.specs.Counts.{Counts, shapes_of}
 use Rattle.definition.specs.Flat.{flat}
 use Rattle.definition.specs.Answer.{Outcome, accepted, rejected, success, Answers, Promised}
 use Rattle.definition.proofs.Right.{unique}
-use Rattle.laws.proofs.Rules.Order.{ByCommand, ByDrawing, number_from-1, number_not-5}
+use Rattle.laws.proofs.Rules.Order.{ByCommand, ByDrawing, one_number, number_from-1, number_not-5}
 use Rattle.laws.proofs.Rules.Outcomes.{Accepting}
 use Rattle.laws.proofs.Demands.Demand1.{Located, RefusalHolds, refusal-holds, SuccessHolds, success-holds}
 use Rattle.laws.proofs.Demands.Demand2.{Refused, CommandsBreak, DrawingStopped, FileTooLong, refused_by_length, refused_by_grammar, refused_by_command, refused_by_drawing}
@@ -36,10 +36,6 @@ use Rattle.laws.proofs.Demands.Demand3.{Demand3, demand3, twice}
 -- the number and the place of an answer
 abbrev pub Says : Answer → (number place : ℕ) → Type 0
 Says r n p = (r.number ≡ n) × (r.place ≡ p)
-
--- the refusal that an answer with a number tells
-abbrev pub told : Answer → Refusal
-told r = record { number = r.number; place = r.place }
 
 -- what a reading leaves in its room, r' and left' from room', where the text is what an earlier one left: r and left
 pub record SameAgain (r : Answer) (left room' : List ℕ) (r' : Answer) (left' : List ℕ) : Type 0 where
@@ -65,9 +61,6 @@ pub record Flattened (t : List ℕ) (words room : ℕ) (r : Answer) (left : List
   -- and a reading of it, with any words, in any room that holds it, gives the same bytes
   pub again : (lent lent' : List ℤ) (room' left' : List ℕ) (r' : Answer) → r.length ≤ length room' → Promised (take r.length left) lent room' r' lent' left' → SameAgain r left room' r' left'
 
-same-refusal : {r r' : Refusal} (chain : Chain) → r.number ≡ r'.number → r.place ≡ r'.place → rejected r chain ≡ rejected r' chain
-same-refusal chain e f = ap₂ (λ (n p : ℕ). rejected (record { number = n; place = p }) chain) e f
-
 module _ {t : List ℕ} {words words' : List ℤ} {room left : List ℕ} {r : Answer} (h : Promised t words room r words' left) where
   -- ---- the number tells how the reading came out
 
@@ -85,26 +78,27 @@ module _ {t : List ℕ} {words words' : List ℤ} {room left : List ℕ} {r : An
       go (rejected by chain) is = let k = refusal-holds h is in absurd (omega (arith, e, k.0.number, k.1.first-number))
 
   record Stopped : Type 0 where
+    by : Refusal
     open_calls : Chain
-    is : h.outcome ≡ rejected (told r) open_calls
+    is : h.outcome ≡ rejected by open_calls
 
   stopped : (r.number ≡ 0 → ⊥) → Stopped
   stopped e = go h.outcome refl
     where
       go : (o : Outcome) → h.outcome ≡ o → Stopped
       go (accepted cs c es) is = absurd (e (success-holds h is).no_number)
-      go (rejected by chain) is = let k = (refusal-holds h is).0 in record { open_calls = chain; is = is ∙ same-refusal chain (sym k.number) (sym k.place) }
+      go (rejected by chain) is = record { by = by; open_calls = chain; is = is }
 
   outcome_is : {o : Outcome} → Answers t (length words) (length room) o → h.outcome ≡ o
   outcome_is a = unique h.answers a
 
   -- ---- demand 1
 
-  -- an answer with a number holds this number and place, line and column of the place, the places of the calls open there, and nothing else, and leaves the
+  -- an answer with a number holds the number and place of a refusal, line and column of the place, the places of the calls open there, and nothing else, and leaves the
   -- room unchanged; the place lies within the text, and so do those of the calls, of which there are at most 32, and none but at 11 to 17 and 20. That an
   -- answer comes at all is what the proof of a Rattle function shows, and that only one is promised, the room's bytes included, is Right.one-answer
-  pub refusals_hold : (r.number ≡ 0 → ⊥) → (chain : Chain) × RefusalHolds t room r left (told r) chain × Located t (told r) chain
-  refusals_hold e = let s = stopped e in let k = refusal-holds h s.is in (s.open_calls, k.0, k.1)
+  pub refusals_hold : (r.number ≡ 0 → ⊥) → (by : Refusal) × (chain : Chain) × RefusalHolds t room r left by chain × Located t by chain
+  refusals_hold e = let s = stopped e in let k = refusal-holds h s.is in (s.by, s.open_calls, k.0, k.1)
 
   -- the length told lies within the room that is left
   pub length-within : r.length ≤ length left
@@ -134,7 +128,10 @@ module _ {t : List ℕ} {words words' : List ℤ} {room left : List ℕ} {r : An
   refused-when by {p} = (
     λ s.
         let k = stopped (λ z. omega (arith, s.0, z, number_from-1 by)) in
-        (k.open_calls, subst (Answers t (length words) (length room)) (k.is ∙ same-refusal k.open_calls s.0 s.1) h.answers),
+        let told = (refusal-holds h k.is).0 in
+        let same : rejected k.by k.open_calls ≡ rejected (refuse by p) k.open_calls =
+        ap₂ {C = Outcome} (λ (q : Rule) (n : ℕ). rejected (refuse q n) k.open_calls) (one_number k.by.rule by (sym told.number ∙ s.0)) (sym told.place ∙ s.1) in
+        (k.open_calls, subst (Answers t (length words) (length room)) (k.is ∙ same) h.answers),
     λ s. let k = (refusal-holds h (outcome_is s.1)).0 in (k.number, k.place),
   )
 
@@ -153,8 +150,8 @@ module _ {t : List ℕ} {words words' : List ℤ} {room left : List ℕ} {r : An
   -- 5 never occurs, whatever the text and the room: since request 2 no rule has this number
   pub never-5 : r.number ≡ 5 → ⊥
   never-5 e =
-      let k = (refusals_hold (λ z. omega (arith, e, z))).2 in
-      number_not-5 k.rule (sym (ap (λ (x : Refusal). x.number) k.is) ∙ e)
+      let k = refusals_hold (λ z. omega (arith, e, z)) in
+      number_not-5 k.0.rule (sym k.2.number ∙ e)
 
   -- 10 to 17, 20 and 25, the first moment of the drawing that breaks a rule, the foremost of its rules; under the calls open there
   pub refused_by_drawing_when : {by : Rule} {p : ℕ} → ByDrawing by → Says r (number_of by) p ↔ ((chain : Chain) × DrawingStopped t (length words) by p chain)

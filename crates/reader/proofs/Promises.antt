@@ -1,5 +1,6 @@
 -- From what reading and drawing promise to what the reader promises: one law for each way through the code, in the order of refusals.
 -- Assumes nothing.
+use Rattle.std.specs.Prelude.{Result, Ok, Err}
 use mathlib.Core.Path.{◌≡◌, refl, sym, ap, ap₂, ◌∙◌, subst}
 use mathlib.Core.List.{List, [], ◌∷◌, map}
 use mathlib.Core.Option.{Option, none, some}
@@ -11,7 +12,7 @@ use lib.Seq.{sets}
 use Rattle.grammar.specs.Viable.{Judged}
 use Rattle.definition.specs.declared.Answer.{Answer}
 use Rattle.definition.specs.declared.Refusal.{Refusal}
-use Rattle.definition.specs.declared.Rule.TheVariants.{FlatFileTooLong}
+use Rattle.definition.specs.declared.Rule.TheVariants.{TextTooLong, FlatFileTooLong}
 use Rattle.definition.specs.Rules.{refuse}
 use Rattle.definition.specs.Commands.{commands}
 use Rattle.definition.specs.Standing.{outside}
@@ -38,7 +39,6 @@ use Rattle.shapes.specs.Painting.{bytes_of, Goes, Answered, Painted}
 use Rattle.passing.specs.Passed.{Passed, to_draw, dry}
 use Rattle.shapes.proofs.Painting.{until_all}
 use Rattle.reader.specs.Screened.{Screened, over, within, Rounds, Comes, held_lines}
-use Rattle.std.specs.Prelude.{Err, Ok, Result}
 
 -- a refusal leaves the room as it was
 refusing : {t : List ℕ} {words : ℕ} {room : List ℕ} {r : Answer} {why : Refusal} (chain : Chain) → Answers t words (length room) (rejected why chain)
@@ -53,7 +53,7 @@ never_clear e = let z : ◌≡◌ {A = ℕ} 0 1 = cc in omega arith
 
 -- how a text with this fault comes out; one without is not asked
 abbrev outcome_by : Result ℕ Refusal → Outcome
-outcome_by (Ok k) = rejected (record { number = 0; place = 0 }) []
+outcome_by (Ok k) = rejected (refuse TextTooLong 0) []
 outcome_by (Err why) = rejected why []
 
 judged-answers : {t : List ℕ} {words room : ℕ} {why : Refusal} → length t ≤ 16777216 → (v : Result Unit ℕ) → Judged t v → by_verdict t v (Err why) → Answers t words room (rejected why [])

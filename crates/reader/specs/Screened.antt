@@ -1,20 +1,19 @@
 -- The first of refusals 1 to 9: over the longest text 1, and else what `reading` refuses; and how a text comes out before the words are cleared. A running
 -- account, not to be believed: proofs/Promises.antt shows that it is the definition's.
 -- Assumes nothing.
-use Rattle.std.specs.Prelude.{◌≡◌, List, map, ℕ, ◌≤◌, ◌<◌, length}
+use Rattle.std.specs.Prelude.{◌≡◌, List, map, ℕ, ◌≤◌, ◌<◌, length, Result, Err}
 use Rattle.definition.specs.declared.Answer.{Answer}
+use Rattle.definition.specs.declared.Refusal.{Refusal}
+use Rattle.definition.specs.declared.Rule.TheVariants.{TextTooLong}
 use Rattle.definition.specs.Answer.{Outcome, Answers, given_back, room_after}
 use Rattle.definition.specs.Held.{held_to}
 use Rattle.definition.specs.Limits.{most_bytes}
-use Rattle.definition.specs.declared.Rule.TheVariants.{TextTooLong}
 use Rattle.definition.specs.Rules.{refuse}
 use Rattle.definition.specs.Commands.{commands}
 use Rattle.definition.specs.Rounded.{rounded}
 use Rattle.passing.specs.Passed.{Passed, to_draw, dry}
 use Rattle.shapes.specs.Painting.{bytes_of}
 use Rattle.reading.specs.Refusal.{Refuses}
-use Rattle.std.specs.Prelude.{Err, Result}
-use Rattle.definition.specs.declared.Refusal.{Refusal}
 
 pub data Screened (t : List ℕ) : Result ℕ Refusal → Type 0 where
   over : most_bytes < length t → Screened t (Err (refuse TextTooLong 0))

@@ -17,12 +17,12 @@ use definition::{Answer, Refusal, Rule};
 // How long the flat file's last line is: `E` and byte 10.
 const LAST_LINE: usize = 2;
 
-// The lines of the shapes, and at their end the last one.
+// The lines of the shapes, and at their end the last one. How the drawing ends is known by then: it ended so on the scrap.
 fn write_file(text: &[u8], words: &mut [i32], drawing: &mut [usize], room: &mut [u8], end: usize)
     requires { Passed text.now × (length drawing.old ≡ run_length) × (end ≤ 2 ^ 60) }
     ensures { (p : Passed text.now) → room.new ≡ sets (sets room.old 0 (held_lines (length words.old) p)) end (69 ∷ 10 ∷ []) }
 {
-    passing::draw(text, words, drawing, room);
+    let _ = passing::draw(text, words, drawing, room);
     pen::put_end(room, end);
 }
 

@@ -1,6 +1,7 @@
 -- What the code keeps of a command as it goes along comes to what the account says of the whole command: `runs-first`. The refusals of a command
 -- form a chain in which the lowest number wins, and of one number the first, so the code needs only the lowest so far.
 -- Assumes nothing.
+use Rattle.std.specs.Prelude.{Err, Ok, Result}
 use mathlib.Core.Path.{◌≡◌, refl, sym, ap, ◌∙◌}
 use mathlib.Core.Bool.{Bool, true, false, ◌&&◌}
 use mathlib.Core.List.{List, [], ◌∷◌}
@@ -12,6 +13,7 @@ use lib.Dec.{ltb, eqb}
 use lib.ListN.{length}
 use Rattle.grammar.specs.Steps.{choose}
 use Rattle.definition.specs.Limits.{largest}
+use Rattle.definition.specs.declared.Refusal.{Refusal}
 use Rattle.pieces.specs.declared.Piece.{Piece}
 use Rattle.pieces.specs.declared.Piece.TheVariants.{First, Second, Number, Word, Stop}
 use Rattle.rules.specs.Letters.{no_refusal, byte_unit, first_unit}
@@ -21,8 +23,6 @@ use Rattle.checking.specs.Account.{layer_of, refusal, Blame, blame, when, of_num
 use Rattle.checking.specs.Along.{lower, blamed, kept, fresh, begun, idle, counted, worded, after_doing, finished, onward, runs}
 use Rattle.checking.specs.declared.Scope.{Scope}
 use Rattle.checking.specs.declared.Doing.{Doing}
-use Rattle.std.specs.Prelude.{Err, Ok, Result}
-use Rattle.definition.specs.declared.Refusal.{Refusal}
 
 -- the sooner of two
 module _ (x y z : Blame) where

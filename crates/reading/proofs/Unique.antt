@@ -1,13 +1,13 @@
 -- Two answers that the contract of `refusal` allows are one: it settles refusals 2 to 9 of any bytes. So are two that the contract of `check_by` allows.
 -- Assumes nothing.
+use Rattle.std.specs.Prelude.{Err, Ok, Result}
 use mathlib.Core.Path.{◌≡◌, sym, ◌∙◌, subst}
 use mathlib.Core.List.{List}
 use Prim.Native.Nat.{ℕ}
 use Rattle.grammar.specs.Viable.{Judged}
 use Rattle.grammar.proofs.Unique.{one_verdict}
-use Rattle.reading.specs.Refusal.{Checked, by_verdict, Refuses}
-use Rattle.std.specs.Prelude.{Err, Ok, Result}
 use Rattle.definition.specs.declared.Refusal.{Refusal}
+use Rattle.reading.specs.Refusal.{Checked, by_verdict, Refuses}
 
 pub one_fault : (t : List ℕ) (r s : Result ℕ Refusal) → Checked t r → Checked t s → r ≡ s
 one_fault t r s h k = h.along ∙ sym k.along

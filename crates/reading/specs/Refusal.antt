@@ -1,7 +1,7 @@
 -- What `check_by` and `refusal` promise: refusals 3 to 9 of a text in the grammar are the definition's, and 2 is the recogniser's verdict. These contracts
 -- cite the definition; the account is named only for texts that are not in the grammar, on which the definition says nothing of 3 to 9.
 -- Assumes nothing.
-use Rattle.std.specs.Prelude.{◌≡◌, List, ℕ}
+use Rattle.std.specs.Prelude.{◌≡◌, List, ℕ, Err, Ok, Result}
 use Rattle.std.proofs.Math.Option.{Option, none, some}
 use Rattle.grammar.specs.Notation.{Letter}
 use Rattle.grammar.specs.Viable.{Marked, Judged}
@@ -13,7 +13,6 @@ use Rattle.definition.specs.Commands.{commands}
 use Rattle.definition.specs.Faults.{first_fault}
 use Rattle.definition.specs.Rounded.{rounded}
 use Rattle.checking.specs.Account.{fault_of}
-use Rattle.std.specs.Prelude.{Err, Ok, Result}
 
 -- the definition's first of refusals 3 to 9, or else its rounded distances, as the code says it
 abbrev pub fault_said : Option Refusal → (rounded : ℕ) → Result ℕ Refusal

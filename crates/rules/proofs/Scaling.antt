@@ -34,8 +34,8 @@ module _ (x b : ℕ) (h : 1 ≤ b) where
   nearest_by q k = one_near h k (near x b h)
 
   -- nothing left; less left than missing; and not less
-  pub scaled-whole : x - x / b * b ≡ 0 → scaled_to (x / b) 0 ≡ scaled_to (nearest x b) (one (not (eqb (x % b) 0)))
-  scaled-whole e =
+  pub scaled_evenly : x - x / b * b ≡ 0 → scaled_to (x / b) 0 ≡ scaled_to (nearest x b) (one (not (eqb (x % b) 0)))
+  scaled_evenly e =
       let r : x % b ≡ 0 = sym (rest_is x b) ∙ e in
       let l = low in
       ap₂ {C = AtScale} (λ (v k : ℕ). scaled_to v k) (nearest_by (x / b) (record { low = omega arith; high = omega arith }))

@@ -5,12 +5,12 @@
 use Rattle.std.specs.Prelude.{Bool, not, ◌&&◌, ◌||◌, ℕ, ◌-◌, ◌*◌, ◌/◌, ◌%◌, ltb, eqb, if◌then◌else◌}
 use Rattle.definition.specs.Limits.{largest, most_points, most_turns}
 use Rattle.definition.specs.Standing.{nearest}
+use Rattle.definition.specs.declared.Rule.{Rule}
+use Rattle.definition.specs.declared.Rule.TheVariants.{NumberTooLarge, ZeroFactor, ScaledTooLarge, DegenerateCommand, NoLayer, TooManyParts}
 use Rattle.pieces.specs.Pieces.{letter_s}
 use Rattle.rules.specs.declared.AtScale.{AtScale}
 use Rattle.rules.specs.Written.{one}
 use Rattle.rules.specs.Letters.{letter_b, letter_c, letter_d, letter_p, letter_r, letter_t, letter_w, least_points, no_refusal}
-use Rattle.definition.specs.declared.Rule.{Rule}
-use Rattle.definition.specs.declared.Rule.TheVariants.{NumberTooLarge, ZeroFactor, ScaledTooLarge, DegenerateCommand, NoLayer, TooManyParts}
 
 -- a command with the first letter l is a shape
 unfoldable pub shapely : ℕ → Bool

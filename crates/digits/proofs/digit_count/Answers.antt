@@ -3,7 +3,7 @@
 use mathlib.Core.Path.{sym}
 use native.Mathlib.Omega.{arith}
 use Rattle.digits.specs.Tens.{tens}
-use Rattle.digits.proofs.Digits.{counts_one, counts-more, counts_between, digits-64}
+use Rattle.digits.proofs.Digits.{counts_one, counts_between, counts_power}
 use Rattle.digits.proofs.digit_count.Goals as goal
 
 pub returns-then-n-le9 : goal.returns-then-n-le9
@@ -37,17 +37,5 @@ pub returns-then-n-le99999999 : goal.returns-then-n-le99999999
 unfolding tens
 returns-then-n-le99999999 c = sym (counts_between 7 _ (omega arith) (omega arith))
 
-pub loop-high-init : goal.loop-high-init
-loop-high-init c = omega arith
-
-pub overflow_add-count : goal.overflow_add-count
-overflow_add-count c = omega (arith, digits-64 c.args.n (omega arith))
-
-pub loop-high-smaller : goal.loop-high-smaller
-loop-high-smaller c = omega arith
-
-pub loop-high-preserved : goal.loop-high-preserved
-loop-high-preserved c = omega (arith, counts-more c.loop-high.high (omega arith))
-
 pub returns : goal.returns
-returns c = omega (arith, counts_one c.loop-high.high (omega arith))
+returns c = sym (counts_power c.ilog10.result c.args.n c.ilog10.ensures.power_le c.ilog10.ensures.next_power_gt)

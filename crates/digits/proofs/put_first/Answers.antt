@@ -5,7 +5,7 @@ use Rattle.digits.proofs.Digits.{below_wide, all_wide}
 use Rattle.digits.proofs.put_first.Goals as goal
 
 pub put_short-requires : goal.put_short-requires
-put_short-requires c = (c.width_of-width.ensures.raises, below_wide c.width_of-width.ensures, omega arith)
+put_short-requires c = (c.width_of.ensures.raises, below_wide c.width_of.ensures, omega arith)
 
 pub returns : goal.returns
-returns c = same_bytes (all_wide c.width_of-width.ensures) c.put_short.ensures
+returns c = same_bytes (all_wide c.width_of.ensures) c.put_short.ensures

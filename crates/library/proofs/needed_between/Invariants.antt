@@ -1,11 +1,7 @@
 -- `needed_between` meets its contract: what is counted so far is what the rows passed need (proofs/Forgetting.antt).
-use mathlib.Core.Path.{◌≡◌}
-use Prim.Native.Nat.{◌+◌, ◌-◌, ◌≤◌}
+use Rattle.std.proofs.Common.{◌≡◌, ◌+◌}
 use Rattle.library.specs.Memory.{needed_in}
 use Rattle.library.proofs.needed_between.Given as goal
 
 abbrev pub invariant-loop-i : goal.invariant-loop-i
-invariant-loop-i l = (l.i ≤ l.live) × (needed_in l.rows l.left + l.sum ≡ needed_in l.rows l.i)
-
-abbrev pub decreases-loop-i : goal.decreases-loop-i
-decreases-loop-i l = l.live - l.i
+invariant-loop-i l = needed_in l.rows l.left + l.sum ≡ needed_in l.rows l.i

@@ -1,6 +1,5 @@
 -- `listing::put_places` meets its contract: some places are written, and the others are left.
 use mathlib.Core.Path.{ap, ◌∙◌}
-use mathlib.Core.List.{◌∷◌}
 use native.Mathlib.Omega.{arith}
 use lib.ListN.{take}
 use Rattle.std.proofs.lemmas.List.{take_min}

@@ -1,4 +1,4 @@
--- `pen::measure_numbers` meets its contract, by the invariant of `put_numbers` in a room of no bytes.
+-- `pen::measure_numbers` meets its contract, by the invariant of `write_numbers` in a room of no bytes.
 use native.Mathlib.Omega.{arith}
 use lib.Dec.{eqb}
 use lib.IntN.{pos}
@@ -11,20 +11,8 @@ use Rattle.pen.proofs.measure_numbers.Goals as goal
 pub loop-i-init : goal.loop-i-init
 loop-i-init c = first-along _ _ _
 
-pub offset_bounds-numbers-i : goal.offset_bounds-numbers-i
-offset_bounds-numbers-i c = omega arith
-
-pub bounds-numbers-i : goal.bounds-numbers-i
-bounds-numbers-i c = omega arith
-
 pub overflow_add-at : goal.overflow_add-at
 overflow_add-at c = let z = lent (get_or c.args.numbers.now c.loop-i.i (pos 0)) (omega arith) in let e = rw z.0 at c.number_length-at.ensures in let l = number-64 (eqb c.loop-i.i 0) (get_or c.args.numbers.now c.loop-i.i (pos 0)) z.1 in omega (arith, e, l, c.loop-i.invariant.short)
-
-pub overflow_add-i : goal.overflow_add-i
-overflow_add-i c = omega arith
-
-pub loop-i-smaller : goal.loop-i-smaller
-loop-i-smaller c = omega arith
 
 pub loop-i-preserved : goal.loop-i-preserved
 loop-i-preserved c = let z = lent (get_or c.args.numbers.now c.loop-i.i (pos 0)) (omega arith) in next-along c.loop-i.invariant (omega arith) z.1 (only_counted (omega arith) (let e = rw z.0 at c.number_length-at.ensures in omega (arith, e)))

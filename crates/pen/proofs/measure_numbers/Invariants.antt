@@ -1,12 +1,7 @@
--- `pen::measure_numbers` meets its contract, by the invariant of `put_numbers` in a room of no bytes.
+-- `pen::measure_numbers` meets its contract, by the invariant of `write_numbers` in a room of no bytes.
 use mathlib.Core.List.{[]}
-use Prim.Native.Nat.{◌-◌}
-use lib.ListN.{length}
 use Rattle.pen.proofs.Numbers.{Along}
 use Rattle.pen.proofs.measure_numbers.Given as goal
 
 abbrev pub invariant-loop-i : goal.invariant-loop-i
 invariant-loop-i l = Along [] [] l.start l.at l.numbers l.i
-
-abbrev pub decreases-loop-i : goal.decreases-loop-i
-decreases-loop-i l = length l.numbers - l.i

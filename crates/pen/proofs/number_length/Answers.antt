@@ -5,11 +5,5 @@ use Rattle.digits.proofs.Signs.{lent}
 use Rattle.digits.proofs.Digits.{decimal-64}
 use Rattle.pen.proofs.number_length.Goals as goal
 
-pub returns-then-first : goal.returns-then-first
-returns-then-first c = rw c.if-first.true (rw (to_z-of_z c.ranges.z) at c.decimal_length-own.ensures)
-
 pub overflow_add-result : goal.overflow_add-result
 overflow_add-result c = let e = rw (to_z-of_z c.ranges.z) at c.decimal_length-own.ensures in let l = decimal-64 c.args.z (lent c.args.z c.ranges.z.sfits).1 in omega (arith, e, l)
-
-pub returns : goal.returns
-returns c = rw c.if-first.false (let e = rw (to_z-of_z c.ranges.z) at c.decimal_length-own.ensures in omega (arith, e))

@@ -6,5 +6,5 @@ use Rattle.definition.specs.Flat.{spaced}
 use Rattle.digits.proofs.Writing.{only_counted}
 use Rattle.pen.proofs.put_line.Goals as goal
 
-pub returns-then-room-at : goal.returns-then-room-at
-returns-then-room-at c = record { writes = only_counted c.if-room-at.true (omega (arith, c.measure_numbers.ensures.0, length-append (spaced c.args.numbers.now) (59 ∷ 10 ∷ []))); upper_bound = omega (arith, c.measure_numbers.ensures.1) }
+pub returns-then-room-at-clause-writes : goal.returns-then-room-at-clause-writes
+returns-then-room-at-clause-writes c = only_counted c.if-room-at.true (omega (arith, c.measure_numbers.ensures.0, length-append (spaced c.args.numbers.now) (59 ∷ 10 ∷ [])))

@@ -6,17 +6,8 @@ use Rattle.digits.proofs.Writing.{begun, goes_on, over, reaches}
 use Rattle.pen.proofs.Names.{name-bytes, name-length, no_name}
 use Rattle.pen.proofs.put_name.Goals as goal
 
-pub loop-rest-init : goal.loop-rest-init
-loop-rest-init c = (begun _ _ _, omega arith)
-
-pub overflow_cast-rest : goal.overflow_cast-rest
-overflow_cast-rest c = omega arith
-
 pub put-at-requires : goal.put-at-requires
 put-at-requires c = omega (arith, reaches c.loop-rest.invariant.0, name-length c.args.name)
-
-pub overflow_mul-rest : goal.overflow_mul-rest
-overflow_mul-rest c = omega arith
 
 pub loop-rest-smaller : goal.loop-rest-smaller
 loop-rest-smaller c = let e = ap length (name-bytes c.loop-rest.rest c.loop-rest-test.true) in omega (arith, e)

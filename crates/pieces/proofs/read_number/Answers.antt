@@ -21,8 +21,8 @@ returns-else-is_digit c =
       value = numeral_other _ _ _ _ _ _ d c.loop-i-test.true (sym c.is_digit.ensures ∙ c.if-is_digit.false);
     }
 
-pub returns : goal.returns
-returns c =
+pub returns-after-loop-i : goal.returns-after-loop-i
+returns-after-loop-i c =
     let d = subst (λ (u : ℕ). Digits c.args.text.now c.args.first.to.state c.args.first.to.at u c.loop-i.i c.loop-i.v) c.digit-v.ensures.0 c.loop-i.invariant in
     record {
       step = λ s l. digits-ended l d c.loop-i-test.false;

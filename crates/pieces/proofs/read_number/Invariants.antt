@@ -5,7 +5,7 @@ use Rattle.pieces.proofs.Digits.{Digits}
 use Rattle.pieces.proofs.read_number.Given as goal
 
 abbrev pub invariant-loop-i : goal.invariant-loop-i
-invariant-loop-i l = Digits l.text l.q l.initial.i l.initial.v l.i l.v
+invariant-loop-i l = Digits l.text l.first.to.state l.initial.i l.initial.v l.i l.v
 
 abbrev pub decreases-loop-i : goal.decreases-loop-i
 decreases-loop-i l = length l.text - l.i

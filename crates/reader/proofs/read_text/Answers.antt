@@ -3,7 +3,7 @@ use Rattle.reader.proofs.Promises.{fault-told, passes}
 use Rattle.reader.proofs.read_text.Goals as goal
 
 pub flatten_passed-requires : goal.flatten_passed-requires
-flatten_passed-requires c = passes c.first_fault.ensures c.in-Clear.is
+flatten_passed-requires c = passes c.first_fault.ensures c.in-Ok.is
 
-pub returns-in-Refused : goal.returns-in-Refused
-returns-in-Refused c = fault-told c.first_fault.ensures c.in-Refused.is c.refused_outside.ensures
+pub returns-in-Err : goal.returns-in-Err
+returns-in-Err c = fault-told c.first_fault.ensures c.in-Err.is c.refused_outside.ensures
