@@ -1,6 +1,6 @@
 -- To draw a call or a shape redefines nothing, held to records or not; and what is alike stays so when it is held to them.
 -- Assumes nothing.
-use Rattle.std.specs.Prelude.{if◌then◌else◌}
+use Rattle.std.specs.Prelude.{if◌then◌else◌, Ok}
 use mathlib.Core.Path.{◌≡◌, refl, ap, subst}
 use mathlib.Core.Bool.{Bool, true, false}
 use mathlib.Core.List.{List, [], ◌∷◌, map}
@@ -21,7 +21,6 @@ use Rattle.laws.proofs.Story.Lean.{Alike, no_more, same, same-call}
 use Rattle.counts.specs.Counting.{tally}
 use Rattle.shapes.specs.declared.Ink.{Ink}
 use Rattle.shapes.specs.Painting.{Goes, Answered, Painted}
-use Rattle.std.specs.Prelude.{Ok}
 
 module _ (n : ℕ) where
   -- what is alike but for the definitions that calls name is refused alike

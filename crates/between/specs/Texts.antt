@@ -1,7 +1,7 @@
 -- What a stretch of a text draws: what is left of its story where it stands between two commands, held to the words and to the records lent, or as much of it as
 -- comes before the body of a call. A running account, not to be believed: the story is crates/definition's, and where a pass stands is crate passing's.
 -- Assumes nothing.
-use Rattle.std.specs.Prelude.{◌≡◌, List, [], map, ℕ, ◌≤◌, ◌<◌, ℤ, length}
+use Rattle.std.specs.Prelude.{◌≡◌, List, [], map, ℕ, ◌≤◌, ◌<◌, ℤ, length, Err, Ok, Result}
 use Rattle.definition.specs.Limits.{most_bytes}
 use Rattle.definition.specs.Words.{at}
 use Rattle.definition.specs.Table.{Step, Table}
@@ -25,7 +25,6 @@ use Rattle.opening.specs.declared.Call.{Call}
 use Rattle.stretch.specs.Bodies.{Led}
 use Rattle.stretch.specs.Bodies.{Opens as OpensCall}
 use Rattle.between.specs.declared.Stand.{Stand}
-use Rattle.std.specs.Prelude.{Err, Ok, Result}
 use Rattle.between.specs.declared.Text.{Text}
 use Rattle.between.specs.declared.Outer.{Outer}
 use Rattle.between.specs.declared.Text.TheVariants.{Over, Calls}

@@ -62,7 +62,7 @@ pub fn count_redefinition(counts: Counts) -> Counts
     }
 }
 
-// All counts at zero, for a refusal, whatever has been counted.
+// All counts at zero, for a refusal, whatever has been counted. Beside `no_counts` since its callers know it by this name.
 pub fn cleared(counts: Counts) -> Counts
     ensures { result ≡ zero_counts }
 {

@@ -8,6 +8,7 @@ use Prim.Native.Nat.{ℕ, suc, ◌+◌, ◌-◌, ◌≤◌, ◌<◌}
 use native.Mathlib.Omega.{arith}
 use lib.IntN.{ℤ, pos, nat_abs}
 use lib.ListN.{length, get_or}
+use Rattle.std.specs.Prelude.{not, Option, Some, None, is_some}
 use Rattle.definition.specs.Words.{Placed, those, first, none?}
 use Rattle.definition.specs.Table.{Step, shape, instance, setting, Definition, Table, find}
 use Rattle.definition.specs.Warnings.{dangles, dangling_calls, dangling_at}
@@ -20,16 +21,15 @@ use Rattle.engine.specs.declared.Head.{Head}
 use Rattle.engine.specs.Heads.{head_in}
 use Rattle.engine.proofs.Taking.{Met, meets, two_words, values-call, call_is}
 use Rattle.engine.proofs.Underway.{none_left}
-use Rattle.dangling.specs.Searched.{Misses, warning_by, Searched}
-use Rattle.std.specs.Prelude.{None, Option, Some}
+use Rattle.dangling.specs.Searched.{Misses, Searched}
 
 -- ---- whether a number is live
 
-pub lives : (rows : List ℕ) (live n : ℕ) {r : Option ℕ} {i : ℕ} → Finds rows live n r → r ≡ Some i → Misses rows live n false
-lives rows live n {r} {i} h e b = sym (ap none? (found rows b n live r i h e).1)
-
-pub missing : (rows : List ℕ) (live n : ℕ) {r : Option ℕ} → Finds rows live n r → r ≡ None → Misses rows live n true
-missing rows live n {r} h e b = sym (ap none? (not_found rows b n live r h e))
+pub misses_by : (rows : List ℕ) (live n : ℕ) (r : Option ℕ) → Finds rows live n r → (x : Bool) → is_some r ≡ not x → Misses rows live n x
+misses_by rows live n (Some i) h false e b = sym (ap none? (found rows b n live (Some i) i h refl).1)
+misses_by rows live n (Some i) h true e b = cc
+misses_by rows live n None h false e b = cc
+misses_by rows live n None h true e b = sym (ap none? (not_found rows b n live None h refl))
 
 -- ---- the dangling calls of a body, and of definitions
 
@@ -79,15 +79,12 @@ module _ (rows : List ℕ) (b : List ℤ) (live : ℕ) where
 
 -- ---- between two definitions
 
-pub record Between (rows : List ℕ) (b : List ℤ) (live : ℕ) (r : Option ℕ) (i : ℕ) : Type 0 where
-  pub none_yet : r ≡ None
-  pub within : i ≤ live
+pub record Between (rows : List ℕ) (b : List ℤ) (live i : ℕ) : Type 0 where
   pub left : dangling_calls (table rows b live) ≡ from rows b live i
 
 -- ---- between two commands of row i, whose words end here
 
-pub record Within (rows : List ℕ) (b : List ℤ) (live : ℕ) (r : Option ℕ) (i end at : ℕ) : Type 0 where
-  pub none_yet : r ≡ None
+pub record Within (rows : List ℕ) (b : List ℤ) (live i end at : ℕ) : Type 0 where
   pub low : at ≤ end
   pub layer : List ℕ
   pub steps : List (Placed Step)
@@ -95,15 +92,15 @@ pub record Within (rows : List ℕ) (b : List ℤ) (live : ℕ) (r : Option ℕ)
   pub words : words_at b at (end - at) ≡ all_words steps
   pub left : dangling_calls (table rows b live) ≡ dangling_in (table rows b live) steps ++ from rows b live (i + 1)
 
-pub begin : (rows : List ℕ) (b : List ℤ) (live : ℕ) → Between rows b live None 0
+pub begin : (rows : List ℕ) (b : List ℤ) (live : ℕ) → Between rows b live 0
 unfolding dangling_calls
-begin rows b live = let e : live ≡ live - 0 = omega arith in record { none_yet = refl; within = omega arith; left = ap (λ (n : ℕ). dangling_of (table rows b live) (table_from rows b 0 n)) e }
+begin rows b live = let e : live ≡ live - 0 = omega arith in record { left = ap (λ (n : ℕ). dangling_of (table rows b live) (table_from rows b 0 n)) e }
 
 first_none : dangling_at (first []) ≡ []
 unfolding dangling_at first
 first_none = refl
 
-module _ {rows : List ℕ} {b : List ℤ} {live : ℕ} {r : Option ℕ} {i : ℕ} (g : Between rows b live r i) where
+module _ {rows : List ℕ} {b : List ℤ} {live i : ℕ} (g : Between rows b live i) where
   next_row : i < live → table_from rows b i (live - i) ≡ definition_at rows b i ∷ table_from rows b (i + 1) (live - (i + 1))
   unfolding table_from
   next_row h = let e : live - i ≡ suc (live - (i + 1)) = omega arith in ap (table_from rows b i) e
@@ -112,13 +109,12 @@ module _ {rows : List ℕ} {b : List ℤ} {live : ℕ} {r : Option ℕ} {i : ℕ
     pub row_fits : s + n ≤ length b
     row_fits = omega (arith, p, q, k.within i h)
 
-    pub enters : Within rows b live r i (s + n) s
+    pub enters : Within rows b live i (s + n) s
     enters =
         let row = k.sound i h in
         let e : s + n - s ≡ n = omega arith in
         let t = table rows b live in
         record {
-          none_yet = g.none_yet;
           low = omega arith;
           layer = [];
           steps = row.steps;
@@ -131,19 +127,19 @@ module _ {rows : List ℕ} {b : List ℤ} {live : ℕ} {r : Option ℕ} {i : ℕ
         }
 
   -- no definition is left
-  pub searched_all : live ≤ i → Searched rows b live r
+  pub searched_all : live ≤ i → Searched rows b live None
   unfolding table_from
   searched_all h =
       let e : live - i ≡ 0 = omega arith in
       let t = table rows b live in
       let q : dangling_calls t ≡ [] = g.left ∙ (ap (λ (n : ℕ). dangling_of t (table_from rows b i n)) e ∙ none_of t) in
-      ap (λ (d : Option ℕ). warning_by d) g.none_yet ∙ (sym first_none ∙ ap (λ (x : List (Placed Step)). dangling_at (first x)) (sym q))
+      sym first_none ∙ ap (λ (x : List (Placed Step)). dangling_at (first x)) (sym q)
 
 first_word : (b : List ℤ) (i n : ℕ) (x : ℤ) (xs : List ℤ) → words_at b i (suc n) ≡ x ∷ xs → get_or b i (pos 0) ≡ x
 unfolding words_at
 first_word b i n x xs e = cc
 
-module _ {rows : List ℕ} {b : List ℤ} {live : ℕ} {r : Option ℕ} {i end at : ℕ} (g : Within rows b live r i end at) where
+module _ {rows : List ℕ} {b : List ℤ} {live i end at : ℕ} (g : Within rows b live i end at) where
   abbrev t : Table
   t = table rows b live
 
@@ -154,13 +150,11 @@ module _ {rows : List ℕ} {b : List ℤ} {live : ℕ} {r : Option ℕ} {i end a
   met {h} l e = meets b at end g.layer g.steps h l g.proper g.words e
 
   -- no command is left
-  pub leaves : end ≤ at → i < live → Between rows b live r (i + 1)
-  leaves h l =
+  pub leaves : end ≤ at → Between rows b live (i + 1)
+  leaves h =
       let n : end - at ≡ 0 = omega arith in
       let e : g.steps ≡ [] = none_left g.steps (sym g.words ∙ (ap (words_at b at) n ∙ no_words b at)) in
       record {
-        none_yet = g.none_yet;
-        within = omega arith;
         left = g.left ∙ (ap (λ (ss : List (Placed Step)). dangling_in t ss ++ from rows b live (i + 1)) e ∙ ap (λ (ss : List (Placed Step)). ss ++ from rows b live (i + 1)) (none_in t));
       }
     where
@@ -169,9 +163,8 @@ module _ {rows : List ℕ} {b : List ℤ} {live : ℕ} {r : Option ℕ} {i end a
 
   module _ {h : Head} (m : Met b end g.steps g.layer at h) where
     -- a command that does not dangle is passed
-    passes : dangles t m.step.what ≡ false → Within rows b live r i end h.next
+    passes : dangles t m.step.what ≡ false → Within rows b live i end h.next
     passes e = record {
-      none_yet = g.none_yet;
       low = m.within;
       layer = _;
       steps = m.rest;
@@ -181,7 +174,7 @@ module _ {rows : List ℕ} {b : List ℤ} {live : ℕ} {r : Option ℕ} {i end a
           g.left ∙ ap (λ (ss : List (Placed Step)). ss ++ from rows b live (i + 1)) (ap (dangling_in t) m.are ∙ goes_by t m.step m.rest e);
     }
 
-    pub passes_other : (h.kind ≡ call_letter → ⊥) → Within rows b live r i end h.next
+    pub passes_other : (h.kind ≡ call_letter → ⊥) → Within rows b live i end h.next
     passes_other e = passes (no_call t m.step.what (λ z. e (m.kind ∙ z)))
 
     module _ (e : h.kind ≡ call_letter) (fits : end ≤ length b) where
@@ -200,7 +193,7 @@ module _ {rows : List ℕ} {b : List ℤ} {live : ℕ} {r : Option ℕ} {i end a
       dangles_by {n} {x} q f =
           a_call t (call_is m fits e).2 ∙ (ap (λ (k : ℕ). none? (find k t)) (sym (q ∙ ap nat_abs symbol_is)) ∙ sym (f b))
 
-      pub passes-call : {n : ℕ} {x : Bool} → n ≡ nat_abs (get_or b (at + 2) (pos 0)) → Misses rows live n x → x ≡ false → Within rows b live r i end h.next
+      pub passes-call : {n : ℕ} {x : Bool} → n ≡ nat_abs (get_or b (at + 2) (pos 0)) → Misses rows live n x → x ≡ false → Within rows b live i end h.next
       passes-call q f z = passes (dangles_by q f ∙ z)
 
       pub found_call : {n : ℕ} {x : Bool} → n ≡ nat_abs (get_or b (at + 2) (pos 0)) → Misses rows live n x → x ≡ true → Searched rows b live (Some h.place)

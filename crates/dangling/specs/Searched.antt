@@ -1,11 +1,10 @@
 -- What the search answers, in the definition's words: the warning that is due after a DD. The table is the one that the memory holds.
 -- Assumes nothing.
-use Rattle.std.specs.Prelude.{◌≡◌, Bool, List, [], ◌∷◌, ℕ, ℤ}
+use Rattle.std.specs.Prelude.{◌≡◌, Bool, List, [], ◌∷◌, ℕ, Option, Some, None, ℤ}
 use Rattle.definition.specs.Words.{first, none?}
 use Rattle.definition.specs.Table.{find}
 use Rattle.definition.specs.Warnings.{Warning, dangling, dangling_calls, dangling_at}
 use Rattle.library.specs.Memory.{table_of}
-use Rattle.std.specs.Prelude.{None, Option, Some}
 
 -- a number is not live, whatever the bodies are
 abbrev pub Misses : (rows : List ℕ) (live symbol : ℕ) → Bool → Type 0

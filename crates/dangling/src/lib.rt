@@ -16,7 +16,7 @@ fn misses(rows: &[usize; library::ROW_NUMBERS], live: usize, symbol: usize) -> b
     library::find(rows, live, symbol).is_none()
 }
 
-// The place of the first call that finds nothing, if there is one. The search is left at the first call that finds nothing, from within both of its loops.
+// The place of the first call that finds nothing, if there is one.
 pub fn first_dangling(
     bodies: &[i32],
     rows: &[usize; library::ROW_NUMBERS],
@@ -25,22 +25,18 @@ pub fn first_dangling(
     requires { Sorted rows.now live × Stocked rows.now bodies.now live × (length bodies.now ≤ most_words) }
     ensures { Searched rows.now bodies.now live result }
 {
-    let mut found = None;
-    let mut i: usize = 0;
-    'definitions: while i < live {
+    for i in 0..live {
         let mut at = library::start_at(rows, i);
         let end = at + library::length_at(rows, i);
         while at < end {
             let head = engine::head_at(bodies, at);
             if head.kind == b'C' {
                 if misses(rows, live, shapes::size_at(bodies, at + 2)) {
-                    found = Some(head.place);
-                    break 'definitions;
+                    return Some(head.place);
                 }
             }
             at = head.next;
         }
-        i += 1;
     }
-    found
+    None
 }

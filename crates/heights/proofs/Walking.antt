@@ -31,11 +31,11 @@ layers_in : Result Standing Rule → ℕ
 layers_in (Err r) = 0
 layers_in (Ok x) = x.layers
 
-same_height : {h s k u : ℕ} → standing h s ≡ standing k u → h ≡ k
+pub same_height : {h s k u : ℕ} → standing h s ≡ standing k u → h ≡ k
 unfolding height_in
 same_height e = ap height_in e
 
-same_layers : {h s k u : ℕ} → standing h s ≡ standing k u → s ≡ u
+pub same_layers : {h s k u : ℕ} → standing h s ≡ standing k u → s ≡ u
 unfolding layers_in
 same_layers e = ap layers_in e
 

@@ -7,6 +7,7 @@ use native.Mathlib.Omega.{arith}
 use lib.IntN.{ℤ, pos}
 use lib.ListN.{length, take, drop, get_or, set, length-set, length-append, length-drop, get_or-append}
 use lib.Seq.{ext_get_or, get_or-set_same, get_or-set_other, length-take-le, get_or-take, get_or-drop, get_or-append-add}
+use Rattle.std.specs.Prelude.{Option, Some, None}
 use Rattle.library.specs.Memory.{start_at, length_at, most}
 use Rattle.library.specs.Moving.{Laid, Moved, Tagged, Owns, Settled, Compacted}
 use Rattle.library.proofs.Packing.{Lowest, Packing, pack_start, packed, pack_by}
@@ -77,7 +78,7 @@ module _ {rows : List ℕ} {b : List ℤ} {live : ℕ} {rows' : List ℕ} {b' fi
 
   -- ---- a word of a hole
 
-  module _ {r : ℕ} (o : Owns rows' b' live at r) (e : r ≡ live) (room : at < length b') where
+  module _ {r : Option ℕ} (o : Owns rows' b' live at r) (e : r ≡ None) (room : at < length b') where
     nobody : (i : ℕ) → i < live → 0 < length_at rows' i → start_at rows' i ≡ at → ⊥
     nobody i l y z = o.none e i l (subst (λ (x : ℕ). get_or b' x (pos 0) ≡ pos i) z (w.tagged.tags i l y (omega arith))) y z
 
@@ -102,9 +103,9 @@ module _ {rows : List ℕ} {b : List ℤ} {live : ℕ} {rows' : List ℕ} {b' fi
 
   -- ---- a body
 
-  module _ {i : ℕ} (o : Owns rows' b' live at i) (e : i ≡ live → ⊥) where
+  module _ {r : Option ℕ} {i : ℕ} (o : Owns rows' b' live at r) (e : r ≡ Some i) where
     here : (i < live) × (0 < length_at rows' i) × (start_at rows' i ≡ at)
-    here = o.some e
+    here = o.some i e
 
     -- what settling it asks for
     pub at_a_body : (i < most) × (to ≤ at) × (0 < length_at rows' i) × (at + length_at rows' i ≤ length b')
@@ -112,7 +113,7 @@ module _ {rows : List ℕ} {b : List ℤ} {live : ℕ} {rows' : List ℕ} {b' fi
 
     lowest : Lowest rows' live to live i
     lowest = record {
-      within = λ x. absurd (e x);
+      within = λ x. absurd (omega (arith, here.0));
       real = λ _. (here.0, here.1, omega (arith, here.2, w.behind));
       least = λ _ j l y z. let a = w.ahead j l y z in omega (arith, here.2);
     }
@@ -161,7 +162,7 @@ module _ {rows : List ℕ} {b : List ℤ} {live : ℕ} {rows' : List ℕ} {b' fi
       rows''' = set rows' (5 * i + 2) to
 
       onward : Packing rows b live rows''' mix.run (to + n)
-      onward = pack_by rows b live rows' w.clean to i at n p lowest e (sym here.2) s.words mix.run moved
+      onward = pack_by rows b live rows' w.clean to i at n p lowest (λ x. omega (arith, here.0)) (sym here.2) s.words mix.run moved
 
       start_other : (j : ℕ) → (j ≡ i → ⊥) → start_at rows''' j ≡ start_at rows' j
       start_other j g = get_or-set_other rows' (5 * i + 2) (5 * j + 2) to 0 (λ x. g (omega arith))

@@ -1,6 +1,6 @@
 -- How live bodies stand in the run, and what moving them together leaves. A running account, not to be believed.
 -- Assumes nothing.
-use Rattle.std.specs.Prelude.{◌≡◌, List, ℕ, ◌+◌, ◌*◌, ◌≤◌, ◌<◌, ltb, ℤ, pos, length, get_or, set, if◌then◌else◌}
+use Rattle.std.specs.Prelude.{◌≡◌, List, ℕ, Option, Some, None, ◌+◌, ◌*◌, ◌≤◌, ◌<◌, ltb, ℤ, pos, length, get_or, set, if◌then◌else◌}
 use Rattle.library.specs.Memory.{words_at, table_of, symbol_at, place_at, start_at, length_at, needed_at, sum_of, words_held, most, row_numbers}
 
 -- bodies that are not empty stand within the first words of the run, and none overlaps another
@@ -31,10 +31,10 @@ pub record Tagged (rows : List ℕ) (b : List ℤ) (seen at : ℕ) (b' firsts : 
   pub noted : (i : ℕ) → i < seen → 0 < length_at rows i → at ≤ start_at rows i → get_or firsts i (pos 0) ≡ get_or b (start_at rows i) (pos 0)
   pub others : (k : ℕ) → at ≤ k → ((i : ℕ) → i < seen → 0 < length_at rows i → start_at rows i ≡ k → ⊥) → get_or b' k (pos 0) ≡ get_or b k (pos 0)
 
--- the row whose body starts at a place; `live` where the word there is the number of no such row
-pub record Owns (rows : List ℕ) (b : List ℤ) (live at r : ℕ) : Type 0 where
-  pub none : r ≡ live → (i : ℕ) → i < live → get_or b at (pos 0) ≡ pos i → 0 < length_at rows i → start_at rows i ≡ at → ⊥
-  pub some : (r ≡ live → ⊥) → (r < live) × (0 < length_at rows r) × (start_at rows r ≡ at)
+-- the row whose body starts at a place; None where the word there is the number of no such row
+pub record Owns (rows : List ℕ) (b : List ℤ) (live at : ℕ) (r : Option ℕ) : Type 0 where
+  pub none : r ≡ None → (i : ℕ) → i < live → get_or b at (pos 0) ≡ pos i → 0 < length_at rows i → start_at rows i ≡ at → ⊥
+  pub some : (i : ℕ) → r ≡ Some i → (i < live) × (0 < length_at rows i) × (start_at rows i ≡ at)
 
 -- a body with its first word back stands at a lower place, and its row says so
 pub record Settled (rows : List ℕ) (b : List ℤ) (i at to : ℕ) (first : ℤ) (n : ℕ) (rows' : List ℕ) (b' : List ℤ) : Type 0 where

@@ -2,7 +2,7 @@
 // deleted bodies is used again: when the run is full, the live bodies are moved together.
 #![tactic(auto)]
 
-ghost use Rattle.std.specs.Prelude.{◌≡◌, ℕ, ◌+◌, ◌*◌, ◌<◌, ◌≤◌, ◌^◌, List, ℤ, pos, ltb, leb, eqb, length, get_or, set, replicate, ◌&&◌};
+ghost use Rattle.std.specs.Prelude.{◌≡◌, ℕ, ◌+◌, ◌*◌, ◌<◌, ◌≤◌, ◌^◌, List, ℤ, pos, length, get_or, set, replicate};
 ghost use Rattle.library.specs.Memory.{row_numbers, most, symbol_at, start_at, length_at, needed_at, needed_in};
 ghost use Rattle.library.specs.Rows.{Sorted, Nearest, Parted, Finds, Forgets, Shifted, with_row, Begins};
 ghost use Rattle.library.specs.Storing.{start_of, extended, layer_words, Relayered, Storable, Stores};
@@ -144,33 +144,14 @@ fn number_rows(rows: &[usize; ROW_NUMBERS], bodies: &mut [i32], firsts: &mut [i3
     }
 }
 
-// The number that a word is, if it is none below 0.
-fn number_in(word: i32) -> usize
-    ensures { (i : ℕ) → word ≡ pos i → result ≡ i }
-{
-    let z = word as i64;
-    if z < 0 {
-        return MOST;
-    }
-    z as usize
-}
-
-// The row whose body starts here, or `live`: the row that the word here names, if its body does start here. In a hole stand words of any value.
-fn owner(rows: &[usize; ROW_NUMBERS], bodies: &[i32], live: usize, at: usize) -> usize
+// The row whose body starts here: the row that the word here names, if its body does start here. In a hole stand words of any value; a word below 0, taken
+// without its sign, is more than any row's number.
+fn owner(rows: &[usize; ROW_NUMBERS], bodies: &[i32], live: usize, at: usize) -> Option<usize>
     requires { (live ≤ most) × (at < length bodies.now) }
     ensures { Owns rows.now bodies.now live at result }
 {
-    let i = number_in(bodies[at]);
-    if live <= i {
-        return live;
-    }
-    if length_at(rows, i) == 0 {
-        return live;
-    }
-    if start_at(rows, i) == at {
-        return i;
-    }
-    live
+    let i = bodies[at].cast_unsigned() as usize;
+    (i < live && 0 < length_at(rows, i) && start_at(rows, i) == at).then_some(i)
 }
 
 // A body gets its first word back and is moved down, and its row says so; how many words it has.
@@ -201,13 +182,15 @@ fn walk(rows: &mut [usize; ROW_NUMBERS], bodies: &mut [i32], live: usize, firsts
     let mut to: usize = 0;
     let mut at: usize = 0;
     while at < bodies.len() {
-        let i = owner(rows, bodies, live, at);
-        if i == live {
-            at += 1;
-        } else {
-            let n = settle(rows, bodies, i, at, to, firsts[i]);
-            to += n;
-            at += n;
+        match owner(rows, bodies, live, at) {
+            Some(i) => {
+                let n = settle(rows, bodies, i, at, to, firsts[i]);
+                to += n;
+                at += n;
+            }
+            None => {
+                at += 1;
+            }
         }
     }
     to

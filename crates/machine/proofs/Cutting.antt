@@ -1,6 +1,6 @@
 -- A part of the words and of the room is lent on: what is lent is what the contracts name, and what comes back stands in its place.
 -- Assumes nothing.
-use Rattle.std.specs.Prelude.{if◌then◌else◌}
+use Rattle.std.specs.Prelude.{if◌then◌else◌, Result}
 use mathlib.Core.Path.{◌≡◌, refl, sym, ap, ◌∙◌, subst}
 use mathlib.Core.Bool.{Bool, true, false}
 use mathlib.Core.List.{List, [], ◌∷◌, ◌++◌, append-nil}
@@ -24,7 +24,6 @@ use Rattle.between.specs.declared.Stand.{Stand}
 use Rattle.between.specs.Texts.{Paused, Pausing, TextBy, TextComes, TextGrows}
 use Rattle.machine.specs.declared.Course.{Course}
 use Rattle.machine.specs.States.{cut, seen_of, onto, Spares, open_in, StandsIn, Stretches, Passes}
-use Rattle.std.specs.Prelude.{Result}
 use Rattle.stretch.specs.declared.Body.{Body}
 use Rattle.definition.specs.declared.Refusal.{Refusal}
 use Rattle.between.specs.declared.Text.{Text}

@@ -1,7 +1,7 @@
 -- How a text comes out that is drawn with records lent: refused before it is drawn, stopped in its drawing, or finished, when the records made no difference, so that
 -- the reader's own laws tell it.
 -- Assumes nothing.
-use Rattle.std.specs.Prelude.{if◌then◌else◌}
+use Rattle.std.specs.Prelude.{if◌then◌else◌, Err, Ok, Result}
 use mathlib.Core.Path.{◌≡◌, refl, sym, ap, ◌∙◌, subst}
 use mathlib.Core.Bool.{Bool, true, false}
 use mathlib.Core.List.{List, [], ◌∷◌, map}
@@ -46,7 +46,6 @@ use Rattle.reader.specs.Screened.{Screened, over, within, Comes}
 use Rattle.reader.proofs.Promises.{over-told, written-told}
 use Rattle.turns.specs.declared.Net.{Net}
 use Rattle.machine.specs.Underway.{Host, lends, Settled, all_of, CameOut, refused_early, stopped_there, too_long_for, written_out}
-use Rattle.std.specs.Prelude.{Err, Ok, Result}
 
 -- ---- a finished drawing was refused nothing
 
@@ -86,7 +85,7 @@ never_clear : {k : ℕ} {why : Refusal} → Ok k ≡ Err why → ⊥
 never_clear e = let z : ◌≡◌ {A = ℕ} 0 1 = cc in omega arith
 
 abbrev outcome_by : Result ℕ Refusal → Outcome
-outcome_by (Ok k) = rejected (record { number = 0; place = 0 }) []
+outcome_by (Ok k) = rejected (refuse FlatFileTooLong 0) []
 outcome_by (Err why) = rejected why []
 
 judged-answers : {t : List ℕ} {w n room : ℕ} {why : Refusal} → length t ≤ most_bytes → (v : Result Unit ℕ) → Judged t v → by_verdict t v (Err why) → AnswersWith t w n room (rejected why [])

@@ -1,7 +1,7 @@
 -- The machine's records and states as they are made: what a record keeps of a body, and the state after each thing that can happen. A running account, not to be
 -- believed: what a state means stands in Underway.antt.
 -- Assumes nothing.
-use Rattle.std.specs.Prelude.{◌≡◌, Bool, true, false, List, [], ◌∷◌, ℕ, suc, ◌+◌, ◌-◌, ◌*◌, ◌/◌, ◌%◌, ◌^◌, ◌<◌, ◌≤◌, eqb, ℤ, pos, length, take, replicate, if◌then◌else◌}
+use Rattle.std.specs.Prelude.{◌≡◌, Bool, true, false, List, [], ◌∷◌, ℕ, suc, ◌+◌, ◌-◌, ◌*◌, ◌/◌, ◌%◌, ◌^◌, ◌<◌, ◌≤◌, eqb, ℤ, pos, length, take, replicate, if◌then◌else◌, Result}
 use Rattle.std.proofs.lemmas.List.Edits.{sets}
 use Rattle.definition.specs.declared.Answer.{Answer}
 use Rattle.definition.specs.declared.Refusal.{Refusal}
@@ -25,7 +25,6 @@ use Rattle.machine.specs.declared.Course.{Course}
 use Rattle.machine.specs.declared.Kind.{Kind}
 use Rattle.machine.specs.declared.Kind.TheVariants.{Clear, Push, Pop, Unwind}
 use Rattle.machine.specs.declared.State.{State}
-use Rattle.std.specs.Prelude.{Result}
 use Rattle.stretch.specs.declared.Body.{Body}
 use Rattle.between.specs.declared.Text.{Text}
 

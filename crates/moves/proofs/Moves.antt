@@ -2,24 +2,21 @@
 -- y is. A part of them is the definition's `numbers_of_shape` of the moved shape.
 -- Assumes nothing.
 use mathlib.Core.Path.{◌≡◌, refl, sym, ap, ◌∙◌, subst}
-use mathlib.Core.Bool.{Bool, true, false, ◌||◌}
+use mathlib.Core.Bool.{Bool, false, ◌||◌}
 use mathlib.Core.List.{List, [], ◌∷◌, ◌++◌, map, append_assoc, append-nil}
-use Prim.Native.Nat.{ℕ, suc, ◌+◌, ◌-◌, ◌*◌, ◌^◌, ◌≤◌, ◌<◌}
+use Prim.Native.Nat.{ℕ, suc, ◌+◌, ◌-◌, ◌*◌, ◌≤◌, ◌<◌}
 use native.Mathlib.Nat.{add-zero}
+use Rattle.std.proofs.Math.Bool.{or_assoc, or-false}
 use native.Mathlib.Omega.{arith}
 use lib.IntN.{ℤ, pos}
-use mir.Syntax.{w32}
-use mir.Val.{of_z, to_z}
-use lib.Signed.{mag}
 use lib.ListN.{length, take, drop, get_or, set, length-append, length-drop}
 use lib.Seq.{sets, length-sets, length-take-le, take-suc, take_at, get_or-drop, drop-drop, drop-append_seam, get_or-append-add}
 use Rattle.definition.specs.Commands.{Shape, Kind, box, flash, wire, polygon}
 use Rattle.definition.specs.Flat.{letter_of}
 use Rattle.definition.specs.Words.{Point, point, any}
 use Rattle.definition.specs.Faults.{beyond, both}
-use Rattle.turns.specs.Nets.{as_point, apply, turned}
+use Rattle.turns.specs.Nets.{apply, turned}
 use Rattle.turns.specs.declared.Net.{Net}
-use Rattle.turns.specs.declared.Pair.{Pair}
 use Rattle.turns.specs.declared.Beyond.{Beyond}
 use Rattle.turns.proofs.Signed.{told}
 use Rattle.moves.specs.Moves.{size_count, direction_count, BeginAt, EndAt, Copied, Pointed, Judges, Moves, ShapedAt, MovesShape}
@@ -36,21 +33,12 @@ map_both f (p ∷ a) = ap (λ (n : ℕ). suc (suc n)) (map_both f a)
 any-++ : {A : Type 0} (t : A → Bool) (a b : List A) → any t (a ++ b) ≡ (any t a || any t b)
 unfolding any
 any-++ t [] b = refl
-any-++ t (x ∷ a) b = ap (λ (r : Bool). t x || r) (any-++ t a b) ∙ go (t x)
-  where
-    go : (s : Bool) → (s || (any t a || any t b)) ≡ ((s || any t a) || any t b)
-    go true = refl
-    go false = refl
+any-++ t (x ∷ a) b = ap (λ (r : Bool). t x || r) (any-++ t a b) ∙ sym (or_assoc (t x) (any t a) (any t b))
 
 -- a test of the points so far, and of one more
 judged : (t : Point ℤ → Bool) (d : List (Point ℤ)) (p : Point ℤ) {before here after : Bool} → before ≡ any t d → here ≡ t p → after ≡ (before || here) → after ≡ any t (d ++ (p ∷ []))
 unfolding any
-judged t d p b h a = a ∙ ((λ k. b k || h k) ∙ (alone (any t d) (t p) ∙ sym (any-++ t d (p ∷ []))))
-  where
-    alone : (s r : Bool) → (s || r) ≡ (s || (r || false))
-    alone true r = refl
-    alone false true = refl
-    alone false false = refl
+judged t d p b h a = a ∙ ((λ k. b k || h k) ∙ (ap (λ (r : Bool). any t d || r) (sym (or-false (t p))) ∙ sym (any-++ t d (p ∷ []))))
 
 -- between two points: those done are in their places, and those left stand from here on
 pub record Moving (words : List ℤ) (end : ℕ) (net : Net) (points : List (Point ℤ)) (numbers₀ : List ℤ) (from i : ℕ) (far : Beyond) (numbers : List ℤ) : Type 0 where

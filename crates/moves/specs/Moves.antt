@@ -1,7 +1,7 @@
 -- A shape's numbers from its words under a net transformation: each stands in the run of numbers where its word stands in the run of words, and the
 -- shape's line has them in this order. A running account, not to be believed: proofs/Moves.antt proves that they are those of the definition's `moved`.
 -- Assumes nothing.
-use Rattle.std.specs.Prelude.{◌≡◌, Bool, List, ◌++◌, map, ℕ, ◌+◌, ◌-◌, ◌*◌, ◌≤◌, ℤ, length, take, drop}
+use Rattle.std.specs.Prelude.{◌≡◌, List, ◌++◌, map, ℕ, ◌+◌, ◌-◌, ◌*◌, ◌≤◌, ℤ, length, take, drop}
 use Rattle.std.proofs.lemmas.List.Edits.{sets}
 use Rattle.definition.specs.Words.{Point, any}
 use Rattle.definition.specs.Commands.{Shape, shape_of, Kind, box, flash, wire, polygon}

@@ -66,6 +66,7 @@ fn aim_at(words: &[i32], numbers: &mut [i64], i: usize, net: turns::Net)
 }
 
 // Points go to their final places; whether some x is beyond the range (refusal 16), and whether some y is (refusal 20).
+// (A `while`: two numbers at a time of both runs. Tried and slower, measured: `step_by(2)` by 7 per cent of the loop, a `for` over the points by 2.)
 fn move_points(
     words: &[i32],
     numbers: &mut [i64],

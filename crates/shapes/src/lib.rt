@@ -8,7 +8,8 @@ ghost use Rattle.shapes.specs.Painting.{Reached, ShapeDraws};
 
 use definition::{Refusal, Rule};
 
-// Where the next byte of the flat file goes, and the layer of the last shape written, packed, 0 for none.
+// Where the next byte of the flat file goes, and the layer of the last shape written, packed. No layer is 0, the name without letters, and no Option:
+// packed names are only compared, and an Option would ask each time for a case that the comparison settles.
 #[derive(Clone, Copy)]
 pub struct Pen {
     pub at: usize,

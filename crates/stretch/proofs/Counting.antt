@@ -1,6 +1,6 @@
 -- What is painted counts calls up, and a call that is counted is one more.
 -- Assumes nothing.
-use Rattle.std.specs.Prelude.{if◌then◌else◌}
+use Rattle.std.specs.Prelude.{if◌then◌else◌, Ok}
 use mathlib.Core.Path.{◌≡◌, sym, ap}
 use mathlib.Core.Bool.{Bool, true, false}
 use mathlib.Core.List.{List, []}
@@ -20,7 +20,6 @@ use Rattle.counts.specs.Counting.{tally}
 use Rattle.shapes.specs.declared.Ink.{Ink}
 use Rattle.shapes.specs.Painting.{Goes, Answered, Painted}
 use Rattle.shapes.proofs.Painting.{PaintedSoFar}
-use Rattle.std.specs.Prelude.{Ok}
 
 pub painted-grows : {ink ink' : Ink} {es : List Event} {room room' : List ℕ} {chain : Chain} → Painted ink es room chain (Ok ink') room' → ink.counts.calls ≤ ink'.counts.calls
 unfolding Answered

@@ -1,7 +1,7 @@
 -- One call where so many records are lent: what crate opening answers of it stays, where there is a record; where there is none, 11 to 14 stay, and a call that they let
 -- through is refused with 21, before it is counted.
 -- Assumes nothing.
-use Rattle.std.specs.Prelude.{if◌then◌else◌}
+use Rattle.std.specs.Prelude.{if◌then◌else◌, Err, Ok, Result}
 use mathlib.Core.Path.{◌≡◌, refl, sym, ap, ◌∙◌, subst}
 use mathlib.Core.Bool.{Bool, true, false}
 use mathlib.Core.List.{List, [], ◌∷◌, map, head-eq_of_cons-eq, tail-eq_of_cons-eq}
@@ -33,7 +33,6 @@ use Rattle.opening.proofs.Opening.{called-first}
 use Rattle.shapes.proofs.Painting.{never}
 use Rattle.stacking.proofs.Stacked.{Fits, stacked_one}
 use Rattle.stretch.specs.Opening.{OpensWith}
-use Rattle.std.specs.Prelude.{Err, Ok, Result}
 use Rattle.opening.specs.declared.Entered.{Entered}
 
 -- ---- the first event of a call

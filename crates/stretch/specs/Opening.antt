@@ -1,7 +1,7 @@
 -- What `open_call` answers of a call where these calls are open and so many records are lent: as crate opening has it, with the call's events held to the records.
 -- A running account, not to be believed.
 -- Assumes nothing.
-use Rattle.std.specs.Prelude.{◌≡◌, List, map, ℕ, ◌<◌, ℤ, length}
+use Rattle.std.specs.Prelude.{◌≡◌, List, map, ℕ, ◌<◌, ℤ, length, Err, Ok, Result}
 use Rattle.definition.specs.Commands.{Turn}
 use Rattle.definition.specs.Turns.{off_axes}
 use Rattle.definition.specs.Table.{Definition}
@@ -11,7 +11,6 @@ use Rattle.counts.specs.declared.Counts.{Counts}
 use Rattle.library.specs.Memory.{table_of}
 use Rattle.opening.specs.declared.Call.{Call}
 use Rattle.opening.specs.Opening.{Stops, Descent}
-use Rattle.std.specs.Prelude.{Err, Ok, Result}
 use Rattle.opening.specs.declared.Entered.{Entered}
 use Rattle.definition.specs.declared.Refusal.{Refusal}
 

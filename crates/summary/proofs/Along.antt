@@ -1,7 +1,7 @@
 -- What the loop of `keep_text` keeps: where the pass stands (crates/passing, proofs/Stands.antt), that the columns are those made afresh from the bodies, and
 -- that the table and the ending of the whole text are those of what is left.
 -- Assumes nothing.
-use Rattle.std.specs.Prelude.{if◌then◌else◌}
+use Rattle.std.specs.Prelude.{Option, None, Result, Ok, Err, if◌then◌else◌}
 use mathlib.Core.Path.{◌≡◌, refl, sym, ap, ap₂, ◌∙◌, subst}
 use mathlib.Core.Bool.{Bool, true, false}
 use mathlib.Core.List.{List, [], ◌∷◌, ◌++◌, map}
@@ -15,6 +15,7 @@ use Rattle.grammar.specs.Notation.{Letter}
 use Rattle.grammar.proofs.Markings.{marking_is}
 use Rattle.definition.specs.Limits.{most_definitions}
 use Rattle.definition.specs.Words.{Placed, at, those}
+use Rattle.definition.specs.declared.Rule.{Rule}
 use Rattle.definition.specs.declared.Rule.TheVariants.{TooManyDefinitions, TooFewWords}
 use Rattle.definition.specs.Rules.{refuse}
 use Rattle.definition.specs.Commands.{Number, Command, delete, commands}
@@ -32,6 +33,7 @@ use Rattle.pieces.specs.Pieces.{start as text_start}
 use Rattle.pieces.specs.declared.Spot.{Spot}
 use Rattle.rules.specs.Letters.{letter_d, letter_l}
 use Rattle.rules.specs.Written.{Written}
+use Rattle.commands.specs.declared.Decoded.{Decoded}
 use Rattle.commands.specs.Words.{DecodedOne, ReadsCommand}
 use Rattle.counts.specs.declared.Counts.{Counts}
 use Rattle.counts.specs.Counting.{tally, zero_counts}
@@ -43,6 +45,7 @@ use Rattle.library.specs.Holds.{Holds}
 use Rattle.keeping.specs.Keeping.{most_words, Begins, Defines, DefinesAt}
 use Rattle.keeping.specs.declared.Start.{Start}
 use Rattle.keeping.specs.declared.Stock.{Stock}
+use Rattle.keeping.specs.declared.Taken.{Taken}
 use Rattle.passing.specs.Passed.{Passed, outputs, start_in, Deletes}
 use Rattle.passing.proofs.Letters.{is_layer, is_delete}
 use Rattle.passing.proofs.Reading.{Met, run_kept, read_none, third_word, none_met}
@@ -52,10 +55,6 @@ use Rattle.columns.specs.Columns.{More, Enters, Afresh}
 use Rattle.columns.specs.Columns.{Stands as StandsIn}
 use Rattle.columns.proofs.Moved.{entered-more, entered-stands, afresh-entered, afresh-cut, afresh_none}
 use Rattle.summary.specs.Summed.{kept_of, end_of, table_left, TableHeld, KeepsAll, KeepsText}
-use Rattle.std.specs.Prelude.{Err, None, Ok, Option, Result}
-use Rattle.commands.specs.declared.Decoded.{Decoded}
-use Rattle.keeping.specs.declared.Taken.{Taken}
-use Rattle.definition.specs.declared.Rule.{Rule}
 
 -- ---- what keeps the table
 
@@ -274,18 +273,18 @@ module _ {t : List ℕ} {w : ℕ} {words₀ : List ℤ} {names : List ℕ} {coun
         same-symbol : start.symbol ≡ new.symbol
         same-symbol = ap (λ (y : Start). y.symbol) q
 
-        module _ {stock' : Stock} {c' : Counts} {to' : Spot} (f : d ≡ Ok (record { stock = stock'; counts = c'; to = to' })) where
-          pub along_on : length t - to'.at < length t - spot.at
+        module _ {taken : Taken} (f : d ≡ Ok taken) where
+          pub along_on : length t - taken.to.at < length t - spot.at
           along_on = let k = takes s m e start q defines f in omega (arith, k.ahead, k.fit.within, r.ahead)
 
           -- what `enter` of crate columns asks
-          pub may_enter : (More stock.live stock'.live × Sorted rows' stock'.live × StandsIn rows' stock'.live start.symbol) × (Stocked rows' b' stock'.live × (length b' ≤ most_words))
+          pub may_enter : (More stock.live taken.stock.live × Sorted rows' taken.stock.live × StandsIn rows' taken.stock.live start.symbol) × (Stocked rows' b' taken.stock.live × (length b' ≤ most_words))
           may_enter =
               let k = (takes s m e start q defines f).kept in
               ((entered-more new s.kept.holds k.holds, k.sorted, entered-stands new s.kept.holds k.holds same-symbol), (k.stocked, k.short))
 
-          pub along_defined : {figures' calls' layers' : List ℕ} → Enters b' rows' stock.live stock'.live start.symbol names count figures calls layers figures' calls' layers'
-              → Next rows' b' figures' calls' layers' to' stock' c'
+          pub along_defined : {figures' calls' layers' : List ℕ} → Enters b' rows' stock.live taken.stock.live start.symbol names count figures calls layers figures' calls' layers'
+              → Next rows' b' figures' calls' layers' taken.to taken.stock taken.counts
           along_defined x =
               let k = takes s m e start q defines f in
               let z = k.kept.enough in
@@ -302,24 +301,24 @@ module _ {t : List ℕ} {w : ℕ} {words₀ : List ℤ} {names : List ℕ} {coun
                     ap (table_then (enter new s.table)) same
                     ∙ (sym (ap (table_then s.table) kept-left ∙ then_define s.table new (kept_of later)) ∙ u.table-left);
                 end_left =
-                    ap (end_from w (tally c') (enter new s.table)) same
+                    ap (end_from w (tally taken.counts) (enter new s.table)) same
                     ∙ (sym (ap (end_from w (tally counts) s.table) kept-left
                     ∙ end_define w (tally counts) s.table new (kept_of later) k.few (let y = size_then in omega (arith, y, z)) k.counts_so)
                     ∙ u.end_left);
               }
 
-        pub along_overfull : d ≡ (Err TooManyDefinitions) → KeepsText t w names count (Err (record { number = 10; place = place })) rows' b' figures calls layers
-        unfolding Defines KeepsText
-        along_overfull f =
-            told_of (λ (m : List Letter). end_of w m ≡ stopped (record { number = 10; place = place }) [])
-            (sym u.end_left ∙ (ap (end_from w (tally counts) s.table) kept-left ∙ end_overfull w (tally counts) s.table new (kept_of later) (comes s m e start q defines f)))
-
-        pub along-short : d ≡ (Err TooFewWords) → KeepsText t w names count (Err (record { number = 25; place = place })) rows' b' figures calls layers
-        unfolding Defines KeepsText
-        along-short f =
+        -- it is one too many, or more words are needed than were lent
+        ends-so : (rule : Rule) → d ≡ Err rule → end_from w (tally counts) s.table (define new ∷ kept_of later) ≡ stopped (refuse rule place) []
+        unfolding Defines
+        ends-so TooManyDefinitions f = end_overfull w (tally counts) s.table new (kept_of later) (comes s m e start q defines f)
+        ends-so TooFewWords f =
             let k = comes s m e start q defines f in
             let z = k.1 in
-            told_of (λ (m : List Letter). end_of w m ≡ stopped (record { number = 25; place = place }) [])
-            (sym u.end_left
-            ∙ (ap (end_from w (tally counts) s.table) kept-left
-            ∙ end_short w (tally counts) s.table new (kept_of later) k.0 (let y = size_then in omega (arith, y, z))))
+            end_short w (tally counts) s.table new (kept_of later) k.0 (let y = size_then in omega (arith, y, z))
+        ends-so _ f = absurd (comes s m e start q defines f)
+
+        pub along_refused : {rule : Rule} → d ≡ Err rule → KeepsText t w names count (Err (refuse rule place)) rows' b' figures calls layers
+        unfolding KeepsText
+        along_refused {rule} f =
+            told_of (λ (m : List Letter). end_of w m ≡ stopped (refuse rule place) [])
+            (sym u.end_left ∙ (ap (end_from w (tally counts) s.table) kept-left ∙ ends-so rule f))

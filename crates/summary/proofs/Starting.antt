@@ -1,6 +1,6 @@
 -- Refusals 1 to 9 and 19 of a text, in their order: 1; then 2; then of 3 to 9 and 19 the first in the text. And that a text which they let pass has the names gathered.
 -- Assumes nothing.
-use Rattle.std.specs.Prelude.{if◌then◌else◌}
+use Rattle.std.specs.Prelude.{Result, Ok, Err, if◌then◌else◌}
 use mathlib.Core.Path.{◌≡◌, refl, sym, ap, ap₂, ◌∙◌, subst}
 use mathlib.Core.Bool.{Bool, true, false}
 use mathlib.Core.List.{List, [], ◌∷◌, ◌++◌}
@@ -33,12 +33,11 @@ use Rattle.passing.specs.Passed.{Passed}
 use Rattle.reader.specs.Screened.{Screened, over, within}
 use Rattle.marks.specs.Noted.{Noted, Gathers}
 use Rattle.summary.specs.Summed.{Foremost, NamedPassed, Starts}
-use Rattle.std.specs.Prelude.{Err, Ok, Result}
 
 -- ---- no refusal of a command has a number below 3
 
 abbrev High : Refusal → Type 0
-High r = 3 ≤ r.number
+High r = 3 ≤ number_of r.rule
 
 all_high : (n : ℕ) → 3 ≤ n → (zs : List Number) → All (λ (z : Number). 3 ≤ n) zs
 unfolding All
@@ -99,9 +98,9 @@ module _ {t : List ℕ} (names : List ℕ) {p : ℕ} (before : Refusal) {g : Res
 -- ---- 1 to 9 and 19
 
 never : {k : ℕ} {why : Refusal} → Ok k ≡ Err why → ⊥
-never e = let z : ◌≡◌ {A = ℕ} 0 1 = cc in omega arith
+never e = cc
 
-same-refusal : {a b : Refusal} → Err a ≡ Err b → a ≡ b
+same-refusal : {a b : Refusal} → ◌≡◌ {A = Result ℕ Refusal} (Err a) (Err b) → a ≡ b
 same-refusal e = cc
 
 stopped_by : {t : List ℕ} {m : List Letter} {why : Refusal} → length t ≤ most_bytes → Marked t m → first_fault_or_name (commands 0 m) ≡ some why
@@ -124,18 +123,18 @@ pub record OfCommands (t : List ℕ) (why : Refusal) : Type 0 where  -- one of 3
   pub is : first_fault (commands 0 grammatical.0) ≡ some why
 
 module _ {t : List ℕ} {d : Result ℕ Refusal} {why : Refusal} (x : Screened t d) (e : d ≡ Err why) where
-  pub by_number : 3 ≤ why.number → OfCommands t why
+  pub by_number : 3 ≤ number_of why.rule → OfCommands t why
   by_number = go x e
     where
-      judged : length t ≤ most_bytes → (v : Result Unit ℕ) → Judged t v → by_verdict t v (Err why) → 3 ≤ why.number → OfCommands t why
+      judged : length t ≤ most_bytes → (v : Result Unit ℕ) → Judged t v → by_verdict t v (Err why) → 3 ≤ number_of why.rule → OfCommands t why
       judged s (Ok _) g f h = record { short = s; grammatical = g; is = fault_of g f }
-      judged s (Err n) g f h = absurd (let z = ap (λ (r : Refusal). r.number) (same-refusal f) in omega (arith, z, h))
+      judged s (Err n) g f h = absurd (let z = ap (λ (r : Refusal). number_of r.rule) (same-refusal f) in omega (arith, z, h))
 
-      go : {d : Result ℕ Refusal} → Screened t d → d ≡ Err why → 3 ≤ why.number → OfCommands t why
-      go (over h) q k = absurd (let z = ap (λ (r : Refusal). r.number) (same-refusal q) in omega (arith, z, k))
+      go : {d : Result ℕ Refusal} → Screened t d → d ≡ Err why → 3 ≤ number_of why.rule → OfCommands t why
+      go (over h) q k = absurd (let z = ap (λ (r : Refusal). number_of r.rule) (same-refusal q) in omega (arith, z, k))
       go (within h f) q k = judged h f.verdict f.judged (subst (by_verdict t f.verdict) q f.is) k
 
-  pub before-commands : why.number < 3 → (names : List ℕ) → Starts t (Err why) names
+  pub before-commands : number_of why.rule < 3 → (names : List ℕ) → Starts t (Err why) names
   unfolding Starts
   before-commands h names = go x e
     where
@@ -153,16 +152,10 @@ by_commands names o f = stopped_by o.short o.grammatical.1 (ap (λ (x : Option R
 
 -- ---- a text that 3 to 9 let pass
 
-module _ {t : List ℕ} (p : Passed t) (names : List ℕ) {g : Result ℕ ℕ} (f : (m : List Letter) → Marked t m → Gathers (commands 0 m) g names) where
-  pub passed-named : {n : ℕ} → g ≡ Ok n → Starts t (Ok n) names
-  unfolding Starts Gathers
-  passed-named {n} e =
-      let x = subst (λ (g : Result ℕ ℕ). Gathers (commands 0 p.letters) g names) e (f p.letters p.marked) in
-      record { passed = p; noted = x.0; clear = x.1 }
-
-  pub passed_over : {q : ℕ} → g ≡ Err q → Starts t (Err (refuse TooManyLayers q)) names
-  unfolding Starts Gathers first_fault_or_name sooner
-  passed_over {q} e =
-      stopped_by p.short p.marked
-      (ap (λ (x : Option Refusal). sooner x (too_many_from [] (commands 0 p.letters))) p.clear
-      ∙ subst (λ (g : Result ℕ ℕ). Gathers (commands 0 p.letters) g names) e (f p.letters p.marked))
+pub passed : {t : List ℕ} (p : Passed t) (names : List ℕ) (g : Result ℕ ℕ) {r : Result ℕ Refusal} → ((m : List Letter) → Marked t m → Gathers (commands 0 m) g names)
+    → ((n : ℕ) → g ≡ Ok n → r ≡ Ok n) → ((q : ℕ) → g ≡ Err q → r ≡ Err (refuse TooManyLayers q)) → Starts t r names
+unfolding Starts Gathers first_fault_or_name sooner
+passed p names (Ok n) f is refused = let x = f p.letters p.marked in rw (is n refl) (record { passed = p; noted = x.0; clear = x.1 })
+passed p names (Err q) f is refused =
+    rw (refused q refl)
+    (stopped_by p.short p.marked (ap (λ (x : Option Refusal). sooner x (too_many_from [] (commands 0 p.letters))) p.clear ∙ f p.letters p.marked))

@@ -1,7 +1,7 @@
 -- From the numbers beside the rows and a symbol's reply to what the definition tells of it: the marks of a set are its distinct layers, the lowest is the first in the text, and bodies
 -- that are kept lean tell the same.
 -- Assumes nothing.
-use Rattle.std.specs.Prelude.{if◌then◌else◌}
+use Rattle.std.specs.Prelude.{Option as Maybe, Some, None, Result, Ok, Err, if◌then◌else◌}
 use mathlib.Core.Path.{◌≡◌, refl, sym, ap, ap₂, ◌∙◌, subst}
 use mathlib.Core.Bool.{Bool, true, false}
 use mathlib.Core.List.{List, [], ◌∷◌, ◌++◌, flat_map}
@@ -38,10 +38,11 @@ use Rattle.library.proofs.Looking.{found, not_found}
 use Rattle.passing.specs.Passed.{Passed}
 use Rattle.marks.specs.Noted.{Noted}
 use Rattle.columns.specs.declared.Own.{Own}
-use Rattle.heights.specs.declared.Reply as declared
+use Rattle.heights.specs.declared.Standing.{Standing}
+use Rattle.heights.specs.Walk.{standing}
 use Rattle.heights.specs.Replies.{ReplyOf, SymbolReplies}
+use Rattle.heights.proofs.Walking.{same_height, same_layers}
 use Rattle.summary.specs.Summed.{end_of, table_left, FirstName, SetIn, OwnIs, Given, TableHeld, KeepsAll, KeepsText, NamedPassed, Starts, Askable, TellsReply, Tells, TellsText}
-use Rattle.std.specs.Prelude.{Err, None, Ok, Option, Result, Some}
 
 -- ---- the lowest mark is one of the names
 
@@ -111,17 +112,17 @@ module _ {names : List ℕ} {count : ℕ} {ns : Names} (ls : Names) {set : ℕ} 
 
 -- ---- a reply and the own numbers
 
-bars_not : {r : declared.Reply} {n h set : ℕ} → r ≡ Err n → r ≡ Ok (record { height = h; layers = set }) → ⊥
-bars_not e f = let z : ◌≡◌ {A = ℕ} 0 1 = cc in omega arith
+bars_not : {r : Result Standing Rule} {rule : Rule} {h set : ℕ} → r ≡ Err rule → r ≡ standing h set → ⊥
+bars_not e f = cc
 
-same_set : {r : declared.Reply} {h k set other : ℕ} → r ≡ Ok (record { height = h; layers = other }) → r ≡ Ok (record { height = k; layers = set }) → set ≡ other
-same_set e f = cc
+same_set : {r : Result Standing Rule} {h k set other : ℕ} → r ≡ standing h other → r ≡ standing k set → set ≡ other
+same_set e f = same_layers (sym f ∙ e)
 
-is_bars : (ns : Names) (rule : Rule) (r : declared.Reply) → ReplyOf ns (bars rule) r → r ≡ Err (number_of rule)
+is_bars : (ns : Names) (rule : Rule) (r : Result Standing Rule) → ReplyOf ns (bars rule) r → r ≡ Err rule
 unfolding ReplyOf
 is_bars ns rule r f = f
 
-is_stands : (ns : Names) (h : ℕ) (ls : Names) (r : declared.Reply) → ReplyOf ns (stands h ls) r → r ≡ Ok (record { height = h; layers = (set_of_layers ns ls) })
+is_stands : (ns : Names) (h : ℕ) (ls : Names) (r : Result Standing Rule) → ReplyOf ns (stands h ls) r → r ≡ standing h (set_of_layers ns ls)
 unfolding ReplyOf
 is_stands ns h ls r f = f
 
@@ -129,24 +130,24 @@ module _ {ns : Names} {own : Own} {ss : List (Placed Step)} (o : OwnIs ns own ss
   own-layers : ones own.layers ≡ length (appearing ns (own_layers ss))
   own-layers = ap ones o.layers ∙ set-ones ns (own_layers ss)
 
-  pub told-bars : (told : Reply) {reply : declared.Reply} {number many : ℕ} → ReplyOf ns told reply → reply ≡ Err number → many ≡ ones own.layers → {r : Summary}
+  pub told-bars : (told : Reply) {reply : Result Standing Rule} {why : Rule} {number many : ℕ} → ReplyOf ns told reply → reply ≡ Err why → number ≡ number_of why → many ≡ ones own.layers → {r : Summary}
       → r ≡ record { number = 0; place = 0; line = 0; column = 0; gives = number; drawn = 0; first = 0; height = 0; shapes = own.shapes; calls = own.calls; layers = many }
       → r ≡ in_symbol ns told ss
   unfolding ReplyOf in_symbol
-  told-bars (bars rule) {number = number} f e m q =
-      let same : number ≡ number_of rule = cc in
-      q ∙ rw (same, o.shapes, o.calls, m ∙ own-layers) refl
-  told-bars (stands h ls) f e m q = absurd (bars_not e f)
+  told-bars (bars rule) {why = why} f e k m q =
+      let same : why ≡ rule = cc in
+      q ∙ rw (k ∙ ap number_of same, o.shapes, o.calls, m ∙ own-layers) refl
+  told-bars (stands h ls) f e k m q = absurd (bars_not e f)
 
-  pub told-stands : (told : Reply) {reply : declared.Reply} {height set name many drawn : ℕ} → ReplyOf ns told reply → reply ≡ Ok (record { height = height; layers = set }) → many ≡ ones own.layers → drawn ≡ ones set
+  pub told-stands : (told : Reply) {reply : Result Standing Rule} {height set name many drawn : ℕ} → ReplyOf ns told reply → reply ≡ standing height set → many ≡ ones own.layers → drawn ≡ ones set
       → ((ls : Names) → set ≡ set_of_layers ns ls → name ≡ packed_name (first (appearing ns ls))) → {r : Summary}
       → r ≡ record { number = 0; place = 0; line = 0; column = 0; gives = 0; drawn = drawn; first = name; height = height; shapes = own.shapes; calls = own.calls; layers = many }
       → r ≡ in_symbol ns told ss
   unfolding ReplyOf in_symbol
   told-stands (bars rule) f e m d g q = absurd (bars_not f e)
   told-stands (stands h ls) {height = height} {set = set} f e m d g q =
-      let tall : height ≡ h = cc in
-      let is : set ≡ set_of_layers ns ls = cc in
+      let tall : height ≡ h = same_height (sym e ∙ f) in
+      let is : set ≡ set_of_layers ns ls = same_layers (sym e ∙ f) in
       q ∙ rw (tall, d ∙ (ap ones is ∙ set-ones ns ls), g ls is, o.shapes, o.calls, m ∙ own-layers) refl
 
 -- ---- a symbol of the table that memory holds
@@ -172,11 +173,11 @@ module _ {rows : List ℕ} {b : List ℤ} {live : ℕ} {names : List ℕ} {count
   lean-table : table_of rows b live ≡ lean_table t
   lean-table = held-table h.holds
 
-  pub reply_there : (r : declared.Reply) → SymbolReplies rows b live layers symbol r → ReplyOf ns (reply_to deepest t [] 0 symbol) r
+  pub reply_there : (r : Result Standing Rule) → SymbolReplies rows b live layers symbol r → ReplyOf ns (reply_to deepest t [] 0 symbol) r
   reply_there r s =
       subst (λ (q : Reply). ReplyOf ns q r) (ap (λ (u : Table). reply_to deepest u [] 0 symbol) lean-table ∙ lean_replies t deepest [] 0 symbol) (s ns (λ i l. h.afresh.layers_are i l ns n))
 
-  module _ {f : Option ℕ} (x : Finds rows live symbol f) {row : ℕ} (e : f ≡ Some row) where
+  module _ {f : Maybe ℕ} (x : Finds rows live symbol f) {row : ℕ} (e : f ≡ Some row) where
     pub row_within : row < live
     row_within = (found rows b symbol live f row x e).0
 
@@ -192,7 +193,7 @@ module _ {rows : List ℕ} {b : List ℤ} {live : ℕ} {names : List ℕ} {count
     }
 
   -- no row has the number
-  pub none_there : {f : Option ℕ} → Finds rows live symbol f → f ≡ None → {r : Summary} → TellsReply names (Err 12) (record { shapes = 0; calls = 0; layers = 0 }) r → r ≡ in_symbol ns (reply_to deepest t [] 0 symbol) (body_found (find symbol t))
+  pub none_there : {f : Maybe ℕ} → Finds rows live symbol f → f ≡ None → {r : Summary} → TellsReply names (Err UndefinedSymbol) (record { shapes = 0; calls = 0; layers = 0 }) r → r ≡ in_symbol ns (reply_to deepest t [] 0 symbol) (body_found (find symbol t))
   unfolding body_found ReplyOf
   none_there {f} x e {r} tells =
       let lost : find symbol t ≡ none = not_lean (find symbol t) (sym (lean-find symbol t) ∙ (sym (ap (find symbol) lean-table) ∙ not_found rows b symbol live f x e)) in
@@ -209,18 +210,18 @@ pub not_zero : (n : ℕ) → (n ≡ 0 → ⊥) → 0 < n
 not_zero zero h = absurd (h refl)
 not_zero (suc n) h = omega arith
 
-pub set_given : {names : List ℕ} {reply : declared.Reply} {own : Own} {height set : ℕ} → Given names reply own → reply ≡ Ok (record { height = height; layers = set }) → SetIn names set
+pub set_given : {names : List ℕ} {reply : Result Standing Rule} {own : Own} {height set : ℕ} → Given names reply own → reply ≡ standing height set → SetIn names set
 set_given {names} {reply} {own} {height} {set} g e = go g.told g.is
   where
     go : (told : Reply) → ReplyOf g.all_names told reply → SetIn names set
     go (bars rule) f = absurd (bars_not (is_bars g.all_names rule reply f) e)
     go (stands h ls) f = record { count = g.count; all_names = g.all_names; layers = ls; noted = g.noted; is = same_set (is_stands g.all_names h ls reply f) e }
 
-pub given_none : {names : List ℕ} {count : ℕ} {ns : Names} → Noted names count ns → Given names (Err 12) (record { shapes = 0; calls = 0; layers = 0 })
+pub given_none : {names : List ℕ} {count : ℕ} {ns : Names} → Noted names count ns → Given names (Err UndefinedSymbol) (record { shapes = 0; calls = 0; layers = 0 })
 unfolding ReplyOf
 given_none {count = count} {ns = ns} n = record { count = count; all_names = ns; told = bars UndefinedSymbol; body = []; noted = n; is = refl; own_is = no_own ns }
 
-pub given-row : {names : List ℕ} {count : ℕ} {ns : Names} (told : Reply) {ss : List (Placed Step)} {reply : declared.Reply} {own : Own} → Noted names count ns → ReplyOf ns told reply → OwnIs ns own ss
+pub given-row : {names : List ℕ} {count : ℕ} {ns : Names} (told : Reply) {ss : List (Placed Step)} {reply : Result Standing Rule} {own : Own} → Noted names count ns → ReplyOf ns told reply → OwnIs ns own ss
     → Given names reply own
 given-row {count = count} {ns = ns} told {ss = ss} n f o = record { count = count; all_names = ns; told = told; body = ss; noted = n; is = f; own_is = o }
 

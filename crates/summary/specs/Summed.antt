@@ -1,11 +1,12 @@
 -- What the functions between a text and its summary answer, in the definition's words. A running account, not to be believed: what is promised to a host is
 -- crates/definition's `Summarised`.
 -- Assumes nothing.
-use Rattle.std.specs.Prelude.{◌≡◌, List, [], map, ℕ, ◌≤◌, ℤ, length}
+use Rattle.std.specs.Prelude.{◌≡◌, List, [], map, ℕ, Result, Ok, Err, ◌≤◌, ℤ, length}
 use Rattle.std.proofs.Math.Option.{Option, none, some}
 use Rattle.grammar.specs.Notation.{Letter}
 use Rattle.grammar.specs.Viable.{Marked}
 use Rattle.definition.specs.declared.Refusal.{Refusal}
+use Rattle.definition.specs.declared.Rule.{Rule}
 use Rattle.definition.specs.declared.Summary.{Summary}
 use Rattle.definition.specs.Limits.{deepest}
 use Rattle.definition.specs.Words.{Placed, those, first}
@@ -25,9 +26,8 @@ use Rattle.passing.specs.Passed.{Passed}
 use Rattle.marks.specs.Noted.{Noted}
 use Rattle.columns.specs.Columns.{Afresh}
 use Rattle.columns.specs.declared.Own.{Own}
-use Rattle.heights.specs.declared.Reply as declared
+use Rattle.heights.specs.declared.Standing.{Standing}
 use Rattle.heights.specs.Replies.{ReplyOf}
-use Rattle.std.specs.Prelude.{Err, Ok, Result}
 
 abbrev pub kept_of : List Deed → List Deed  -- what keeps the table
 kept_of ds = those kept? ds
@@ -91,7 +91,7 @@ pub record OwnIs (ns : Names) (own : Own) (ss : List (Placed Step)) : Type 0 whe
   pub calls : own.calls ≡ own_calls ss
   pub layers : own.layers ≡ set_of_layers ns (own_layers ss)
 
-pub record Given (names : List ℕ) (reply : declared.Reply) (own : Own) : Type 0 where
+pub record Given (names : List ℕ) (reply : Result Standing Rule) (own : Own) : Type 0 where
   pub count : ℕ
   pub all_names : Names
   pub told : Reply
@@ -101,7 +101,7 @@ pub record Given (names : List ℕ) (reply : declared.Reply) (own : Own) : Type 
   pub own_is : OwnIs all_names own body
 
 -- the contract of `tell_reply`, of `tell`, and of `tell_text`
-abbrev pub TellsReply : (names : List ℕ) (reply : declared.Reply) (own : Own) → Summary → Type 0
+abbrev pub TellsReply : (names : List ℕ) (reply : Result Standing Rule) (own : Own) → Summary → Type 0
 TellsReply names reply own r =
     (count : ℕ) (ns : Names) (told : Reply) (ss : List (Placed Step)) → Noted names count ns → ReplyOf ns told reply → OwnIs ns own ss → r ≡ in_symbol ns told ss
 

@@ -11,5 +11,5 @@ returns-then-c c = c.write.ensures
 pub measure-requires : goal.measure-requires
 measure-requires c = (c.if-c.false, c.requires)
 
-pub returns : goal.returns
-returns c = c.measure.ensures
+pub returns-else-c : goal.returns-else-c
+returns-else-c c = c.measure.ensures

@@ -6,14 +6,8 @@ use Rattle.moves.proofs.move_points.Goals as goal
 pub loop-next-init : goal.loop-next-init
 loop-next-init c = λ h. begin c.args.net c.args.numbers.now h
 
-pub overflow_add-next : goal.overflow_add-next
-overflow_add-next c = omega (arith, pair_fits (c.loop-next.invariant c.requires.pointed.0) c.loop-next-test.true, c.requires.pointed.0.within)
-
-pub place_at-far-requires : goal.place_at-far-requires
-place_at-far-requires c = record { i_in_bounds = (omega (arith, pair_fits (c.loop-next.invariant c.requires.pointed.0) c.loop-next-test.true, c.requires.pointed.0.within), omega (arith, pair_fits (c.loop-next.invariant c.requires.pointed.0) c.loop-next-test.true, c.requires.pointed.1, numbers-length (c.loop-next.invariant c.requires.pointed.0))); near = c.requires.near }
-
-pub loop-next-smaller : goal.loop-next-smaller
-loop-next-smaller c = omega (arith, pair_fits (c.loop-next.invariant c.requires.pointed.0) c.loop-next-test.true)
+pub place_at-far-requires-clause-i_in_bounds : goal.place_at-far-requires-clause-i_in_bounds
+place_at-far-requires-clause-i_in_bounds c = (omega (arith, pair_fits (c.loop-next.invariant c.requires.pointed.0) c.loop-next-test.true, c.requires.pointed.0.within), omega (arith, pair_fits (c.loop-next.invariant c.requires.pointed.0) c.loop-next-test.true, c.requires.pointed.1, numbers-length (c.loop-next.invariant c.requires.pointed.0)))
 
 pub loop-next-preserved : goal.loop-next-preserved
 loop-next-preserved c = λ h. one_point (c.loop-next.invariant h) c.loop-next-test.true c.place_at-far.result _ c.place_at-far.ensures c.either-x.result c.either-y.result c.either-x.ensures c.either-y.ensures

@@ -7,8 +7,8 @@ use Rattle.moves.proofs.move_shape.Goals as goal
 pub copy_sizes-requires : goal.copy_sizes-requires
 copy_sizes-requires c = let o = in_order c.requires.shaped_at.0 c.first_point-from.ensures c.points_end-last.ensures in (o.0, o.1, omega (arith, o.2, o.3, c.requires.shaped_at.0.within), omega (arith, o.2, o.3, c.requires.shaped_at.1))
 
-pub move_points-far-requires : goal.move_points-far-requires
-move_points-far-requires c = record { pointed = (pointed c.requires.shaped_at.0 c.first_point-from.ensures c.points_end-last.ensures, omega (arith, (in_order c.requires.shaped_at.0 c.first_point-from.ensures c.points_end-last.ensures).3, c.copy_sizes.auto.numbers, c.requires.shaped_at.1)); near = c.requires.near }
+pub move_points-far-requires-clause-pointed : goal.move_points-far-requires-clause-pointed
+move_points-far-requires-clause-pointed c = (pointed c.requires.shaped_at.0 c.first_point-from.ensures c.points_end-last.ensures, omega (arith, (in_order c.requires.shaped_at.0 c.first_point-from.ensures c.points_end-last.ensures).3, c.copy_sizes.auto.numbers, c.requires.shaped_at.1))
 
 pub returns-then-letter-ne66 : goal.returns-then-letter-ne66
 unfolding pointed

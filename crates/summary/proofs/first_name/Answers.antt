@@ -1,6 +1,5 @@
 -- `first_name` meets its contract: the lowest mark is the first layer in the text.
 use native.Mathlib.Omega.{arith}
-use borrow.Author.Rules.{rules}
 use Rattle.summary.proofs.Telling.{not_zero, no_first, mark-within, the_first}
 use Rattle.summary.proofs.first_name.Goals as goal
 

@@ -1,5 +1,4 @@
 -- `foremost` meets its contract: the lower place comes first in the text.
-use borrow.Author.Rules.{rules}
 use Rattle.summary.proofs.Starting.{foremost_none, foremost-name, foremost-before}
 use Rattle.summary.proofs.foremost.Goals as goal
 
@@ -7,10 +6,10 @@ pub gather-requires : goal.gather-requires
 gather-requires c = c.requires
 
 pub returns-then-place-refusal : goal.returns-then-place-refusal
-returns-then-place-refusal c = foremost-name _ _ c.gather.ensures c.in-Over.is c.if-place-refusal.true
+returns-then-place-refusal c = foremost-name _ _ c.gather.ensures c.in-Err.is c.if-place-refusal.true
 
-pub returns-in-Named : goal.returns-in-Named
-returns-in-Named c = foremost_none _ _ c.gather.ensures c.in-Named.is
+pub returns-in-Ok : goal.returns-in-Ok
+returns-in-Ok c = foremost_none _ _ c.gather.ensures c.in-Ok.is
 
 pub returns-else-place-refusal : goal.returns-else-place-refusal
-returns-else-place-refusal c = foremost-before _ _ c.gather.ensures c.in-Over.is c.if-place-refusal.false
+returns-else-place-refusal c = foremost-before _ _ c.gather.ensures c.in-Err.is c.if-place-refusal.false

@@ -1,57 +1,63 @@
 -- `keep_text` meets its contract: `Along` holds before each command, and what is left of the text falls.
-use mathlib.Core.Path.{◌∙◌}
-use Prim.Native.Nat.{◌-◌}
+use mathlib.Core.Path.{◌≡◌}
 use native.Mathlib.Omega.{arith}
 use borrow.Author.Rules.{rules}
-use lib.ListN.{length}
+use Rattle.std.specs.Prelude.{Ok, Err}
+use Rattle.definition.specs.declared.Rule.{Rule}
+use Rattle.definition.specs.Rules.{refuse}
 use Rattle.passing.proofs.Reading.{read_one}
-use Rattle.summary.proofs.Along.{Along, along_begin, few-redefined, may_delete, along_out, words_then, along_other, along_deleted, along-starts, along_begins, size_then, along_on, may_enter, along_defined, along_overfull, along-short}
+use Rattle.summary.proofs.Along.{along_begin, few-redefined, may_delete, along_out, words_then, along_other, along_deleted, along-starts, along_begins, along_on, may_enter, along_defined, along_refused}
 use Rattle.summary.proofs.keep_text.Goals as goal
 
-pub loop-kind-init : goal.loop-kind-init
-loop-kind-init c = along_begin _ _ _ _ _ c.requires.passed.0 c.requires.passed.1 c.requires.passed.2 c.requires.figures_len c.no_counts-counts.ensures
+pub loop-c-init : goal.loop-c-init
+loop-c-init c = along_begin _ _ _ _ _ c.requires.passed.0 c.requires.passed.1 c.requires.passed.2 c.requires.figures_len c.no_counts-counts.ensures
 
 pub read_command-requires : goal.read_command-requires
-read_command-requires c = record { kinds_lent = c.requires.kinds_lent; fit = (c.loop-kind.invariant.fit, omega arith, omega arith) }
+read_command-requires c = record { fit = (c.loop-c.invariant.fit, omega arith, omega arith) }
 
-pub returns-in-Nothing : goal.returns-in-Nothing
-returns-in-Nothing c = along_out c.loop-kind.invariant c.read_command.result _ c.read_command.ensures c.in-Nothing.is
+pub returns-in-None : goal.returns-in-None
+returns-in-None c = along_out c.loop-c.invariant c.read_command.result _ c.read_command.ensures c.in-None.is
 
 pub size_at-symbol-requires : goal.size_at-symbol-requires
-size_at-symbol-requires c = let z = words_then c.loop-kind.invariant c.requires.most_values_in_bounds.0 (read_one c.read_command.ensures c.in-Decoded.is).1 in omega (arith, z)
+size_at-symbol-requires c = let z = words_then c.loop-c.invariant c.requires.most_values_in_bounds.0 (read_one c.read_command.ensures c.in-Some.is).1 in omega (arith, z)
 
 pub delete-stock-requires : goal.delete-stock-requires
-delete-stock-requires c = may_delete c.loop-kind.invariant
+delete-stock-requires c = may_delete c.loop-c.invariant
 
-pub loop-kind-smaller-then-kind-eq68 : goal.loop-kind-smaller-then-kind-eq68
-loop-kind-smaller-then-kind-eq68 c = omega (arith, (read_one c.read_command.ensures c.in-Decoded.is).1.ahead, (read_one c.read_command.ensures c.in-Decoded.is).1.fit.within)
+pub loop-c-smaller-then-kind-eq68 : goal.loop-c-smaller-then-kind-eq68
+loop-c-smaller-then-kind-eq68 c = omega (arith, (read_one c.read_command.ensures c.in-Some.is).1.ahead, (read_one c.read_command.ensures c.in-Some.is).1.fit.within)
 
-pub loop-kind-preserved-then-kind-eq68 : goal.loop-kind-preserved-then-kind-eq68
-loop-kind-preserved-then-kind-eq68 c = along_deleted c.loop-kind.invariant c.requires.most_values_in_bounds.0 (read_one c.read_command.ensures c.in-Decoded.is).1 c.if-kind-eq68.true c.size_at-symbol.ensures c.delete-stock.ensures
+pub loop-c-preserved-then-kind-eq68 : goal.loop-c-preserved-then-kind-eq68
+loop-c-preserved-then-kind-eq68 c = along_deleted c.loop-c.invariant c.requires.most_values_in_bounds.0 (read_one c.read_command.ensures c.in-Some.is).1 c.if-kind-eq68.true c.size_at-symbol.ensures c.delete-stock.ensures
 
 pub start_in-start-requires : goal.start_in-start-requires
-start_in-start-requires c = let z = words_then c.loop-kind.invariant c.requires.most_values_in_bounds.0 (read_one c.read_command.ensures c.in-Decoded.is).1 in omega (arith, z)
+start_in-start-requires c = let z = words_then c.loop-c.invariant c.requires.most_values_in_bounds.0 (read_one c.read_command.ensures c.in-Some.is).1 in omega (arith, z)
 
 pub define-requires : goal.define-requires
-define-requires c = record { kinds_lent = c.requires.kinds_lent; fit = ((read_one c.read_command.ensures c.in-Decoded.is).1.fit, (along-starts c.loop-kind.invariant c.requires.most_values_in_bounds.0 (read_one c.read_command.ensures c.in-Decoded.is).1 c.if-kind-eq83.true _ c.start_in-start.ensures).0, (along-starts c.loop-kind.invariant c.requires.most_values_in_bounds.0 (read_one c.read_command.ensures c.in-Decoded.is).1 c.if-kind-eq83.true _ c.start_in-start.ensures).1); text_len_bound = (c.loop-kind.invariant.passed.short, few-redefined c.loop-kind.invariant); begins = along_begins c.loop-kind.invariant c.requires.most_values_in_bounds.0 (read_one c.read_command.ensures c.in-Decoded.is).1 c.if-kind-eq83.true _ c.start_in-start.ensures }
+define-requires c = record { fit = ((read_one c.read_command.ensures c.in-Some.is).1.fit, (along-starts c.loop-c.invariant c.requires.most_values_in_bounds.0 (read_one c.read_command.ensures c.in-Some.is).1 c.if-kind-eq83.true _ c.start_in-start.ensures).0, (along-starts c.loop-c.invariant c.requires.most_values_in_bounds.0 (read_one c.read_command.ensures c.in-Some.is).1 c.if-kind-eq83.true _ c.start_in-start.ensures).1); text_len_bound = (c.loop-c.invariant.passed.short, few-redefined c.loop-c.invariant); begins = along_begins c.loop-c.invariant c.requires.most_values_in_bounds.0 (read_one c.read_command.ensures c.in-Some.is).1 c.if-kind-eq83.true _ c.start_in-start.ensures }
 
 pub enter-requires : goal.enter-requires
-enter-requires c = record { shapes_len = (c.loop-kind.invariant.afresh.shapes_sized, c.loop-kind.invariant.afresh.calls_sized, c.loop-kind.invariant.afresh.layers_sized); more = (may_enter c.loop-kind.invariant c.requires.most_values_in_bounds.0 (read_one c.read_command.ensures c.in-Decoded.is).1 c.if-kind-eq83.true _ c.start_in-start.ensures c.define.ensures c.in-Taken.is).0; stocked = ((may_enter c.loop-kind.invariant c.requires.most_values_in_bounds.0 (read_one c.read_command.ensures c.in-Decoded.is).1 c.if-kind-eq83.true _ c.start_in-start.ensures c.define.ensures c.in-Taken.is).1.0, (may_enter c.loop-kind.invariant c.requires.most_values_in_bounds.0 (read_one c.read_command.ensures c.in-Decoded.is).1 c.if-kind-eq83.true _ c.start_in-start.ensures c.define.ensures c.in-Taken.is).1.1, c.requires.most_values_in_bounds.1) }
+enter-requires c =
+    let q : c.define.result ≡ Ok c.in_ok-taken-in-Some.taken = grind arith in
+    record { shapes_len = (c.loop-c.invariant.afresh.shapes_sized, c.loop-c.invariant.afresh.calls_sized, c.loop-c.invariant.afresh.layers_sized); more = (may_enter c.loop-c.invariant c.requires.most_values_in_bounds.0 (read_one c.read_command.ensures c.in-Some.is).1 c.if-kind-eq83.true _ c.start_in-start.ensures c.define.ensures q).0; stocked = ((may_enter c.loop-c.invariant c.requires.most_values_in_bounds.0 (read_one c.read_command.ensures c.in-Some.is).1 c.if-kind-eq83.true _ c.start_in-start.ensures c.define.ensures q).1.0, (may_enter c.loop-c.invariant c.requires.most_values_in_bounds.0 (read_one c.read_command.ensures c.in-Some.is).1 c.if-kind-eq83.true _ c.start_in-start.ensures c.define.ensures q).1.1, c.requires.most_values_in_bounds.1) }
 
-pub loop-kind-smaller-in-Taken : goal.loop-kind-smaller-in-Taken
-loop-kind-smaller-in-Taken c = along_on c.loop-kind.invariant c.requires.most_values_in_bounds.0 (read_one c.read_command.ensures c.in-Decoded.is).1 c.if-kind-eq83.true _ c.start_in-start.ensures c.define.ensures c.in-Taken.is
+pub loop-c-smaller-then-kind-eq83 : goal.loop-c-smaller-then-kind-eq83
+loop-c-smaller-then-kind-eq83 c =
+    let q : c.define.result ≡ Ok c.in_ok-taken-in-Some.taken = grind arith in
+    along_on c.loop-c.invariant c.requires.most_values_in_bounds.0 (read_one c.read_command.ensures c.in-Some.is).1 c.if-kind-eq83.true _ c.start_in-start.ensures c.define.ensures q
 
-pub loop-kind-preserved-in-Taken : goal.loop-kind-preserved-in-Taken
-loop-kind-preserved-in-Taken c = along_defined c.loop-kind.invariant c.requires.most_values_in_bounds.0 (read_one c.read_command.ensures c.in-Decoded.is).1 c.if-kind-eq83.true _ c.start_in-start.ensures c.define.ensures c.in-Taken.is c.enter.ensures
+pub loop-c-preserved-then-kind-eq83 : goal.loop-c-preserved-then-kind-eq83
+loop-c-preserved-then-kind-eq83 c =
+    let q : c.define.result ≡ Ok c.in_ok-taken-in-Some.taken = grind arith in
+    along_defined c.loop-c.invariant c.requires.most_values_in_bounds.0 (read_one c.read_command.ensures c.in-Some.is).1 c.if-kind-eq83.true _ c.start_in-start.ensures c.define.ensures q c.enter.ensures
 
-pub returns-in-Overfull : goal.returns-in-Overfull
-returns-in-Overfull c = along_overfull c.loop-kind.invariant c.requires.most_values_in_bounds.0 (read_one c.read_command.ensures c.in-Decoded.is).1 c.if-kind-eq83.true _ c.start_in-start.ensures c.define.ensures c.in-Overfull.is
+pub returns-in_err-taken-in-Some : goal.returns-in_err-taken-in-Some
+returns-in_err-taken-in-Some c =
+    let q : (rule : Rule) × (c.define.result ≡ Err rule) × (c.from_residual.result ≡ Err (refuse rule c.in-Some.c.place)) = search rules in
+    rw q.2 (along_refused c.loop-c.invariant c.requires.most_values_in_bounds.0 (read_one c.read_command.ensures c.in-Some.is).1 c.if-kind-eq83.true _ c.start_in-start.ensures c.define.ensures {rule = q.0} q.1)
 
-pub returns-in-Short : goal.returns-in-Short
-returns-in-Short c = along-short c.loop-kind.invariant c.requires.most_values_in_bounds.0 (read_one c.read_command.ensures c.in-Decoded.is).1 c.if-kind-eq83.true _ c.start_in-start.ensures c.define.ensures c.in-Short.is
+pub loop-c-smaller : goal.loop-c-smaller
+loop-c-smaller c = omega (arith, (read_one c.read_command.ensures c.in-Some.is).1.ahead, (read_one c.read_command.ensures c.in-Some.is).1.fit.within)
 
-pub loop-kind-smaller : goal.loop-kind-smaller
-loop-kind-smaller c = omega (arith, (read_one c.read_command.ensures c.in-Decoded.is).1.ahead, (read_one c.read_command.ensures c.in-Decoded.is).1.fit.within)
-
-pub loop-kind-preserved : goal.loop-kind-preserved
-loop-kind-preserved c = along_other c.loop-kind.invariant c.requires.most_values_in_bounds.0 (read_one c.read_command.ensures c.in-Decoded.is).1 c.if-kind-eq68.false c.if-kind-eq83.false
+pub loop-c-preserved : goal.loop-c-preserved
+loop-c-preserved c = along_other c.loop-c.invariant c.requires.most_values_in_bounds.0 (read_one c.read_command.ensures c.in-Some.is).1 c.if-kind-eq68.false c.if-kind-eq83.false

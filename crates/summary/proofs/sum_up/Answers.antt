@@ -1,6 +1,5 @@
 -- `sum_up` meets its contract.
 use mathlib.Core.Path.{refl}
-use borrow.Author.Rules.{rules}
 use Rattle.summary.proofs.Telling.{starts-stopped, starts-named, starts-told}
 use Rattle.summary.proofs.sum_up.Goals as goal
 
@@ -8,10 +7,10 @@ pub begin-requires : goal.begin-requires
 begin-requires c = refl
 
 pub tell_passed-requires : goal.tell_passed-requires
-tell_passed-requires c = starts-named _ _ c.begin.ensures c.in-Named.is
+tell_passed-requires c = starts-named _ _ c.begin.ensures c.in-Ok.is
 
-pub returns-in-Stopped : goal.returns-in-Stopped
-returns-in-Stopped c = starts-stopped _ _ c.begin.ensures c.in-Stopped.is c.no_summary.ensures
+pub returns-in-Err : goal.returns-in-Err
+returns-in-Err c = starts-stopped _ _ c.begin.ensures c.in-Err.is c.no_summary.ensures
 
-pub returns-in-Named : goal.returns-in-Named
-returns-in-Named c = starts-told _ _ c.begin.ensures c.in-Named.is c.tell_passed.ensures
+pub returns-in-Ok : goal.returns-in-Ok
+returns-in-Ok c = starts-told _ _ c.begin.ensures c.in-Ok.is c.tell_passed.ensures

@@ -1,7 +1,6 @@
 -- `tell` meets its contract: the row's own numbers, and what a call of the symbol gives.
 use mathlib.Core.Path.{refl}
 use native.Mathlib.Omega.{arith}
-use borrow.Author.Rules.{rules}
 use Rattle.summary.proofs.Telling.{given_none, given-row, row_within, own_there, reply_there, none_there}
 use Rattle.summary.proofs.tell.Goals as goal
 
@@ -12,28 +11,28 @@ pub tell_reply-requires : goal.tell_reply-requires
 tell_reply-requires c = given_none c.requires.noted
 
 pub bounds-figures-row : goal.bounds-figures-row
-bounds-figures-row c = let z = row_within c.requires.noted c.requires.held _ c.find.ensures c.in-Live.is in omega (arith, z, c.requires.held.sorted.few)
+bounds-figures-row c = let z = row_within c.requires.noted c.requires.held _ c.find.ensures c.in-Some.is in omega (arith, z, c.requires.held.sorted.few)
 
 pub offset_bounds-figures-row : goal.offset_bounds-figures-row
-offset_bounds-figures-row c = let z = row_within c.requires.noted c.requires.held _ c.find.ensures c.in-Live.is in omega (arith, z, c.requires.held.sorted.few)
+offset_bounds-figures-row c = let z = row_within c.requires.noted c.requires.held _ c.find.ensures c.in-Some.is in omega (arith, z, c.requires.held.sorted.few)
 
 pub bounds-calls-row : goal.bounds-calls-row
-bounds-calls-row c = let z = row_within c.requires.noted c.requires.held _ c.find.ensures c.in-Live.is in omega (arith, z, c.requires.held.sorted.few)
+bounds-calls-row c = let z = row_within c.requires.noted c.requires.held _ c.find.ensures c.in-Some.is in omega (arith, z, c.requires.held.sorted.few)
 
 pub offset_bounds-calls-row : goal.offset_bounds-calls-row
-offset_bounds-calls-row c = let z = row_within c.requires.noted c.requires.held _ c.find.ensures c.in-Live.is in omega (arith, z, c.requires.held.sorted.few)
+offset_bounds-calls-row c = let z = row_within c.requires.noted c.requires.held _ c.find.ensures c.in-Some.is in omega (arith, z, c.requires.held.sorted.few)
 
 pub bounds-layers-row : goal.bounds-layers-row
-bounds-layers-row c = let z = row_within c.requires.noted c.requires.held _ c.find.ensures c.in-Live.is in omega (arith, z, c.requires.held.sorted.few)
+bounds-layers-row c = let z = row_within c.requires.noted c.requires.held _ c.find.ensures c.in-Some.is in omega (arith, z, c.requires.held.sorted.few)
 
 pub offset_bounds-layers-row : goal.offset_bounds-layers-row
-offset_bounds-layers-row c = let z = row_within c.requires.noted c.requires.held _ c.find.ensures c.in-Live.is in omega (arith, z, c.requires.held.sorted.few)
+offset_bounds-layers-row c = let z = row_within c.requires.noted c.requires.held _ c.find.ensures c.in-Some.is in omega (arith, z, c.requires.held.sorted.few)
 
-pub tell_reply-requires-in-Live : goal.tell_reply-requires-in-Live
-tell_reply-requires-in-Live c = given-row _ c.requires.noted (reply_there c.requires.noted c.requires.held _ _ c.ask-reply.ensures.symbol_replies) (own_there c.requires.noted c.requires.held _ c.find.ensures c.in-Live.is refl)
+pub tell_reply-requires-in-Some : goal.tell_reply-requires-in-Some
+tell_reply-requires-in-Some c = given-row _ c.requires.noted (reply_there c.requires.noted c.requires.held _ _ c.ask-reply.ensures.symbol_replies) (own_there c.requires.noted c.requires.held _ c.find.ensures c.in-Some.is refl)
 
-pub returns-in-Nothing : goal.returns-in-Nothing
-returns-in-Nothing c = λ count ns t n h. none_there n h _ c.find.ensures c.in-Nothing.is c.tell_reply.ensures
+pub returns-in-None : goal.returns-in-None
+returns-in-None c = λ count ns t n h. none_there n h _ c.find.ensures c.in-None.is c.tell_reply.ensures
 
-pub returns-in-Live : goal.returns-in-Live
-returns-in-Live c = λ count ns t n h. c.tell_reply-in-Live.ensures count ns _ _ n (reply_there n h _ _ c.ask-reply.ensures.symbol_replies) (own_there n h _ c.find.ensures c.in-Live.is refl)
+pub returns-in-Some : goal.returns-in-Some
+returns-in-Some c = λ count ns t n h. c.tell_reply-in-Some.ensures count ns _ _ n (reply_there n h _ _ c.ask-reply.ensures.symbol_replies) (own_there n h _ c.find.ensures c.in-Some.is refl)
