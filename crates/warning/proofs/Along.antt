@@ -1,7 +1,7 @@
 -- What the loop of `warn_text` keeps: where the pass stands (crates/passing, proofs/Stands.antt), what is left to warn of, what the last search found, and how
 -- far the lines can reach.
 -- Assumes nothing.
-use Rattle.std.specs.Prelude.{if◌then◌else◌}
+use Rattle.std.specs.Prelude.{Option, Some, None, Result, Ok, Err, if◌then◌else◌}
 use mathlib.Core.Path.{◌≡◌, refl, sym, ap, ap₂, ◌∙◌, subst}
 use mathlib.Core.Bool.{Bool, true, false}
 use mathlib.Core.List.{List, [], ◌∷◌, ◌++◌, flat_map, append-nil}
@@ -11,6 +11,8 @@ use borrow.Author.Tests.{lt-ltb, le-ltb, eqb-true, eqb-false}
 use lib.Dec.{eqb}
 use lib.IntN.{ℤ, pos, nat_abs}
 use lib.ListN.{length, get_or}
+use Rattle.definition.specs.declared.Rule.{Rule}
+use Rattle.definition.specs.declared.Rule.TheVariants.{TooManyDefinitions, TooFewWords}
 use Rattle.definition.specs.Limits.{most_definitions}
 use Rattle.definition.specs.Words.{Placed, at, first, none?}
 use Rattle.definition.specs.Commands.{Number, Command, delete, commands}
@@ -25,6 +27,7 @@ use Rattle.pieces.specs.Pieces.{start as text_start}
 use Rattle.pieces.specs.declared.Spot.{Spot}
 use Rattle.rules.specs.Letters.{letter_d, letter_l}
 use Rattle.rules.specs.Written.{Written}
+use Rattle.commands.specs.declared.Decoded.{Decoded}
 use Rattle.commands.specs.Words.{DecodedOne, ReadsCommand}
 use Rattle.counts.specs.declared.Counts.{Counts}
 use Rattle.counts.specs.Counting.{tally, zero_counts}
@@ -38,21 +41,17 @@ use Rattle.library.proofs.Holding.{held-table}
 use Rattle.keeping.specs.Keeping.{most_words, Kept, Begins, Defines, DefinesAt}
 use Rattle.keeping.specs.declared.Start.{Start}
 use Rattle.keeping.specs.declared.Stock.{Stock}
+use Rattle.keeping.specs.declared.Taken.{Taken}
 use Rattle.passing.specs.Passed.{Passed, outputs, start_in, Deletes}
 use Rattle.passing.proofs.Letters.{is_layer, is_delete}
 use Rattle.passing.proofs.Reading.{Met, run_kept, read_none, third_word, none_met}
 use Rattle.passing.proofs.Outer.{is_output, is_idle}
 use Rattle.passing.proofs.Stands.{Stands, nothing_kept, to_do, at_start, deletable, met, deeds_are, past_layer, layer-left, past_delete, delete-left, past_other, open_there, made, define-left, past_define, start-within, may_define, comes, takes}
 use Rattle.dangling.specs.Searched.{Searched}
-use Rattle.warning.specs.Warned.{warned_at, stops_at, warned_from, warned_of, redefined_line, dangling_line, Warns}
+use Rattle.warning.specs.Warned.{warned_at, stops_at, warned_from, warned_of, redefined_line, dangling_line, SearchedLast, Warns}
 use Rattle.warning.proofs.LeanCalls.{lean-dangling}
 use Rattle.warning.proofs.Agrees.{warned-first, one_warned}
 use Rattle.warning.proofs.Dear.{dear, dear_within}
-use Rattle.std.specs.Prelude.{Err, None, Ok, Option, Result}
-use Rattle.commands.specs.declared.Decoded.{Decoded}
-use Rattle.keeping.specs.declared.Taken.{Taken}
-use Rattle.definition.specs.declared.Rule.{Rule}
-use Rattle.definition.specs.declared.Rule.TheVariants.{TooManyDefinitions, TooFewWords}
 
 -- ---- what is warned of a deed
 
@@ -123,22 +122,19 @@ redefined-due c c' d t e = go (none? (find d.symbol t)) (ap (λ (x : _). x.redef
 -- ---- between two commands
 
 pub record Along (t : List ℕ) (w : ℕ) (words₀ : List ℤ) (old : List ℕ) (from : ℕ) (rows : List ℕ) (b words : List ℤ) (out : List ℕ) (spot : Spot) (stock : Stock) (counts : Counts)
-    (known : Bool) (found : Option ℕ) (at : ℕ) : Type 0 where
+    (searched : Option (Option ℕ)) (at : ℕ) : Type 0 where
   pub passed : Passed t
   pub stands : Stands t rows b stock spot
   pub fit : Fit t spot
   pub bodies_kept : length b ≡ w
   pub words_kept : length words ≡ length words₀
   pub few : counts.redefinitions ≤ spot.at
-  pub searched : known ≡ true → Searched rows b stock.live found
+  pub last : SearchedLast rows b stock.live searched
   pub going : WrittenSoFar old out from at (warned_of w passed) (warned_from w stands.table (to_do stands))
   pub near : at + dear (to_do stands) ≤ from + dear (deeds (outside []) (commands 0 passed.letters))
 
-never : ◌≡◌ {A = Bool} false true → ⊥
-never z = let y : ◌≡◌ {A = ℕ} 0 1 = cc in omega arith
-
 pub along_begin : {t : List ℕ} (rows : List ℕ) (b words : List ℤ) (out : List ℕ) (from : ℕ) → Passed t → length rows ≡ row_numbers → length b ≤ most_words → {c : Counts} → c ≡ zero_counts
-    → Along t (length b) words out from rows b words out text_start nothing_kept c false None from
+    → Along t (length b) words out from rows b words out text_start nothing_kept c None from
 along_begin {t} rows b words out from p s h e = record {
   passed = p;
   stands = at_start p rows b s h;
@@ -146,15 +142,15 @@ along_begin {t} rows b words out from p s h e = record {
   bodies_kept = refl;
   words_kept = refl;
   few = let z = ap (λ (x : Counts). x.redefinitions) e in omega (arith, z);
-  searched = λ z. absurd (never z);
+  last = tt;
   going = begun out from _;
   near = omega arith;
 }
 
 module _ {t : List ℕ} {w : ℕ} {words₀ : List ℤ} {old : List ℕ} {from : ℕ} {rows : List ℕ} {b words : List ℤ} {out : List ℕ} {spot : Spot} {stock : Stock} {counts : Counts}
-    {known : Bool} {found : Option ℕ} {at' : ℕ} (u : Along t w words₀ old from rows b words out spot stock counts known found at') where
-  abbrev Next : List ℕ → List ℤ → List ℤ → List ℕ → Spot → Stock → Counts → Bool → Option ℕ → ℕ → Type 0
-  Next rows' b' words' out' to stock' counts' known' found' next = Along t w words₀ old from rows' b' words' out' to stock' counts' known' found' next
+    {searched : Option (Option ℕ)} {at' : ℕ} (u : Along t w words₀ old from rows b words out spot stock counts searched at') where
+  abbrev Next : List ℕ → List ℤ → List ℤ → List ℕ → Spot → Stock → Counts → Option (Option ℕ) → ℕ → Type 0
+  Next rows' b' words' out' to stock' counts' searched' next = Along t w words₀ old from rows' b' words' out' to stock' counts' searched' next
 
   abbrev s : Stands t rows b stock spot
   s = u.stands
@@ -192,7 +188,7 @@ module _ {t : List ℕ} {w : ℕ} {words₀ : List ℤ} {old : List ℕ} {from :
 
     -- a command that does nothing to be warned of
     passes_by : (s' : Stands t rows b stock to) → s'.table ≡ s.table → warned_from w s.table (to_do s) ≡ warned_from w s.table (to_do s') → dear (to_do s) ≡ dear (to_do s')
-        → Next rows b words' out to stock counts known found at'
+        → Next rows b words' out to stock counts searched at'
     passes_by s' e f g = record {
       passed = u.passed;
       stands = s';
@@ -200,18 +196,18 @@ module _ {t : List ℕ} {w : ℕ} {words₀ : List ℤ} {old : List ℕ} {from :
       bodies_kept = u.bodies_kept;
       words_kept = run_kept r ∙ u.words_kept;
       few = omega (arith, u.few, r.ahead);
-      searched = u.searched;
+      last = u.last;
       going = subst (λ (l : List ℕ). WrittenSoFar old out from at' (warned_of w u.passed) l) (f ∙ ap (λ (x : Table). warned_from w x (to_do s')) (sym e)) u.going;
       near = let h = u.near in omega (arith, h, g);
     }
 
-    left-same : (s' : Stands t rows b stock to) → s'.table ≡ s.table → to_do s ≡ to_do s' → Next rows b words' out to stock counts known found at'
+    left-same : (s' : Stands t rows b stock to) → s'.table ≡ s.table → to_do s ≡ to_do s' → Next rows b words' out to stock counts searched at'
     left-same s' e f = passes_by s' e (ap (warned_from w s.table) f) (ap dear f)
 
-    pub along_other : (kind ≡ letter_d → ⊥) → (kind ≡ letter_s → ⊥) → Next rows b words' out to stock counts known found at'
+    pub along_other : (kind ≡ letter_d → ⊥) → (kind ≡ letter_s → ⊥) → Next rows b words' out to stock counts searched at'
     along_other no_d no_s = by_layer (eqb kind letter_l) refl
       where
-        by_output : (kind ≡ letter_l → ⊥) → (x : Bool) → outputs kind ≡ x → Next rows b words' out to stock counts known found at'
+        by_output : (kind ≡ letter_l → ⊥) → (x : Bool) → outputs kind ≡ x → Next rows b words' out to stock counts searched at'
         by_output no_l true e =
             let o = is_output s.closed place m.rest m.voice e no_l no_d no_s in
             let f : to_do s ≡ output (at place o.step) ∷ deeds s.standing m.rest = deeds_are s m refl ∙ o.deed in
@@ -222,7 +218,7 @@ module _ {t : List ℕ} {w : ℕ} {words₀ : List ℤ} {old : List ℕ} {from :
             let i = is_idle s.closed place m.rest m.voice e no_l no_d no_s in
             left-same (past_other s m i.stays) refl (deeds_are s m refl ∙ i.deed)
 
-        by_layer : (x : Bool) → eqb kind letter_l ≡ x → Next rows b words' out to stock counts known found at'
+        by_layer : (x : Bool) → eqb kind letter_l ≡ x → Next rows b words' out to stock counts searched at'
         by_layer true e =
             let i = is_layer m.voice (eqb-true kind letter_l e) in
             left-same (past_layer s m i.0 i.1) refl (layer-left s m i.0 i.1)
@@ -247,7 +243,7 @@ module _ {t : List ℕ} {w : ℕ} {words₀ : List ℤ} {old : List ℕ} {from :
       may_search = let k = after_it.kept in (k.sorted, k.stocked, k.short)
 
       pub along_deleted : {found' : Option ℕ} {out' : List ℕ} {next : ℕ} → Searched rows b left.live found'
-          → Writes out out' at' next (dangling_line found') × (next ≤ at' + 60) → Next rows b words' out' to left counts true found' next
+          → Writes out out' at' next (dangling_line found') × (next ≤ at' + 60) → Next rows b words' out' to left counts (Some found') next
       along_deleted {found'} k (x, far) =
           let d = at place (nat_abs gone.what) in
           let ds = deeds s.standing m.rest in
@@ -259,7 +255,7 @@ module _ {t : List ℕ} {w : ℕ} {words₀ : List ℤ} {old : List ℕ} {from :
             bodies_kept = u.bodies_kept;
             words_kept = run_kept r ∙ u.words_kept;
             few = omega (arith, u.few, r.ahead);
-            searched = λ z. k;
+            last = k;
             going =
                 goes_on (dangling_line found') u.going
                 (ap (warned_from w s.table) l ∙ (remove-left w s.table d ds
@@ -287,13 +283,13 @@ module _ {t : List ℕ} {w : ℕ} {words₀ : List ℤ} {old : List ℕ} {from :
         abbrev later : List Deed
         later = deeds (open_there s m e) m.rest
 
-        pub along_on : {stock' : Stock} {c' : Counts} {to' : Spot} → d ≡ Ok (record { stock = stock'; counts = c'; to = to' }) → (length t - to'.at < length t - spot.at)
+        pub along_on : {taken : Taken} → d ≡ Ok taken → (length t - taken.to.at < length t - spot.at)
         along_on f = let k = takes s m e start q defines f in omega (arith, k.ahead, k.fit.within, r.ahead)
 
-        pub along_defined : {stock' : Stock} {c' : Counts} {to' : Spot} {found' : Option ℕ} {out' : List ℕ} {next : ℕ} → d ≡ Ok (record { stock = stock'; counts = c'; to = to' })
-            → Writes out out' at' next (redefined_line start.symbol counts.redefinitions c'.redefinitions) × (next ≤ at' + 48)
-            → Next rows' b' words' out' to' stock' c' false found' next
-        along_defined {stock'} {c'} {to'} f (x, far) =
+        pub along_defined : {taken : Taken} {out' : List ℕ} {next : ℕ} → d ≡ Ok taken
+            → Writes out out' at' next (redefined_line start.symbol counts.redefinitions taken.counts.redefinitions) × (next ≤ at' + 48)
+            → Next rows' b' words' out' taken.to taken.stock taken.counts None next
+        along_defined {taken} f (x, far) =
             let k = takes s m e start q defines f in
             let same : start.symbol ≡ new.symbol = ap (λ (y : Start). y.symbol) q in
             let z = k.kept.enough in
@@ -304,13 +300,13 @@ module _ {t : List ℕ} {w : ℕ} {words₀ : List ℤ} {old : List ℕ} {from :
               bodies_kept = size_then;
               words_kept = run_kept r ∙ u.words_kept;
               few = omega (arith, u.few, k.redefined, k.ahead, r.ahead);
-              searched = λ y. absurd (never y);
+              last = tt;
               going =
-                  goes_on (redefined_line start.symbol counts.redefinitions c'.redefinitions) u.going
+                  goes_on (redefined_line start.symbol counts.redefinitions taken.counts.redefinitions) u.going
                   (ap (warned_from w s.table) (define-left s m e)
                   ∙ (enter-left w s.table new later k.few (let y = size_then in omega (arith, y, z))
                   ∙ ap₂ {C = List ℕ} (λ (y v : List ℕ). y ++ v)
-                  (sym (ap (λ (y : ℕ). redefined_line y counts.redefinitions c'.redefinitions) same ∙ redefined-due counts c' new s.table k.counts_so))
+                  (sym (ap (λ (y : ℕ). redefined_line y counts.redefinitions taken.counts.redefinitions) same ∙ redefined-due counts taken.counts new s.table k.counts_so))
                   (ap (warned_from w (enter new s.table)) k.passes.left)))
                   x;
               near =
@@ -320,19 +316,21 @@ module _ {t : List ℕ} {w : ℕ} {words₀ : List ℤ} {old : List ℕ} {from :
                   omega (arith, h, g, v, far);
             }
 
-        pub along_overfull : d ≡ (Err TooManyDefinitions) → Warns t w old out from at'
+        -- it is one too many, or more words are needed than were lent
+        none-left : (rule : Rule) → d ≡ Err rule → warned_from w s.table (define new ∷ later) ≡ []
         unfolding Defines
-        along_overfull f = along-over (ap (warned_from w s.table) (define-left s m e) ∙ overfull_left w s.table new later (comes s m e start q defines f))
-
-        pub along-short : d ≡ (Err TooFewWords) → Warns t w old out from at'
-        unfolding Defines
-        along-short f =
+        none-left TooManyDefinitions f = overfull_left w s.table new later (comes s m e start q defines f)
+        none-left TooFewWords f =
             let k = comes s m e start q defines f in
             let z = k.1 in
-            along-over (ap (warned_from w s.table) (define-left s m e) ∙ short-left w s.table new later k.0 (let y = size_then in omega (arith, y, z)))
+            short-left w s.table new later k.0 (let y = size_then in omega (arith, y, z))
+        none-left _ f = absurd (comes s m e start q defines f)
+
+        pub along_refused : {rule : Rule} → d ≡ Err rule → Warns t w old out from at'
+        along_refused {rule} f = along-over (ap (warned_from w s.table) (define-left s m e) ∙ none-left rule f)
 
 -- ---- a search that is not made again
 
-pub same_found : (rows : List ℕ) (b : List ℤ) (found : Option ℕ) {before live : ℕ} {known : Bool} → (known ≡ true → Searched rows b before found) → known ≡ true → live ≡ before
+pub same_found : (rows : List ℕ) (b : List ℤ) {found : Option ℕ} {before live : ℕ} {searched : Option (Option ℕ)} → SearchedLast rows b before searched → searched ≡ Some found → live ≡ before
     → Searched rows b live found
-same_found rows b found f k e = subst (λ (n : ℕ). Searched rows b n found) (sym e) (f k)
+same_found rows b {found} {before} k f e = subst (λ (n : ℕ). Searched rows b n found) (sym e) (subst (SearchedLast rows b before) f k)

@@ -1,5 +1,6 @@
 -- Warnings of any text: what refusals 1 to 9 say of it is whether it has some, and two accounts of them are one.
 -- Assumes nothing.
+use Rattle.std.specs.Prelude.{Result, Ok, Err}
 use mathlib.Core.Path.{◌≡◌, refl, sym, ap, ◌∙◌, subst}
 use mathlib.Core.List.{List, []}
 use mathlib.Core.Option.{Option, none}
@@ -23,10 +24,9 @@ use Rattle.reader.specs.Screened.{Screened, over, within}
 use Rattle.reader.proofs.Promises.{passes}
 use Rattle.warning.specs.Warned.{Warns, WarnedAny, of_passed, of_refused, WarnsAny}
 use Rattle.warning.proofs.Agrees.{one_warned, accepted-passed, accepted-warned}
-use Rattle.std.specs.Prelude.{Err, Ok, Result}
 
 never_refused : {k : ℕ} {why : Refusal} → Ok k ≡ Err why → ⊥
-never_refused e = let z : ◌≡◌ {A = ℕ} 0 1 = cc in omega arith
+never_refused e = cc
 
 not_judged : {t : List ℕ} (why : Refusal) (v : Result Unit ℕ) → Judged t v → by_verdict t v (Err why) → Passed t → ⊥
 not_judged why (Ok _) g e p =

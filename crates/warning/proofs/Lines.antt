@@ -1,5 +1,6 @@
 -- A warning's line, one write after the other, and how long it can be: a number of 64 bits has at most 20 digits.
 -- Assumes nothing.
+use Rattle.std.specs.Prelude.{Option, Some, None}
 use mathlib.Core.Path.{◌≡◌, sym, ap, ◌∙◌}
 use mathlib.Core.List.{List, [], ◌∷◌, flat_map, append-nil}
 use Prim.Native.Nat.{ℕ, ◌+◌, ◌≤◌, ◌<◌}
@@ -12,7 +13,6 @@ use Rattle.digits.specs.Writes.{Writes}
 use Rattle.digits.proofs.Digits.{digits-64}
 use Rattle.digits.proofs.Writing.{both, nothing, same_bytes}
 use Rattle.warning.specs.Warned.{redefined_line, dangling_line}
-use Rattle.std.specs.Prelude.{None, Option, Some}
 
 abbrev Laid : List ℕ → List ℕ → ℕ → ℕ → List ℕ → ℕ → Type 0
 Laid old new at r bytes most = Writes old new at r bytes × (r ≤ at + most)

@@ -1,7 +1,7 @@
 -- What is warned of deeds, one after another, up to a definition that refusal 10 or 25 meets. A running account, not to be believed: of an accepted text it is
 -- the definition's `warning_lines` (proofs/Agrees.antt).
 -- Assumes nothing.
-use Rattle.std.specs.Prelude.{Bool, false, ◌||◌, ℕ, ◌+◌, ◌*◌, ◌≤◌, ltb, length, if◌then◌else◌}
+use Rattle.std.specs.Prelude.{Bool, false, ◌||◌, ℕ, Option, Some, None, ◌+◌, ◌*◌, ◌≤◌, ltb, ℤ, length, if◌then◌else◌}
 use mathlib.Core.List.{List, [], ◌∷◌, ◌++◌, flat_map}
 use Rattle.definition.specs.Limits.{most_definitions}
 use Rattle.definition.specs.Commands.{commands}
@@ -12,8 +12,7 @@ use Rattle.definition.specs.Held.{words_in}
 use Rattle.definition.specs.Warnings.{redefined, warnings_at, warning_line}
 use Rattle.digits.specs.Writes.{Writes}
 use Rattle.passing.specs.Passed.{Passed}
-use Rattle.dangling.specs.Searched.{warning_by}
-use Rattle.std.specs.Prelude.{Option}
+use Rattle.dangling.specs.Searched.{warning_by, Searched}
 
 unfoldable pub warned_at : Table → Deed → List ℕ
 warned_at t (define d) = flat_map warning_line (warnings_at (entered d t))
@@ -39,6 +38,11 @@ redefined_line n before after = if ltb before after then warning_line (redefined
 
 abbrev pub dangling_line : Option ℕ → List ℕ
 dangling_line d = flat_map warning_line (warning_by d)
+
+-- what the last search found, if the table has not changed since
+abbrev pub SearchedLast : (rows : List ℕ) (b : List ℤ) (live : ℕ) → Option (Option ℕ) → Type 0
+SearchedLast rows b live (Some found) = Searched rows b live found
+SearchedLast rows b live None = Unit {0}
 
 -- the contract of `warn`. A DD has four bytes at least, and its line at most sixty
 pub record Warns (t : List ℕ) (words : ℕ) (old new : List ℕ) (from r : ℕ) : Type 0 where

@@ -2,7 +2,7 @@
 // commands. What is live is asked of crate dangling, and not again before the table changes.
 #![tactic(auto)]
 
-ghost use Rattle.std.specs.Prelude.{◌≡◌, true, ◌+◌, ◌^◌, ◌≤◌, length};
+ghost use Rattle.std.specs.Prelude.{◌≡◌, ◌+◌, ◌^◌, ◌≤◌, length};
 ghost use Rattle.moves.specs.Moves.{most_values};
 ghost use Rattle.library.specs.Memory.{row_numbers};
 ghost use Rattle.library.specs.Sound.{Stocked};
@@ -11,7 +11,7 @@ ghost use Rattle.keeping.specs.Keeping.{most_words};
 ghost use Rattle.passing.specs.Passed.{Passed};
 ghost use Rattle.dangling.specs.Searched.{Searched};
 ghost use Rattle.digits.specs.Writes.{Writes};
-ghost use Rattle.warning.specs.Warned.{redefined_line, dangling_line, Warns, WarnsAny};
+ghost use Rattle.warning.specs.Warned.{redefined_line, dangling_line, SearchedLast, Warns, WarnsAny};
 
 use keeping::Stock;
 
@@ -48,26 +48,23 @@ fn put_dangling(out: &mut [u8], at: usize, found: Option<usize>) -> usize
     }
 }
 
-// What a search finds after a DD that left `live` of `before` rows. Where it removed nothing, and the table has not changed since the last search, it would
-// find the same.
+// What a search finds after a DD that left `live` of `before` rows, by what the last one found, if the table has not changed since. Where the DD removed
+// nothing, it would find the same.
 fn find_dangling(
     bodies: &[i32],
     rows: &[usize; library::ROW_NUMBERS],
     before: usize,
     live: usize,
-    known: bool,
-    found: Option<usize>,
+    searched: Option<Option<usize>>,
 ) -> Option<usize>
     requires sorted { Sorted rows.now live × Stocked rows.now bodies.now live × (length bodies.now ≤ most_words) }
-    requires searched { known ≡ true → Searched rows.now bodies.now before found }
+    requires searched { SearchedLast rows.now bodies.now before searched }
     ensures { Searched rows.now bodies.now live result }
 {
-    if known {
-        if live == before {
-            return found;
-        }
+    match searched {
+        Some(found) if live == before => found,
+        _ => dangling::first_dangling(bodies, rows, live),
     }
-    dangling::first_dangling(bodies, rows, live)
 }
 
 // The commands of a text from its start on. A definition that is one too many or needs more words than were lent ends the pass, as it ends the drawing.
@@ -91,8 +88,7 @@ fn warn_text(
         needed: 0,
     };
     let mut counts = counts::no_counts();
-    let mut known = false;
-    let mut found = None;
+    let mut searched = None;
     let mut at = from;
     loop {
         match commands::read_command(text, recogniser, words, spot, 1, 1) {
@@ -107,8 +103,8 @@ fn warn_text(
                 if kind == b'D' {
                     let symbol = shapes::size_at(words, 2);
                     let left = passing::delete(rows, stock, symbol);
-                    found = find_dangling(bodies, rows, stock.live, left.live, known, found);
-                    known = true;
+                    let found = find_dangling(bodies, rows, stock.live, left.live, searched);
+                    searched = Some(found);
                     stock = left;
                     at = put_dangling(out, at, found);
                 } else if kind == b'S' {
@@ -123,7 +119,7 @@ fn warn_text(
                             spot = taken.to;
                             stock = taken.stock;
                             counts = taken.counts;
-                            known = false;
+                            searched = None;
                         }
                         Err(_) => {
                             return at;

@@ -2,5 +2,5 @@
 use Rattle.warning.proofs.Along.{same_found}
 use Rattle.warning.proofs.find_dangling.Goals as goal
 
-pub returns-then-live-before : goal.returns-then-live-before
-returns-then-live-before c = same_found _ _ c.args.found c.requires.searched c.if-known.true c.if-live-before.true
+pub returns-in-Some : goal.returns-in-Some
+returns-in-Some c = same_found _ _ c.requires.searched c.in-Some.is c.if-live-before.true

@@ -2,7 +2,6 @@
 use mathlib.Core.Path.{refl}
 use native.Mathlib.Omega.{arith}
 use lib.ListN.{length}
-use Rattle.grammar.specs.Tables.{kinds, table}
 use Rattle.passing.proofs.Cut.{lent_in, lent-short}
 use Rattle.warning.proofs.Cut.{warns_lent}
 use borrow.Author.Rules.{rules}
@@ -12,8 +11,7 @@ pub slice_bounds-warn_text-end : goal.slice_bounds-warn_text-end
 slice_bounds-warn_text-end c = lent_in _ c.at_most-lent.ensures
 
 pub warn_text-requires : goal.warn_text-requires
-unfolding kinds table
-warn_text-requires c = record { kinds_lent = (record { is = refl }, record { is = refl }); passed = (c.requires.0, refl, lent-short (length c.args.bodies.now) c.at_most-lent.ensures (search rules)); most_values_in_bounds = (omega arith, c.requires.1) }
+warn_text-requires c = record { passed = (c.requires.0, refl, lent-short (length c.args.bodies.now) c.at_most-lent.ensures (search rules)); most_values_in_bounds = (omega arith, c.requires.1) }
 
 pub returns : goal.returns
 returns c = warns_lent _ c.at_most-lent.ensures (search rules) c.warn_text.ensures
