@@ -86,7 +86,7 @@ module _ {first : List ℕ} {end : ℕ} (cut : CutAt first end) (second : List �
       neither false = refl
 
   pub too_large : {r : Result ℕ NotJoined} (room : List ℕ) → r ≡ about Neither FlatFileTooLong 0
-      → (length room < end + 4 + length second) ⊎ ((length room < end + 4 + length second → ⊥) × (most_bytes < end + 4 + length second))
+      → (length room < end + 4 + length second) ⊎ ((end + 4 + length second ≤ length room) × (most_bytes < end + 4 + length second))
       → (r ≡ fitted bytes (length room)) × (room ≡ room_after r (joined first second) room)
   too_large room is (inl h) = no_room room is h
   too_large room is (inr h) = beyond_limit room is h.1
