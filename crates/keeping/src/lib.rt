@@ -9,6 +9,7 @@ ghost use Rattle.pieces.specs.Pieces.{too_large, Fit};
 ghost use Rattle.keeping.specs.Growth.{steps, Ready, KeepsCommand, KeepsBody};
 ghost use Rattle.keeping.specs.Keeping.{Begins, DefinesAt, Filling, FillsAt};
 
+use commands::Decoded;
 use definition::Rule;
 use library::Begun;
 
@@ -76,27 +77,29 @@ fn keep_command(
     requires by_index { (live : ℕ) × Ready text.now from a b rows.old bodies.old live row used layered }
     ensures { (live : ℕ) → Ready text.now from a b rows.old bodies.old live row used layered → KeepsCommand text.now from a b rows.old bodies.old live row used layered result rows.new bodies.new }
 {
-    match commands::read_command(text, recogniser, &mut bodies[used..], from, a, b) {
-        None => Stored::Last(from),
-        Some(c) => {
-            let kind = c.kind;
-            let to = c.to;
-            let n = c.end;
-            if kind == b'F' {
-                return Stored::Last(to);
-            }
-            if is_step(kind) {
-                if bodies.len() - used < n {
-                    return Stored::Tight;
-                }
-                let layer = kind == b'L';
-                let idle = layered && layer;
-                let more = library::store(rows, bodies, row, used, n, idle);
-                return Stored::More(more, layer, to);
-            }
-            Stored::More(used, layered, to)
-        }
+    let Some(Decoded { kind, end, to, .. }) = commands::read_command(
+        text,
+        recogniser,
+        &mut bodies[used..],
+        from,
+        a,
+        b,
+    ) else {
+        return Stored::Last(from);
+    };
+    if kind == b'F' {
+        return Stored::Last(to);
     }
+    if !is_step(kind) {
+        return Stored::More(used, layered, to);
+    }
+    if bodies.len() - used < end {
+        return Stored::Tight;
+    }
+    let layer = kind == b'L';
+    let idle = layered && layer;
+    let more = library::store(rows, bodies, row, used, end, idle);
+    Stored::More(more, layer, to)
 }
 
 // The commands of a definition, up to its DF; none where the words lent are too few. A command that does not fit is decoded once more after the live bodies have been moved together.

@@ -10,6 +10,7 @@ ghost use Rattle.keeping.specs.Keeping.{most_words};
 ghost use Rattle.chain.specs.Chain.{run_length};
 ghost use Rattle.passing.specs.Passed.{Passed, TextDraws, outputs, start_in, Deletes, RefusedOutside, lent_of};
 
+use commands::Decoded;
 use definition::{Refusal, Rule};
 use keeping::{Start, Stock};
 use shapes::Ink;
@@ -90,48 +91,41 @@ fn draw_text(
     let counts = counts::no_counts();
     let pen = shapes::Pen { at: 0, layer: 0 };
     let mut ink = Ink { counts, pen };
-    loop {
-        match commands::read_command(text, recogniser, words, spot, 1, 1) {
-            None => {
-                return Ok(ink);
-            }
-            Some(c) => {
-                let kind = c.kind;
-                let place = c.place;
-                let end = c.end;
-                let to = c.to;
-                spot = to;
-                if kind == b'L' {
-                    layer = words[2] as u32;
-                } else if kind == b'D' {
-                    let symbol = shapes::size_at(words, 2);
-                    stock = delete(rows, stock, symbol);
-                } else if kind == b'S' {
-                    let start = start_in(words, place);
-                    match keeping::define(
-                        text, recogniser, rows, bodies, stock, start, to, ink.counts,
-                    ) {
-                        Ok(taken) => {
-                            spot = taken.to;
-                            stock = taken.stock;
-                            ink = Ink {
-                                counts: taken.counts,
-                                pen: ink.pen,
-                            };
-                        }
-                        Err(rule) => {
-                            return refuse_definition(drawing, rule, place);
-                        }
-                    }
-                } else if draws(kind) {
-                    ink = engine::draw_outer(
-                        bodies, rows, stock.live, words, numbers, drawing, room, kind, place, end,
-                        layer, ink,
-                    )?;
+    while let Some(
+        Decoded {
+            kind,
+            place,
+            end,
+            to,
+        },
+    ) = commands::read_command(text, recogniser, words, spot, 1, 1)
+    {
+        spot = to;
+        if kind == b'L' {
+            layer = words[2] as u32;
+        } else if kind == b'D' {
+            let symbol = shapes::size_at(words, 2);
+            stock = delete(rows, stock, symbol);
+        } else if kind == b'S' {
+            let start = start_in(words, place);
+            match keeping::define(text, recogniser, rows, bodies, stock, start, to, ink.counts) {
+                Ok(taken) => {
+                    spot = taken.to;
+                    stock = taken.stock;
+                    ink.counts = taken.counts;
+                }
+                Err(rule) => {
+                    return refuse_definition(drawing, rule, place);
                 }
             }
+        } else if draws(kind) {
+            ink = engine::draw_outer(
+                bodies, rows, stock.live, words, numbers, drawing, room, kind, place, end, layer,
+                ink,
+            )?;
         }
     }
+    Ok(ink)
 }
 
 // Of the words lent, as many as bodies can need.

@@ -1,6 +1,6 @@
 -- How two runs tell why a shape is here: what the reader refuses is told so; of a text that is drawn through, how the machine came out, with so many shapes counted before, is the shape with
 -- the count or that there is none.
---     refused-first, passes-first      what the first run says.        missing-at-0, missing-beyond       no run is needed.        found-or-not      what the second run says
+--     refused-first, passes_so      what the first run says.        never_counted       no run is needed.        found_or_not      what the second run says
 -- Assumes nothing.
 use Rattle.std.specs.Prelude.{if◌then◌else◌}
 use mathlib.Core.Path.{◌≡◌, refl, sym, ap, ◌∙◌, subst}
@@ -85,11 +85,10 @@ module _ {t : List ℕ} {words : List ℤ} {room : List ℕ} {r : Answer} {words
       told same (inl z) = inl (sym same ∙ z)
       told same (inr z) = inr (sym same ∙ z)
 
-  pub passes_with_room : r.number ≡ 0 → Through t (length words') × Zeroed words'
-  passes_with_room z = passes (inl z)
-
-  pub passes_without : r.number ≡ 18 → Through t (length words') × Zeroed words'
-  passes_without z = passes (inr z)
+  -- with room, or without
+  pub passes_so : {n : ℕ} → n ≡ 18 → (r.number ≡ 0) ⊎ ((r.number ≡ 0 → ⊥) × (r.number ≡ n)) → Through t (length words') × Zeroed words'
+  passes_so e (inl z) = passes (inl z)
+  passes_so e (inr z) = passes (inr (z.1 ∙ e))
 
   -- what is promised of the words as the first run left them is promised of those that were lent
   pub on_the_words : {count : ℕ} {y : Why} {words'' : List ℤ} → PromisedWhy t words' count y words'' → PromisedWhy t words count y words''
@@ -105,11 +104,15 @@ module _ {t : List ℕ} {words : List ℤ} {room : List ℕ} {r : Answer} {words
 -- ---- no second run
 
 module _ {t : List ℕ} {words : List ℤ} (f : Through t (length words)) (z : Zeroed words) {y : Why} (e : y ≡ missing_in t) where
-  pub missing_at-0 : {count : ℕ} → count ≡ 0 → PromisedWhy t words count y words
+  missing_at-0 : {count : ℕ} → count ≡ 0 → PromisedWhy t words count y words
   missing_at-0 {count} q = record { reason = refuses (refuse NoSuchShape 0) []; answers = subst (λ (n : ℕ). WhyAnswers t (length words) n (refuses (refuse NoSuchShape 0) [])) (sym q) (zero-told f); given = e; cleared = z }
 
-  pub missing_beyond : {count : ℕ} → most_shapes < count → PromisedWhy t words count y words
+  missing_beyond : {count : ℕ} → most_shapes < count → PromisedWhy t words count y words
   missing_beyond {count} h = record { reason = refuses (refuse NoSuchShape 0) []; answers = beyond-told count f h; given = e; cleared = z }
+
+  pub never_counted : {count : ℕ} → (count ≡ 0) ⊎ ((count ≡ 0 → ⊥) × (most_shapes < count)) → PromisedWhy t words count y words
+  never_counted (inl q) = missing_at-0 q
+  never_counted (inr h) = missing_beyond h.1
 
 -- as code makes it
 pub missing_made : (t : List ℕ) {a : Answer} {y : Why} → a ≡ failure t (refuse NoSuchShape 0) [] → y ≡ why_of a → y ≡ missing_in t

@@ -13,13 +13,15 @@ use machine::State;
 fn refused(answer: Answer) -> Why
     ensures { result ≡ why_of answer }
 {
+    // An array is read by a `let`: the checker does not take one straight into a literal yet.
+    let chain = answer.chain;
     Why {
         number: answer.number,
         place: answer.place,
         line: answer.line,
         column: answer.column,
         opened: answer.opened,
-        chain: answer.chain,
+        chain,
         shape: 0,
         a: 0,
         b: 0,
@@ -36,13 +38,14 @@ fn found(answer: Answer, net: turns::Net) -> Why
 {
     let east = turns::aim_direction(net, 1, 0);
     let north = turns::aim_direction(net, 0, 1);
+    let chain = answer.chain;
     Why {
         number: 0,
         place: 0,
         line: 0,
         column: 0,
         opened: answer.opened,
-        chain: answer.chain,
+        chain,
         shape: answer.place,
         a: east.x,
         b: north.x,

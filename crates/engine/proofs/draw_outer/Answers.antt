@@ -13,9 +13,6 @@ draw_call-requires c = (ready_at c.requires.ready (omega arith), near-more (omeg
 pub returns-then-kind-eq67 : goal.returns-then-kind-eq67
 returns-then-kind-eq67 c = call-painted c.args.rows.now c.args.bodies.now c.args.live c.args.layer c.args.place c.still-still.ensures.0 c.args.drawing.now _ c.if-kind-eq67.true c.read_call-call.ensures c.draw_call.ensures.call_draws
 
-pub stop-requires : goal.stop-requires
-stop-requires c = (omega arith, c.requires.ready.levels)
-
 pub draw_shape-requires : goal.draw_shape-requires
 draw_shape-requires c = let h = said-shape c.requires.says.1 c.if-kind-eq67.false in record { shaped_at = (h, shape-fits h c.requires.ready.roomy); near = (near-more (omega arith) c.still-still.ensures.1, c.requires.ready.reached) }
 

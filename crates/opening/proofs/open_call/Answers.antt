@@ -14,16 +14,10 @@ use Rattle.opening.proofs.open_call.Goals as goal
 pub returns-then-call : goal.returns-then-call
 returns-then-call c = askew-call c.args.rows.now c.args.live (open_calls c.args.drawing.now (32 - c.args.left)) c.args.call c.args.left c.args.counts c.if-call.true
 
-pub find-requires : goal.find-requires
-find-requires c = c.requires.0
-
 pub returns-in_err-row : goal.returns-in_err-row
 returns-in_err-row c =
     let q : (c.find.result ≡ None) × (c.from_residual.result ≡ Err (refuse UndefinedSymbol c.args.call.place)) = search rules in
     rw q.1 (unknown_call c.args.rows.now c.args.live (open_calls c.args.drawing.now (32 - c.args.left)) c.args.call c.args.left c.if-call.false c.find.ensures c.args.counts q.0)
-
-pub is_open-requires : goal.is_open-requires
-is_open-requires c = (omega arith, c.requires.2)
 
 pub returns-then-is_open : goal.returns-then-is_open
 returns-then-is_open c = open_call_lem c.args.rows.now c.args.live (open_calls c.args.drawing.now (32 - c.args.left)) c.args.call c.args.left c.if-call.false c.find.ensures (row_is c.ok_or.ensures.ok_part c.in_ok-row.was) c.is_open.ensures c.args.counts c.if-is_open.true

@@ -1,15 +1,12 @@
 -- `among` meets its contract: no run for count 0 and for a count above all, or what the machine says (proofs/Telling.antt).
 use mathlib.Core.Path.{refl}
 use native.Mathlib.Omega.{arith}
-use Rattle.why.proofs.Telling.{missing_at-0, missing_beyond, run-begun, found_or_not}
+use Rattle.why.proofs.Telling.{never_counted, run-begun, found_or_not}
 use borrow.Author.Rules.{rules}
 use Rattle.why.proofs.among.Goals as goal
 
 pub returns-then-count-eq0 : goal.returns-then-count-eq0
-returns-then-count-eq0 c = missing_at-0 c.requires.0 c.requires.1 c.missing.ensures c.if-count-eq0.true
-
-pub returns-then-count-gt-MOST_SHAPES : goal.returns-then-count-gt-MOST_SHAPES
-returns-then-count-gt-MOST_SHAPES c = missing_beyond c.requires.0 c.requires.1 c.missing-then-count-gt-MOST_SHAPES.ensures c.if-count-gt-MOST_SHAPES.true
+returns-then-count-eq0 c = never_counted c.requires.0 c.requires.1 c.missing.ensures c.then-count-eq0.either
 
 pub overflow_sub-before : goal.overflow_sub-before
 overflow_sub-before c = omega (arith, c.if-count-eq0.false)
