@@ -1,7 +1,7 @@
 -- What the loop over a body's words keeps: its own numbers are those so far and those of the commands left, and the bit is that of the layer that stands.
 -- Assumes nothing.
 use Rattle.std.specs.Prelude.{if◌then◌else◌}
-use mathlib.Core.Path.{◌≡◌, refl, sym, ap, ap₂, ◌∙◌, subst}
+use mathlib.Core.Path.{◌≡◌, refl, sym, ap, ap₂, ◌∙◌}
 use mathlib.Core.Bool.{Bool, true, false}
 use mathlib.Core.List.{List, [], ◌∷◌, ◌++◌, flat_map, append-nil, append_assoc}
 use Prim.Native.Nat.{ℕ, ◌+◌, ◌-◌, ◌≤◌, ◌<◌}
@@ -15,7 +15,7 @@ use Rattle.definition.specs.Summary.{Names, shape?, call?, layers_of, own_shapes
 use Rattle.definition.specs.Marks.{set_of_layers}
 use Rattle.laws.proofs.Story.Marks.{set_none, set-joined}
 use Rattle.library.specs.Memory.{call_letter, layer_letter, words_at, steps_in, layer_after}
-use Rattle.library.specs.Sound.{letter_of_step, values_of, all_words, Proper, Sound}
+use Rattle.library.specs.Sound.{all_words, Proper, Sound}
 use Rattle.library.proofs.Decoded.{steps_are}
 use Rattle.engine.specs.declared.Head.{Head}
 use Rattle.engine.specs.Heads.{head_in}

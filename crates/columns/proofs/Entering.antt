@@ -1,6 +1,6 @@
 -- What `enter` hands on: the words of a row's body are sound, and the three columns together.
 -- Assumes nothing.
-use mathlib.Core.Path.{◌≡◌, sym, ap₂, subst}
+use mathlib.Core.Path.{◌≡◌, sym, subst}
 use mathlib.Core.List.{List}
 use Prim.Native.Nat.{ℕ, ◌+◌, ◌≤◌, ◌<◌}
 use native.Mathlib.Omega.{arith}

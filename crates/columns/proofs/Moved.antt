@@ -6,7 +6,6 @@ use mathlib.Core.Bool.{Bool, true, false}
 use mathlib.Core.List.{List, [], ◌∷◌}
 use mathlib.Core.Logic.{◌⊎◌, inl, inr}
 use Prim.Native.Nat.{ℕ, zero, suc, ◌+◌, ◌≤◌, ◌<◌}
-use native.Mathlib.Nat.{eq-or-lt_of_le}
 use native.Mathlib.Omega.{arith}
 use lib.Dec.{ltb, eqb}
 use lib.IntN.{ℤ}
@@ -14,11 +13,11 @@ use lib.ListN.{length, get_or}
 use Rattle.definition.specs.Words.{Placed}
 use Rattle.definition.specs.Table.{Step, Definition, Table, enter}
 use Rattle.definition.specs.Lean.{lean, lean_definition}
-use Rattle.definition.specs.Summary.{Names, own_shapes, own_calls}
-use Rattle.library.specs.Memory.{most, symbol_at, start_at, length_at, body_at, definition_at}
+use Rattle.definition.specs.Summary.{own_shapes, own_calls}
+use Rattle.library.specs.Memory.{most, symbol_at, body_at, definition_at}
 use Rattle.library.specs.Rows.{Sorted, bare}
-use Rattle.library.specs.Holds.{Means, HoldsFrom, Holds}
-use Rattle.columns.specs.Columns.{SetOf, OwnOf, Puts, More, Stands, Enters, Afresh}
+use Rattle.library.specs.Holds.{HoldsFrom, Holds}
+use Rattle.columns.specs.Columns.{SetOf, Puts, More, Stands, Enters, Afresh}
 
 -- ---- where an entry comes to stand
 

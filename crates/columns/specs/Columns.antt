@@ -1,7 +1,7 @@
 -- Columns beside the rows: what they are when they are made afresh from the bodies, and what it takes to enter a definition's numbers. A running account, not
 -- to be believed.
 -- Assumes nothing.
-use Rattle.std.specs.Prelude.{◌≡◌, List, [], ℕ, ◌+◌, ◌≤◌, ◌<◌, ℤ, length, get_or, ◌⊎◌}
+use Rattle.std.specs.Prelude.{◌≡◌, List, ℕ, ◌+◌, ◌≤◌, ◌<◌, ℤ, length, get_or, ◌⊎◌}
 use Rattle.definition.specs.Words.{Placed}
 use Rattle.definition.specs.Table.{Step}
 use Rattle.definition.specs.Summary.{Names, own_shapes, own_calls, own_layers}

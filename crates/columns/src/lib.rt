@@ -19,15 +19,9 @@ pub struct Own {
 }
 
 // The own numbers of a body, of which so many words are stored from a place on. A shape is on the layer of the last L before it.
-fn own_of(
-    bodies: &[i32],
-    from: usize,
-    many: usize,
-    names: &[usize; definition::MOST_LAYERS],
-    count: usize,
-) -> Own
-    requires { Sound bodies.now from many × (from + many ≤ length bodies.now) × (length bodies.now ≤ most_words) × (count ≤ most_layers) }
-    ensures { OwnOf bodies.now from many names.now count result }
+fn own_of(bodies: &[i32], from: usize, many: usize, names: &marks::Names) -> Own
+    requires { Sound bodies.now from many × (from + many ≤ length bodies.now) × (length bodies.now ≤ most_words) × (names.now.count ≤ most_layers) }
+    ensures { OwnOf bodies.now from many names.now.numbers names.now.count result }
 {
     let end = from + many;
     let mut at = from;
@@ -38,7 +32,7 @@ fn own_of(
     while at < end {
         let head = engine::head_at(bodies, at);
         if head.kind == b'L' {
-            layer = marks::bit_of(names, count, shapes::size_at(bodies, at + 2));
+            layer = marks::bit_of(names, shapes::size_at(bodies, at + 2));
         } else if head.kind == b'C' {
             calls += 1;
         } else {
@@ -84,21 +78,20 @@ pub fn enter(
     before: usize,
     live: usize,
     symbol: usize,
-    names: &[usize; definition::MOST_LAYERS],
-    count: usize,
+    names: &marks::Names,
     shapes: &mut [u64; library::MOST],
     calls: &mut [u64; library::MOST],
     layers: &mut [u64; library::MOST],
 )
     requires shapes_len { (length shapes.old ≡ most) × (length calls.old ≡ most) × (length layers.old ≡ most) }
     requires more { More before live × Sorted rows.now live × Stands rows.now live symbol }
-    requires stocked { Stocked rows.now bodies.now live × (length bodies.now ≤ most_words) × (count ≤ most_layers) }
-    ensures { Enters bodies.now rows.now before live symbol names.now count shapes.old calls.old layers.old shapes.new calls.new layers.new }
+    requires stocked { Stocked rows.now bodies.now live × (length bodies.now ≤ most_words) × (names.now.count ≤ most_layers) }
+    ensures { Enters bodies.now rows.now before live symbol names.now.numbers names.now.count shapes.old calls.old layers.old shapes.new calls.new layers.new }
 {
     let row = library::find(rows, live, symbol).unwrap();
     let from = library::start_at(rows, row);
     let many = library::length_at(rows, row);
-    let own = own_of(bodies, from, many, names, count);
+    let own = own_of(bodies, from, many, names);
     put(shapes, before, live, row, own.shapes);
     put(calls, before, live, row, own.calls);
     put(layers, before, live, row, own.layers);

@@ -1,21 +1,19 @@
 -- The pass of `gather`: what each command brings, told from what is written of it, whatever else is wrong with it; so 19 is found in text order.
 -- Assumes nothing.
-use Rattle.std.specs.Prelude.{Option, Some, None, Result, Ok, Err, if◌then◌else◌}
-use mathlib.Core.Path.{◌≡◌, refl, sym, ap, ap₂, ◌∙◌, subst}
+use Rattle.std.specs.Prelude.{Option, Some, None, Result, Ok, Err}
+use mathlib.Core.Path.{◌≡◌, refl, sym, ap, ◌∙◌, subst}
 use mathlib.Core.Bool.{Bool, true, false}
-use mathlib.Core.List.{List, [], ◌∷◌, ◌++◌, map}
+use mathlib.Core.List.{List, [], ◌∷◌, map}
 use mathlib.Core.Option.{none, some}
-use Prim.Native.Nat.{ℕ, ◌+◌, ◌*◌, ◌≤◌, ◌<◌}
+use Prim.Native.Nat.{ℕ, ◌≤◌, ◌<◌}
 use native.Mathlib.Omega.{arith}
 use borrow.Author.Tests.{lt-ltb, le-ltb, eqb-false}
-use lib.Dec.{ltb, eqb}
 use lib.IntN.{ℤ, pos, nat_abs}
 use lib.ListN.{length, get_or}
 use lib.Seq.{sets, length-sets}
 use Rattle.grammar.specs.Notation.{Letter}
 use Rattle.grammar.specs.Viable.{Marked}
 use Rattle.grammar.proofs.Markings.{one_marking}
-use Rattle.definition.specs.declared.Refusal.{Refusal}
 use Rattle.definition.specs.Limits.{most_layers}
 use Rattle.definition.specs.Words.{Placed, at}
 use Rattle.definition.specs.declared.Rule.TheVariants.{TooManyLayers}
@@ -30,15 +28,16 @@ use Rattle.pieces.specs.declared.Spot.{Spot}
 use Rattle.pieces.specs.declared.Piece.{Piece}
 use Rattle.pieces.specs.declared.Piece.TheVariants.{Word}
 use Rattle.pieces.proofs.Spots.{start-pieces}
-use Rattle.rules.specs.Letters.{letter_d, letter_l, first_unit}
+use Rattle.rules.specs.Letters.{letter_l, first_unit}
 use Rattle.rules.specs.Written.{Written, written, letters, last_of, last_letter, packed_by}
 use Rattle.commands.specs.declared.Decoded.{Decoded}
 use Rattle.commands.specs.Words.{widest, held, word, letter_words, body_of, closing, words_of, kind_by, DecodedOne, ReadsCommand}
 use Rattle.reading.proofs.Says.{tells, Says, a_polygon, a_box, a_turned_box, a_flash, a_wire, a_layer, a_call, a_start, a_scaled-start, a_finish, a_deletion, a_nothing, AllSay, none_said, one_said}
 use Rattle.reading.proofs.AllSay.{all_say}
 use Rattle.reading.proofs.Packed.{packed-most}
+use Rattle.marks.specs.declared.Names.{Names as Run}
 use Rattle.marks.specs.Noted.{Known, Noted, Notes, Gathers}
-use Rattle.marks.proofs.Marking.{noted-after, names_many}
+use Rattle.marks.proofs.Marking.{noted-after, one_too_many}
 
 -- ---- one command
 
@@ -121,13 +120,13 @@ read_as {t} {spot} {a} {b} {ws} {ws'} x e = subst (λ (r : Option Decoded). Read
 
 -- ---- between two commands
 
-pub record Gathering (t : List ℕ) (run : List ℕ) (words : List ℤ) (spot : Spot) (count : ℕ) : Type 0 where
+pub record Gathering (t : List ℕ) (run : Run) (words : List ℤ) (spot : Spot) : Type 0 where
   pub letters : List Letter
   pub is_marked : Marked t letters
   pub names : Names
   pub rest : List (Placed Command)
   pub say : AllSay (written (stream t spot)) rest
-  pub noted : Noted run count names
+  pub noted : Noted run.numbers run.count names
   pub names_left : names_from names rest ≡ layer_names (commands 0 letters)
   pub stop-left : too_many_from names rest ≡ too_many_from [] (commands 0 letters)
   pub fit : Fit t spot
@@ -143,7 +142,8 @@ none_noted run e = record {
   apart = λ i j h. absurd (omega (arith, h));
 }
 
-pub gather_begin : {t : List ℕ} {m : List Letter} (run : List ℕ) (words : List ℤ) → Marked t m → length run ≡ most_layers → length words ≡ 3 → Gathering t run words text_start 0
+pub gather_begin : {t : List ℕ} {m : List Letter} (run : List ℕ) (words : List ℤ) → Marked t m → length run ≡ most_layers → length words ≡ 3
+    → Gathering t (record { numbers = run; count = 0 }) words text_start
 gather_begin {t} {m} run words k e h = record {
   letters = m;
   is_marked = k;
@@ -191,14 +191,14 @@ stop-here : (ns : Names) (d : Placed Command) (ds : List (Placed Command)) → m
 unfolding too_many_from
 stop-here ns d ds h = rw (lt-ltb most_layers (length (names_after ns d.what)) h) refl
 
-module _ {t : List ℕ} {run : List ℕ} {words : List ℤ} {spot : Spot} {count : ℕ} (u : Gathering t run words spot count) where
+module _ {t : List ℕ} {run : Run} {words : List ℤ} {spot : Spot} (u : Gathering t run words spot) where
   -- no command is left
-  pub gather_out : (r : Option Decoded) (words' : List ℤ) → ReadsCommand t spot 1 1 words r words' → r ≡ None → Gathers (commands 0 u.letters) (Ok count) run
+  pub gather_out : (r : Option Decoded) (words' : List ℤ) → ReadsCommand t spot 1 1 words r words' → r ≡ None → Gathers (commands 0 u.letters) (Ok run)
   unfolding Gathers
   gather_out r words' x e =
       let none_written : written (stream t spot) ≡ [] = (subst (λ (r : Option Decoded). ReadsCommand t spot 1 1 words r words') e x).0 in
       let over : u.rest ≡ [] = none_left (subst (λ (cs : List Written). AllSay cs u.rest) none_written u.say) in (
-        subst (Noted run count) (sym (ap (names_from u.names) over ∙ from_end u.names) ∙ u.names_left) u.noted,
+        subst (Noted run.numbers run.count) (sym (ap (names_from u.names) over ∙ from_end u.names) ∙ u.names_left) u.noted,
         sym u.stop-left ∙ (ap (too_many_from u.names) over ∙ stop_end u.names),
       )
 
@@ -210,8 +210,8 @@ module _ {t : List ℕ} {run : List ℕ} {words : List ℤ} {spot : Spot} {count
     three_then = ap length r.tells.laid ∙ (length-sets words 0 (words_of 1 1 c) ∙ u.three)
 
     -- what is left after it
-    goes_on : {run' : List ℕ} {count' : ℕ} → Noted run' count' (names_after u.names first.command.what) → Gathering t run' words' to count'
-    goes_on {run'} {count'} x = record {
+    goes_on : {run' : Run} → Noted run'.numbers run'.count (names_after u.names first.command.what) → Gathering t run' words' to
+    goes_on x = record {
       letters = u.letters;
       is_marked = u.is_marked;
       names = names_after u.names first.command.what;
@@ -226,8 +226,8 @@ module _ {t : List ℕ} {run : List ℕ} {words : List ℤ} {spot : Spot} {count
       three = three_then;
     }
 
-    pub gather_other : (kind ≡ letter_l → ⊥) → Gathering t run words' to count
-    gather_other e = goes_on (subst (Noted run count) (sym (not_named first.says (λ f. e (r.tells.kind ∙ f)) u.names)) u.noted)
+    pub gather_other : (kind ≡ letter_l → ⊥) → Gathering t run words' to
+    gather_other e = goes_on (subst (Noted run.numbers run.count) (sym (not_named first.says (λ f. e (r.tells.kind ∙ f)) u.names)) u.noted)
 
     module _ (e : kind ≡ letter_l) where
       abbrev layered : Layer c first.command
@@ -239,20 +239,20 @@ module _ {t : List ℕ} {run : List ℕ} {words : List ℤ} {spot : Spot} {count
       is_layer : first.command.what ≡ layer layered.name
       is_layer = ap (λ (d : Placed Command). d.what) layered.is
 
-      module _ {v : ℕ} (q : v ≡ nat_abs (get_or words' 2 (pos 0))) {more : ℕ} {run' : List ℕ} (x : Notes run count v more run') where
-        pub gather_layer : (most_layers < more → ⊥) → Gathering t run' words' to more
+      module _ {v : ℕ} (q : v ≡ nat_abs (get_or words' 2 (pos 0))) {had : Bool} {run' : Run} (x : Notes run v had run') where
+        pub gather_layer : had ≡ true → Gathering t run' words' to
         gather_layer h =
-            goes_on (subst (λ (d : Command). Noted run' more (names_after u.names d)) (sym is_layer) (noted-after u.noted layered.known.back (q ∙ third_is) layered.known.some_letter x h))
+            goes_on (subst (λ (d : Command). Noted run'.numbers run'.count (names_after u.names d)) (sym is_layer) (noted-after u.noted layered.known.back (q ∙ third_is) layered.known.some_letter x h))
 
-        pub gather_over : most_layers < more → Gathers (commands 0 u.letters) (Err place) run'
+        pub gather_over : had ≡ false → Gathers (commands 0 u.letters) (Err place)
         unfolding Gathers
         gather_over h =
             sym u.stop-left
             ∙ (ap (too_many_from u.names) first.are
             ∙ (stop-here u.names first.command first.rest
-            (let z = ap (λ (d : Command). length (names_after u.names d)) is_layer ∙ names_many u.noted layered.known.back (q ∙ third_is) x in omega (arith, z, h))
+            (subst (λ (d : Command). most_layers < length (names_after u.names d)) (sym is_layer) (one_too_many u.noted layered.known.back (q ∙ third_is) x h))
             ∙ ap (λ (p : ℕ). some (refuse TooManyLayers p)) (ap (λ (d : Placed Command). d.place) layered.is ∙ sym r.tells.place)))
 
 -- whatever letters the text is read as, they are these
-pub any_marking : {t : List ℕ} {m : List Letter} (g : Result ℕ ℕ) (run : List ℕ) → Marked t m → Gathers (commands 0 m) g run → (n : List Letter) → Marked t n → Gathers (commands 0 n) g run
-any_marking g run k h n j = subst (λ (x : List Letter). Gathers (commands 0 x) g run) (one_marking k j) h
+pub any_marking : {t : List ℕ} {m : List Letter} (g : Result Run ℕ) → Marked t m → Gathers (commands 0 m) g → (n : List Letter) → Marked t n → Gathers (commands 0 n) g
+any_marking g k h n j = subst (λ (x : List Letter). Gathers (commands 0 x) g) (one_marking k j) h

@@ -1,6 +1,6 @@
 -- A run of names: what one name more makes of it, and that the bit of a name is the set of that one layer.
 -- Assumes nothing.
-use Rattle.std.specs.Prelude.{if◌then◌else◌}
+use Rattle.std.specs.Prelude.{Option, Some, is_some, if◌then◌else◌}
 use mathlib.Core.Path.{◌≡◌, refl, sym, ap, ap₂, ◌∙◌, subst}
 use mathlib.Core.Bool.{Bool, true, false, ◌||◌}
 use mathlib.Core.List.{List, [], ◌∷◌, ◌++◌}
@@ -8,7 +8,6 @@ use mathlib.Core.Logic.{inl, inr, ◌⊎◌}
 use Prim.Native.Nat.{ℕ, zero, suc, ◌+◌, ◌*◌, ◌%◌, ◌^◌, ◌≤◌, ◌<◌}
 use native.Mathlib.Nat.{eq-or-lt_of_le}
 use native.Mathlib.Omega.{arith}
-use borrow.Author.Tests.{lt-ltb, le-ltb}
 use lib.Dec.{T, eqb, eqb_refl}
 use lib.ListN.{length, get_or, set, length-append, length-set}
 use lib.Pow.{shl_exact}
@@ -21,7 +20,8 @@ use Rattle.definition.specs.Marks.{set_of_layers}
 use Rattle.definition.proofs.Rows.{same-eq}
 use Rattle.laws.proofs.Story.Marks.{set_one}
 use Rattle.names.specs.Names.{name_of, packed}
-use Rattle.marks.specs.Noted.{Known, Noted, New, MarkOf, BitOf, Notes, known, new, too_many}
+use Rattle.marks.specs.declared.Names.{Names as Run}
+use Rattle.marks.specs.Noted.{Known, Noted, New, MarkOf, marked, unmarked, bit_by, BitOf, Notes, known, new, too_many}
 
 -- ---- names among others
 
@@ -149,16 +149,17 @@ module _ {run : List ℕ} {count : ℕ} {ns : Names} (n : Noted run count ns) {l
     apart = still_apart h;
   }
 
-  -- what `note` leaves: the names with this one, as many as there are; or one too many
-  pub noted-after : 0 < length l → {r : ℕ} {run' : List ℕ} → Notes run count v r run' → (most_layers < r → ⊥) → Noted run' r (names_after ns (layer l))
-  noted-after some (known i h f) room = subst (Noted run count) (sym (noted-known i h f)) n
-  noted-after some (new h room) ok = subst (Noted (set run count v) (count + 1)) (sym (noted-new h)) (noted_more some h room)
-  noted-after some (too_many h f) ok = absurd (ok (omega (arith, f)))
+-- what `note` leaves: the names with this one, as many as there are; or one too many
+module _ {run : Run} {ns : Names} (n : Noted run.numbers run.count ns) {l : List ℕ} (k : Back l) {v : ℕ} (e : v ≡ packed l) where
+  pub noted-after : 0 < length l → {r : Bool} {run' : Run} → Notes run v r run' → r ≡ true → Noted run'.numbers run'.count (names_after ns (layer l))
+  noted-after some (known h f) ok = subst (Noted run.numbers run.count) (sym (noted-known n k e _ h f)) n
+  noted-after some (new h room) ok = subst (Noted (set run.numbers run.count v) (run.count + 1)) (sym (noted-new n k e h)) (noted_more n k e some h room)
+  noted-after some (too_many h f) ok = absurd (let z : false ≡ true = ok in cc)
 
-  pub names_many : {r : ℕ} {run' : List ℕ} → Notes run count v r run' → length (names_after ns (layer l)) ≡ r
-  names_many (known i h f) = ap length (noted-known i h f) ∙ n.many
-  names_many (new h room) = ap length (noted-new h) ∙ more_names
-  names_many (too_many h f) = ap length (noted-new h) ∙ more_names
+  pub one_too_many : {r : Bool} {run' : Run} → Notes run v r run' → r ≡ false → most_layers < length (names_after ns (layer l))
+  one_too_many (known h f) none_left = absurd (let z : true ≡ false = none_left in cc)
+  one_too_many (new h room) none_left = absurd (let z : true ≡ false = none_left in cc)
+  one_too_many (too_many h f) none_left = let z = ap length (noted-new n k e h) ∙ more_names n k e in omega (arith, z, f)
 
 -- ---- the set of one layer
 
@@ -171,15 +172,13 @@ no_mark (n ∷ ns) l h =
 
 pub bit_is : {run : List ℕ} {count : ℕ} {ns : Names} → Noted run count ns → {l : List ℕ} → Back l → {v : ℕ} → v ≡ packed l → {r : ℕ} → BitOf run count v r
     → r ≡ set_of_layers ns (l ∷ [])
-bit_is {run} {count} {ns} n {l} k {v} e {r} b = go (eq-or-lt_of_le (at_most b.mark count b.is_mark.within))
+bit_is {run} {count} {ns} n {l} k {v} e {r} b = b.is ∙ go b.is_mark
   where
-    go : (b.mark ≡ count) ⊎ (b.mark < count) → r ≡ set_of_layers ns (l ∷ [])
-    go (inl f) =
-        b.is ∙ rw (le-ltb b.mark count (omega (arith, f))) (sym (no_mark ns l (λ j h g. b.is_mark.before j (omega (arith, f, h, n.many)) (number_there n k e j (omega (arith, h, n.many)) g))))
-    go (inr h) =
-        let there = name_there n k e b.mark h (b.is_mark.here h) in
-        b.is ∙ rw (lt-ltb b.mark count h)
-        (sym (set_one ns l b.mark (omega (arith, h, n.many)) there (λ j g f. n.apart j b.mark (omega (arith, g, n.many)) h (f ∙ sym there))))
+    go : {m : Option ℕ} → MarkOf run count v m → bit_by m ≡ set_of_layers ns (l ∷ [])
+    go (unmarked h) = sym (no_mark ns l (λ j g f. h j (in_names n k e j g) (number_there n k e j (in_names n k e j g) f)))
+    go (marked {i} h before here) =
+        let there = name_there n k e i h here in
+        sym (set_one ns l i (omega (arith, h, n.many)) there (λ j g f. n.apart j i (omega (arith, g, n.many)) h (f ∙ sym there)))
 
 -- the empty name, which stands where no layer is set, has no mark
 pub no_layer_bit : {run : List ℕ} {count : ℕ} {ns : Names} → Noted run count ns → set_of_layers ns ([] ∷ []) ≡ 0
@@ -190,6 +189,14 @@ no_layer_bit {ns = ns} n = no_mark ns [] (λ j h e. let z = (n.known j (omega (a
 pub one_bit : (k : ℕ) → k < 64 → 1 * 2 ^ k % 2 ^ 64 ≡ 2 ^ k
 one_bit k h = shl_exact {a = 1} 1 k 64 (omega arith) (omega (arith, h)) ∙ omega arith
 
--- a mark that is not below the names is after all of them
-pub none_below : {run : List ℕ} {count v r : ℕ} → MarkOf run count v r → count ≤ r → New run count v
-none_below m h k l e = m.before k (omega (arith, l, h)) e
+-- a name that has a mark stands among the names, and one that has none does not
+pub has_mark : {run : List ℕ} {count v : ℕ} {m : Option ℕ} → MarkOf run count v m → is_some m ≡ true → (i : ℕ) × (i < count) × (get_or run i 0 ≡ v)
+has_mark (marked {i} h before here) e = (i, h, here)
+has_mark (unmarked h) e = absurd (let z : false ≡ true = e in cc)
+
+pub has_none : {run : List ℕ} {count v : ℕ} {m : Option ℕ} → MarkOf run count v m → is_some m ≡ false → New run count v
+has_none (marked h before here) e = absurd (let z : true ≡ false = e in cc)
+has_none (unmarked h) e = h
+
+pub mark_low : {run : List ℕ} {count v i : ℕ} → MarkOf run count v (Some i) → i < count
+mark_low (marked h before here) = h

@@ -2,7 +2,7 @@
 // kept as the one number that an L command of a body has in its words, so a body's layers are told from them.
 #![tactic(auto)]
 
-ghost use Rattle.std.specs.Prelude.{◌≡◌, List, ◌≤◌, length};
+ghost use Rattle.std.specs.Prelude.{List, ◌≤◌};
 ghost use Rattle.grammar.specs.Notation.{Letter};
 ghost use Rattle.grammar.specs.Viable.{Marked};
 ghost use Rattle.definition.specs.Limits.{most_layers};
@@ -12,71 +12,75 @@ ghost use Rattle.marks.specs.Noted.{MarkOf, BitOf, Notes, Gathers};
 // The words of an L command: two in front, and its name.
 const LAYER_WORDS: usize = 3;
 
-// The mark of a name, its place among the first `count`; `count` if it is none of them.
-pub fn mark_of(names: &[usize; definition::MOST_LAYERS], count: usize, name: usize) -> usize
-    requires { count ≤ most_layers }
-    ensures { MarkOf names.now count name result }
+// The distinct layer names of a text, by first appearance: each is one number, and its place is its mark.
+#[derive(Clone, Copy)]
+pub struct Names {
+    pub numbers: [usize; definition::MOST_LAYERS],
+    pub count: usize,
+}
+
+// The mark of a name, if it is one of these.
+pub fn mark_of(names: &Names, name: usize) -> Option<usize>
+    requires { names.now.count ≤ most_layers }
+    ensures { MarkOf names.now.numbers names.now.count name result }
 {
-    for i in 0..count {
-        if names[i] == name {
-            return i;
+    for i in 0..names.count {
+        if names.numbers[i] == name {
+            return Some(i);
         }
     }
-    count
+    None
 }
 
 // The set of this one layer; of a name that has no mark, none.
-pub fn bit_of(names: &[usize; definition::MOST_LAYERS], count: usize, name: usize) -> u64
-    requires { count ≤ most_layers }
-    ensures { BitOf names.now count name result }
+pub fn bit_of(names: &Names, name: usize) -> u64
+    requires { names.now.count ≤ most_layers }
+    ensures { BitOf names.now.numbers names.now.count name result }
 {
-    let mark = mark_of(names, count, name);
-    if mark < count {
-        return 1 << mark;
+    match mark_of(names, name) {
+        Some(mark) => 1 << mark,
+        None => 0,
     }
-    0
 }
 
-// A name takes the next mark, if it is a new one. How many names there are then: one more than there are marks, if none was left.
-fn note(names: &mut [usize; definition::MOST_LAYERS], count: usize, name: usize) -> usize
-    requires { count ≤ most_layers }
-    ensures { Notes names.old count name result names.new }
+// A name takes the next mark, if it is a new one. Whether it has a mark then: a new one has none where none was left.
+fn note(names: &mut Names, name: usize) -> bool
+    requires { names.old.count ≤ most_layers }
+    ensures { Notes names.old name result names.new }
 {
-    let more = count + 1;
-    if mark_of(names, count, name) < count {
-        return count;
+    if mark_of(names, name).is_some() {
+        return true;
     }
-    if count < definition::MOST_LAYERS {
-        names[count] = name;
-        return more;
+    if names.count == definition::MOST_LAYERS {
+        return false;
     }
-    more
+    names.numbers[names.count] = name;
+    names.count += 1;
+    true
 }
 
-// The names of a text's L commands, from its start on, with the tables lent: how many they are; or the place of the L command that brings one more than
-// there are marks (refusal 19).
-fn gather_by(
-    text: &[u8],
-    recogniser: &grammar::Recogniser,
-    names: &mut [usize; definition::MOST_LAYERS],
-) -> Result<usize, usize>
-    requires { ((m : List Letter) × Marked text.now m) × (length names.old ≡ most_layers) }
-    ensures { (m : List Letter) → Marked text.now m → Gathers (commands 0 m) result names.new }
+// The names of a text's L commands, from its start on, with the tables lent; or the place of the L command that brings one more than there are marks
+// (refusal 19).
+fn gather_by(text: &[u8], recogniser: &grammar::Recogniser) -> Result<Names, usize>
+    requires { (m : List Letter) × Marked text.now m }
+    ensures { (m : List Letter) → Marked text.now m → Gathers (commands 0 m) result }
 {
     let mut words = [0i32; LAYER_WORDS];
     let mut spot = pieces::Spot { at: 0, state: 0 };
-    let mut count: usize = 0;
+    let mut names = Names {
+        numbers: [0; definition::MOST_LAYERS],
+        count: 0,
+    };
     loop {
         match commands::read_command(text, recogniser, &mut words, spot, 1, 1) {
             None => {
-                return Ok(count);
+                return Ok(names);
             }
             Some(c) => {
                 spot = c.to;
                 if c.kind == b'L' {
                     let name = shapes::size_at(&words, 2);
-                    count = note(names, count, name);
-                    if definition::MOST_LAYERS < count {
+                    if !note(&mut names, name) {
                         return Err(c.place);
                     }
                 }
@@ -85,11 +89,11 @@ fn gather_by(
     }
 }
 
-// The names of a text's L commands come to stand in the run, by first appearance.
-pub fn gather(text: &[u8], names: &mut [usize; definition::MOST_LAYERS]) -> Result<usize, usize>
-    requires { ((m : List Letter) × Marked text.now m) × (length names.old ≡ most_layers) }
-    ensures { (m : List Letter) → Marked text.now m → Gathers (commands 0 m) result names.new }
+// The distinct names of a text's L commands, by first appearance.
+pub fn gather(text: &[u8]) -> Result<Names, usize>
+    requires { (m : List Letter) × Marked text.now m }
+    ensures { (m : List Letter) → Marked text.now m → Gathers (commands 0 m) result }
 {
     let recogniser = grammar::Recogniser::new();
-    gather_by(text, &recogniser, names)
+    gather_by(text, &recogniser)
 }

@@ -1,14 +1,14 @@
 -- What the loop of `keep_text` keeps: where the pass stands (crates/passing, proofs/Stands.antt), that the columns are those made afresh from the bodies, and
 -- that the table and the ending of the whole text are those of what is left.
 -- Assumes nothing.
-use Rattle.std.specs.Prelude.{Option, None, Result, Ok, Err, if◌then◌else◌}
+use Rattle.std.specs.Prelude.{Option, None, Result, Ok, Err}
 use mathlib.Core.Path.{◌≡◌, refl, sym, ap, ap₂, ◌∙◌, subst}
 use mathlib.Core.Bool.{Bool, true, false}
 use mathlib.Core.List.{List, [], ◌∷◌, ◌++◌, map}
-use Prim.Native.Nat.{ℕ, ◌+◌, ◌-◌, ◌*◌, ◌^◌, ◌≤◌, ◌<◌}
+use Prim.Native.Nat.{ℕ, ◌+◌, ◌-◌, ◌^◌, ◌≤◌, ◌<◌}
 use native.Mathlib.Omega.{arith}
 use borrow.Author.Tests.{lt-ltb, le-ltb, eqb-true, eqb-false}
-use lib.Dec.{eqb, ltb}
+use lib.Dec.{eqb}
 use lib.IntN.{ℤ, pos, nat_abs}
 use lib.ListN.{length, get_or}
 use Rattle.grammar.specs.Notation.{Letter}
@@ -18,7 +18,7 @@ use Rattle.definition.specs.Words.{Placed, at, those}
 use Rattle.definition.specs.declared.Rule.{Rule}
 use Rattle.definition.specs.declared.Rule.TheVariants.{TooManyDefinitions, TooFewWords}
 use Rattle.definition.specs.Rules.{refuse}
-use Rattle.definition.specs.Commands.{Number, Command, delete, commands}
+use Rattle.definition.specs.Commands.{Number, commands}
 use Rattle.definition.specs.Standing.{outside}
 use Rattle.definition.specs.Table.{Step, Definition, Table, enter, forget}
 use Rattle.definition.specs.Drawing.{Deed, output, define, remove, deeds, Event, entered, refused, happens, table_after, story}
@@ -26,7 +26,6 @@ use Rattle.definition.specs.Counts.{End, finished, stopped, counted, go_on, endi
 use Rattle.definition.specs.Counts.{Counts as Tally}
 use Rattle.definition.specs.Held.{words_in, held_to}
 use Rattle.definition.specs.Summary.{kept?, table_then, table_deeds}
-use Rattle.laws.proofs.Lists.Joined.{ending-++}
 use Rattle.laws.proofs.Story.HeldStory.{held-define, held-remove, held-story}
 use Rattle.pieces.specs.Pieces.{letter_s, too_large, Fit}
 use Rattle.pieces.specs.Pieces.{start as text_start}
@@ -54,7 +53,7 @@ use Rattle.passing.proofs.Stands.{Stands, nothing_kept, to_do, at_start, deletab
 use Rattle.columns.specs.Columns.{More, Enters, Afresh}
 use Rattle.columns.specs.Columns.{Stands as StandsIn}
 use Rattle.columns.proofs.Moved.{entered-more, entered-stands, afresh-entered, afresh-cut, afresh_none}
-use Rattle.summary.specs.Summed.{kept_of, end_of, table_left, TableHeld, KeepsAll, KeepsText}
+use Rattle.summary.specs.Summed.{kept_of, end_of, table_left, KeepsAll, KeepsText}
 
 -- ---- what keeps the table
 

@@ -8,14 +8,13 @@ use Prim.Native.Nat.{ℕ, ◌-◌, ◌≤◌}
 use native.Mathlib.Omega.{arith}
 use borrow.Author.Tests.{ltb-false}
 use lib.Dec.{ltb}
-use lib.IntN.{ℤ}
 use lib.ListN.{length}
 use Rattle.definition.specs.declared.Summary.{Summary}
 use Rattle.definition.specs.Words.{those}
 use Rattle.definition.specs.Commands.{commands}
 use Rattle.definition.specs.Standing.{outside}
 use Rattle.definition.specs.Table.{Table, enter, forget}
-use Rattle.definition.specs.Drawing.{Deed, output, define, remove, deeds, Event, happens, table_after, story}
+use Rattle.definition.specs.Drawing.{Deed, output, define, remove, deeds, happens, table_after, story}
 use Rattle.definition.specs.Counts.{End, counts, ending}
 use Rattle.definition.specs.Held.{held_to}
 use Rattle.definition.specs.Summary.{kept?, table_deeds, layer_names, summary_in}

@@ -1,21 +1,18 @@
 -- Refusals 1 to 9 and 19 of a text, in their order: 1; then 2; then of 3 to 9 and 19 the first in the text. And that a text which they let pass has the names gathered.
 -- Assumes nothing.
-use Rattle.std.specs.Prelude.{Result, Ok, Err, if◌then◌else◌}
-use mathlib.Core.Path.{◌≡◌, refl, sym, ap, ap₂, ◌∙◌, subst}
+use Rattle.std.specs.Prelude.{Result, Ok, Err}
+use mathlib.Core.Path.{◌≡◌, refl, sym, ap, ◌∙◌, subst}
 use mathlib.Core.Bool.{Bool, true, false}
-use mathlib.Core.List.{List, [], ◌∷◌, ◌++◌}
+use mathlib.Core.List.{List, [], ◌∷◌}
 use mathlib.Core.Option.{Option, none, some}
 use Prim.Native.Nat.{ℕ, ◌≤◌, ◌<◌}
 use native.Mathlib.Omega.{arith}
 use borrow.Author.Tests.{lt-ltb, le-ltb}
-use lib.Dec.{ltb}
 use lib.IntN.{ℤ}
 use lib.ListN.{length}
 use Rattle.grammar.specs.Notation.{Letter}
 use Rattle.grammar.specs.Viable.{Grammatical, Marked, Judged}
-use Rattle.grammar.proofs.Markings.{one_marking}
 use Rattle.definition.specs.declared.Refusal.{Refusal}
-use Rattle.definition.specs.declared.Summary.{Summary}
 use Rattle.definition.specs.Limits.{most_bytes}
 use Rattle.definition.specs.Words.{Placed, those, first}
 use Rattle.definition.specs.declared.Rule.{Rule}
@@ -25,14 +22,15 @@ use Rattle.definition.specs.Commands.{Number, Command, commands}
 use Rattle.definition.specs.Standing.{Standing, outside, after, scaled}
 use Rattle.definition.specs.Faults.{beyond, distances, numbers_of, zero_scale, degenerate, layerless, has_too_many, at_numbers, at_command, faults, all_faults, first_fault}
 use Rattle.definition.specs.Rounded.{rounded}
-use Rattle.definition.specs.Summary.{layer_names, too_many_from, sooner, first_fault_or_name, empty_summary, summary_from, summary_of, Summarises, too_long, not_cif, read}
+use Rattle.definition.specs.Summary.{too_many_from, sooner, first_fault_or_name, empty_summary, summary_from, summary_of, Summarises, too_long, not_cif, read}
 use Rattle.laws.proofs.Lists.Range.{All, all-++}
 use Rattle.laws.proofs.Commands.Sizes.{all_map}
 use Rattle.reading.specs.Refusal.{fault_said, by_verdict}
 use Rattle.passing.specs.Passed.{Passed}
 use Rattle.reader.specs.Screened.{Screened, over, within}
-use Rattle.marks.specs.Noted.{Noted, Gathers}
-use Rattle.summary.specs.Summed.{Foremost, NamedPassed, Starts}
+use Rattle.marks.specs.declared.Names.{Names as Run}
+use Rattle.marks.specs.Noted.{Gathers}
+use Rattle.summary.specs.Summed.{Foremost, Starts}
 
 -- ---- no refusal of a command has a number below 3
 
@@ -78,14 +76,14 @@ from_three cs e = high_first (all_faults (outside []) cs) (high_all (outside [])
 
 -- ---- the first in the text
 
-pub foremost_none : {t : List ℕ} (names : List ℕ) {n : ℕ} (before : Refusal) {g : Result ℕ ℕ} → ((m : List Letter) → Marked t m → Gathers (commands 0 m) g names) → g ≡ Ok n → Foremost t before before
+pub foremost_none : {t : List ℕ} {n : Run} (before : Refusal) {g : Result Run ℕ} → ((m : List Letter) → Marked t m → Gathers (commands 0 m) g) → g ≡ Ok n → Foremost t before before
 unfolding Gathers sooner
-foremost_none names before f e m k = ap (sooner (some before)) (subst (λ (g : Result ℕ ℕ). Gathers (commands 0 m) g names) e (f m k)).1
+foremost_none before f e m k = ap (sooner (some before)) (subst (λ (g : Result Run ℕ). Gathers (commands 0 m) g) e (f m k)).1
 
-module _ {t : List ℕ} (names : List ℕ) {p : ℕ} (before : Refusal) {g : Result ℕ ℕ} (f : (m : List Letter) → Marked t m → Gathers (commands 0 m) g names) (e : g ≡ Err p) where
+module _ {t : List ℕ} {p : ℕ} (before : Refusal) {g : Result Run ℕ} (f : (m : List Letter) → Marked t m → Gathers (commands 0 m) g) (e : g ≡ Err p) where
   over_at : (m : List Letter) → Marked t m → too_many_from [] (commands 0 m) ≡ some (refuse TooManyLayers p)
   unfolding Gathers
-  over_at m k = subst (λ (g : Result ℕ ℕ). Gathers (commands 0 m) g names) e (f m k)
+  over_at m k = subst (λ (g : Result Run ℕ). Gathers (commands 0 m) g) e (f m k)
 
   pub foremost-name : p < before.place → Foremost t before (refuse TooManyLayers p)
   unfolding sooner
@@ -134,9 +132,9 @@ module _ {t : List ℕ} {d : Result ℕ Refusal} {why : Refusal} (x : Screened t
       go (over h) q k = absurd (let z = ap (λ (r : Refusal). number_of r.rule) (same-refusal q) in omega (arith, z, k))
       go (within h f) q k = judged h f.verdict f.judged (subst (by_verdict t f.verdict) q f.is) k
 
-  pub before-commands : number_of why.rule < 3 → (names : List ℕ) → Starts t (Err why) names
+  pub before-commands : number_of why.rule < 3 → Starts t (Err why)
   unfolding Starts
-  before-commands h names = go x e
+  before-commands h = go x e
     where
       judged : length t ≤ most_bytes → (v : Result Unit ℕ) → Judged t v → by_verdict t v (Err why) → (words symbol : ℕ) → Summarises t words symbol (empty_summary t why)
       judged s (Ok _) g f words symbol = absurd (let z = from_three (commands 0 g.0) (fault_of g f) in omega (arith, z, h))
@@ -146,16 +144,16 @@ module _ {t : List ℕ} {d : Result ℕ Refusal} {why : Refusal} (x : Screened t
       go (over s) q words symbol = subst (λ (r : Refusal). Summarises t words symbol (empty_summary t r)) (same-refusal q) (too_long s)
       go (within s f) q words symbol = judged s f.verdict f.judged (subst (by_verdict t f.verdict) q f.is) words symbol
 
-pub by_commands : {t : List ℕ} {before r : Refusal} (names : List ℕ) → OfCommands t before → Foremost t before r → Starts t (Err r) names
+pub by_commands : {t : List ℕ} {before r : Refusal} → OfCommands t before → Foremost t before r → Starts t (Err r)
 unfolding Starts first_fault_or_name
-by_commands names o f = stopped_by o.short o.grammatical.1 (ap (λ (x : Option Refusal). sooner x (too_many_from [] (commands 0 o.grammatical.0))) o.is ∙ f o.grammatical.0 o.grammatical.1)
+by_commands o f = stopped_by o.short o.grammatical.1 (ap (λ (x : Option Refusal). sooner x (too_many_from [] (commands 0 o.grammatical.0))) o.is ∙ f o.grammatical.0 o.grammatical.1)
 
 -- ---- a text that 3 to 9 let pass
 
-pub passed : {t : List ℕ} (p : Passed t) (names : List ℕ) (g : Result ℕ ℕ) {r : Result ℕ Refusal} → ((m : List Letter) → Marked t m → Gathers (commands 0 m) g names)
-    → ((n : ℕ) → g ≡ Ok n → r ≡ Ok n) → ((q : ℕ) → g ≡ Err q → r ≡ Err (refuse TooManyLayers q)) → Starts t r names
+pub passed : {t : List ℕ} (p : Passed t) (g : Result Run ℕ) {r : Result Run Refusal} → ((m : List Letter) → Marked t m → Gathers (commands 0 m) g)
+    → ((n : Run) → g ≡ Ok n → r ≡ Ok n) → ((q : ℕ) → g ≡ Err q → r ≡ Err (refuse TooManyLayers q)) → Starts t r
 unfolding Starts Gathers first_fault_or_name sooner
-passed p names (Ok n) f is refused = let x = f p.letters p.marked in rw (is n refl) (record { passed = p; noted = x.0; clear = x.1 })
-passed p names (Err q) f is refused =
+passed p (Ok n) f is refused = let x = f p.letters p.marked in rw (is n refl) (record { passed = p; noted = x.0; clear = x.1 })
+passed p (Err q) f is refused =
     rw (refused q refl)
     (stopped_by p.short p.marked (ap (λ (x : Option Refusal). sooner x (too_many_from [] (commands 0 p.letters))) p.clear ∙ f p.letters p.marked))

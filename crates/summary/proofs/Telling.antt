@@ -4,45 +4,46 @@
 use Rattle.std.specs.Prelude.{Option as Maybe, Some, None, Result, Ok, Err, if◌then◌else◌}
 use mathlib.Core.Path.{◌≡◌, refl, sym, ap, ap₂, ◌∙◌, subst}
 use mathlib.Core.Bool.{Bool, true, false}
-use mathlib.Core.List.{List, [], ◌∷◌, ◌++◌, flat_map}
+use mathlib.Core.List.{List, [], ◌∷◌, flat_map}
 use mathlib.Core.Option.{Option, none, some, map}
 use Prim.Native.Nat.{ℕ, zero, suc, ◌+◌, ◌*◌, ◌/◌, ◌%◌, ◌≤◌, ◌<◌}
 use native.Mathlib.Omega.{arith}
 use lib.Dec.{eqb}
 use lib.Count.{ones, count_trailing_zeros, under}
-use lib.IntN.{ℤ, pos, nat_abs}
+use lib.IntN.{ℤ}
 use lib.ListN.{length, get_or}
 use Rattle.definition.specs.declared.Refusal.{Refusal}
 use Rattle.definition.specs.declared.Summary.{Summary}
-use Rattle.definition.specs.Limits.{deepest, most_layers}
-use Rattle.definition.specs.Words.{Placed, any, those, first}
+use Rattle.definition.specs.Limits.{deepest}
+use Rattle.definition.specs.Words.{Placed, those, first}
 use Rattle.definition.specs.declared.Rule.{Rule}
 use Rattle.definition.specs.declared.Rule.TheVariants.{UndefinedSymbol}
 use Rattle.definition.specs.Rules.{number_of}
 use Rattle.definition.specs.Commands.{commands}
 use Rattle.definition.specs.Table.{Step, Definition, Table, find}
 use Rattle.definition.specs.Counts.{End, stopped}
-use Rattle.definition.specs.Drawing.{Passage, barred, passage_to}
+use Rattle.definition.specs.Drawing.{passage_to}
 use Rattle.definition.specs.Lean.{lean, lean_definition, lean_table}
-use Rattle.definition.specs.Summary.{Names, among, appearing, packed_name, own_shapes, own_calls, own_layers, Reply, bars, stands, body_reply, reply_by, reply_to, body_found, in_symbol}
+use Rattle.definition.specs.Summary.{Names, among, appearing, packed_name, own_shapes, own_calls, own_layers, Reply, bars, stands, reply_by, reply_to, body_found, in_symbol}
 use Rattle.definition.specs.Summary.{layer_names, sooner, first_fault_or_name, empty_summary, summary_in, summary_from, summary_of, Summarises, read}
 use Rattle.definition.specs.Marks.{set_of_layers}
 use Rattle.laws.proofs.Story.Marks.{bit, set_none, set-ones, marked_first, some_mark, set_first}
 use Rattle.laws.proofs.Story.Lean.{lean-find}
 use Rattle.laws.proofs.Story.LeanReplies.{lean-shapes, lean-calls, lean-layers, lean_replies, lean_found}
 use Rattle.names.specs.Names.{name_of, unpacked, packed, packed_by}
-use Rattle.library.specs.Memory.{symbol_at, body_at, definition_at, table_of}
+use Rattle.library.specs.Memory.{body_at, table_of}
 use Rattle.library.specs.Rows.{Finds}
 use Rattle.library.proofs.Holding.{held-table}
 use Rattle.library.proofs.Looking.{found, not_found}
 use Rattle.passing.specs.Passed.{Passed}
+use Rattle.marks.specs.declared.Names.{Names as Run}
 use Rattle.marks.specs.Noted.{Noted}
 use Rattle.columns.specs.declared.Own.{Own}
 use Rattle.heights.specs.declared.Standing.{Standing}
 use Rattle.heights.specs.Walk.{standing}
 use Rattle.heights.specs.Replies.{ReplyOf, SymbolReplies}
 use Rattle.heights.proofs.Walking.{same_height, same_layers}
-use Rattle.summary.specs.Summed.{end_of, table_left, FirstName, SetIn, OwnIs, Given, TableHeld, KeepsAll, KeepsText, NamedPassed, Starts, Askable, TellsReply, Tells, TellsText}
+use Rattle.summary.specs.Summed.{end_of, table_left, SetIn, OwnIs, Given, TableHeld, KeepsAll, KeepsText, NamedPassed, Starts, Askable, TellsReply, Tells, TellsText}
 
 -- ---- the lowest mark is one of the names
 
@@ -247,16 +248,16 @@ module _ (t : List ℕ) (w : ℕ) (names : List ℕ) (count : ℕ) {s : Result �
       let y : end_of w p.letters ≡ stopped why [] = subst (λ (x : Result ℕ Refusal). KeepsText t w names count x rows b figures calls layers) e k p in
       q ∙ sym (ap (λ (o : End). summary_in t o (layer_names (commands 0 p.letters)) (table_left p.letters) symbol) y)
 
-module _ (t : List ℕ) {g : Result ℕ Refusal} (names : List ℕ) (s : Starts t g names) where
+module _ (t : List ℕ) {g : Result Run Refusal} (s : Starts t g) where
   pub starts-stopped : {why : Refusal} → g ≡ Err why → {r : Summary} → r ≡ empty_summary t why → {words symbol : ℕ} → Summarises t words symbol r
   unfolding Starts
-  starts-stopped e q {words} {symbol} = subst (Summarises t words symbol) (sym q) (subst (λ (x : Result ℕ Refusal). Starts t x names) e s words symbol)
+  starts-stopped e q {words} {symbol} = subst (Summarises t words symbol) (sym q) (subst (λ (x : Result Run Refusal). Starts t x) e s words symbol)
 
-  pub starts-named : {count : ℕ} → g ≡ Ok count → NamedPassed t names count
+  pub starts-named : {run : Run} → g ≡ Ok run → NamedPassed t run.numbers run.count
   unfolding Starts
-  starts-named e = subst (λ (x : Result ℕ Refusal). Starts t x names) e s
+  starts-named e = subst (λ (x : Result Run Refusal). Starts t x) e s
 
-  pub starts-told : {count : ℕ} → g ≡ Ok count → {r : Summary} {words symbol : ℕ} → TellsText t words names count symbol r → Summarises t words symbol r
+  pub starts-told : {run : Run} → g ≡ Ok run → {r : Summary} {words symbol : ℕ} → TellsText t words run.numbers run.count symbol r → Summarises t words symbol r
   unfolding summary_of summary_from first_fault_or_name sooner
   starts-told e {r} {words} {symbol} x =
       let q = starts-named e in

@@ -2,7 +2,7 @@
 -- crates/definition's `Summarised`.
 -- Assumes nothing.
 use Rattle.std.specs.Prelude.{◌≡◌, List, [], map, ℕ, Result, Ok, Err, ◌≤◌, ℤ, length}
-use Rattle.std.proofs.Math.Option.{Option, none, some}
+use Rattle.std.proofs.Math.Option.{none, some}
 use Rattle.grammar.specs.Notation.{Letter}
 use Rattle.grammar.specs.Viable.{Marked}
 use Rattle.definition.specs.declared.Refusal.{Refusal}
@@ -23,6 +23,7 @@ use Rattle.library.specs.Rows.{Sorted}
 use Rattle.library.specs.Holds.{Holds}
 use Rattle.keeping.specs.Keeping.{most_words}
 use Rattle.passing.specs.Passed.{Passed}
+use Rattle.marks.specs.declared.Names.{Names as Run}
 use Rattle.marks.specs.Noted.{Noted}
 use Rattle.columns.specs.Columns.{Afresh}
 use Rattle.columns.specs.declared.Own.{Own}
@@ -67,9 +68,9 @@ pub record NamedPassed (t : List ℕ) (names : List ℕ) (count : ℕ) : Type 0 
   pub noted : Noted names count (layer_names (commands 0 passed.letters))
   pub clear : too_many_from [] (commands 0 passed.letters) ≡ none
 
-unfoldable pub Starts : List ℕ → Result ℕ Refusal → List ℕ → Type 0
-Starts t (Err why) names = (words symbol : ℕ) → Summarises t words symbol (empty_summary t why)
-Starts t (Ok count) names = NamedPassed t names count
+unfoldable pub Starts : List ℕ → Result Run Refusal → Type 0
+Starts t (Err why) = (words symbol : ℕ) → Summarises t words symbol (empty_summary t why)
+Starts t (Ok run) = NamedPassed t run.numbers run.count
 
 -- ---- a symbol
 

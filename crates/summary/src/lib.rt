@@ -19,6 +19,7 @@ use columns::Own;
 use definition::{Refusal, Rule, Summary};
 use heights::Standing;
 use keeping::Stock;
+use marks::Names;
 
 // A command has at most 2,049 numbers, and two words in front.
 const COMMAND_WORDS: usize = 2051;
@@ -31,16 +32,15 @@ fn keep_text(
     rows: &mut [usize; library::ROW_NUMBERS],
     bodies: &mut [i32],
     words: &mut [i32],
-    names: &[usize; definition::MOST_LAYERS],
-    count: usize,
+    names: &Names,
     figures: &mut [u64; library::MOST],
     calls: &mut [u64; library::MOST],
     layers: &mut [u64; library::MOST],
 ) -> Result<usize, Refusal>
     requires passed { Passed text.now × (length rows.old ≡ row_numbers) × (length bodies.old ≤ most_words) }
-    requires most_values_in_bounds { (most_values + 2 ≤ length words.old) × (count ≤ most_layers) }
+    requires most_values_in_bounds { (most_values + 2 ≤ length words.old) × (names.now.count ≤ most_layers) }
     requires figures_len { (length figures.old ≡ most) × (length calls.old ≡ most) × (length layers.old ≡ most) }
-    ensures { KeepsText text.now (length bodies.old) names.now count result rows.new bodies.new figures.new calls.new layers.new }
+    ensures { KeepsText text.now (length bodies.old) names.now.numbers names.now.count result rows.new bodies.new figures.new calls.new layers.new }
 {
     let mut spot = pieces::Spot { at: 0, state: 0 };
     let mut stock = Stock {
@@ -74,7 +74,6 @@ fn keep_text(
                         taken.stock.live,
                         start.symbol,
                         names,
-                        count,
                         figures,
                         calls,
                         layers,
@@ -109,11 +108,11 @@ fn no_summary(text: &[u8], refusal: Refusal) -> Summary
 }
 
 // The first of refusals 3 to 9 of a text, and 19, in text order.
-fn foremost(text: &[u8], names: &mut [usize; definition::MOST_LAYERS], refusal: Refusal) -> Refusal
-    requires { Grammatical text.now × (length names.old ≡ most_layers) }
+fn foremost(text: &[u8], refusal: Refusal) -> Refusal
+    requires { Grammatical text.now }
     ensures { Foremost text.now refusal result }
 {
-    match marks::gather(text, names) {
+    match marks::gather(text) {
         Ok(_) => refusal,
         Err(place) => {
             if place < refusal.place {
@@ -134,19 +133,18 @@ fn precedes_commands(rule: Rule) -> bool
     rule == Rule::TextTooLong || rule == Rule::NotInGrammar
 }
 
-// Refusals 1 to 9 and 19, and the layer names of a text that they let pass: how many they are.
-fn begin(text: &[u8], names: &mut [usize; definition::MOST_LAYERS]) -> Result<usize, Refusal>
-    requires { length names.old ≡ most_layers }
-    ensures { Starts text.now result names.new }
+// Refusals 1 to 9 and 19, or the layer names of a text that they let pass.
+fn begin(text: &[u8]) -> Result<Names, Refusal>
+    ensures { Starts text.now result }
 {
     match reader::first_fault(text) {
         Err(refusal) => {
             if precedes_commands(refusal.rule) {
                 return Err(refusal);
             }
-            Err(foremost(text, names, refusal))
+            Err(foremost(text, refusal))
         }
-        Ok(_) => marks::gather(text, names).map_err(|place| Refusal {
+        Ok(_) => marks::gather(text).map_err(|place| Refusal {
             rule: Rule::TooManyLayers,
             place,
         }),
@@ -167,25 +165,21 @@ fn lowest_of(set: u64) -> u32
 }
 
 // The name of a set's first layer, packed; 0 for none.
-fn first_name(names: &[usize; definition::MOST_LAYERS], set: u64) -> usize
-    requires { SetIn names.now set }
-    ensures { FirstName names.now set result }
+fn first_name(names: &Names, set: u64) -> usize
+    requires { SetIn names.now.numbers set }
+    ensures { FirstName names.now.numbers set result }
 {
     if set == 0 {
         return 0;
     }
     let mark = lowest_of(set) as usize;
-    names[mark]
+    names.numbers[mark]
 }
 
 // What is told of a symbol, by what a call of it gives and by its own numbers.
-fn tell_reply(
-    names: &[usize; definition::MOST_LAYERS],
-    reply: Result<Standing, Rule>,
-    own: Own,
-) -> Summary
-    requires { Given names.now reply own }
-    ensures { TellsReply names.now reply own result }
+fn tell_reply(names: &Names, reply: Result<Standing, Rule>, own: Own) -> Summary
+    requires { Given names.now.numbers reply own }
+    ensures { TellsReply names.now.numbers reply own result }
 {
     let shapes = own.shapes as usize;
     let calls = own.calls as usize;
@@ -229,14 +223,14 @@ fn tell(
     bodies: &[i32],
     rows: &[usize; library::ROW_NUMBERS],
     live: usize,
-    names: &[usize; definition::MOST_LAYERS],
+    names: &Names,
     figures: &[u64; library::MOST],
     calls: &[u64; library::MOST],
     layers: &[u64; library::MOST],
     symbol: usize,
 ) -> Summary
-    requires { Askable rows.now bodies.now live names.now figures.now calls.now layers.now }
-    ensures { Tells rows.now bodies.now live names.now figures.now calls.now layers.now symbol result }
+    requires { Askable rows.now bodies.now live names.now.numbers figures.now calls.now layers.now }
+    ensures { Tells rows.now bodies.now live names.now.numbers figures.now calls.now layers.now symbol result }
 {
     match library::find(rows, live, symbol) {
         None => {
@@ -266,20 +260,19 @@ fn tell_text(
     rows: &mut [usize; library::ROW_NUMBERS],
     bodies: &mut [i32],
     words: &mut [i32],
-    names: &[usize; definition::MOST_LAYERS],
-    count: usize,
+    names: &Names,
     figures: &mut [u64; library::MOST],
     calls: &mut [u64; library::MOST],
     layers: &mut [u64; library::MOST],
     symbol: usize,
 ) -> Summary
-    requires named_passed { NamedPassed text.now names.now count × (length rows.old ≡ row_numbers) × (length bodies.old ≤ most_words) }
+    requires named_passed { NamedPassed text.now names.now.numbers names.now.count × (length rows.old ≡ row_numbers) × (length bodies.old ≤ most_words) }
     requires most_values_in_bounds { most_values + 2 ≤ length words.old }
     requires figures_len { (length figures.old ≡ most) × (length calls.old ≡ most) × (length layers.old ≡ most) }
-    ensures { TellsText text.now (length bodies.old) names.now count symbol result }
+    ensures { TellsText text.now (length bodies.old) names.now.numbers names.now.count symbol result }
 {
     match keep_text(
-        text, recogniser, rows, bodies, words, names, count, figures, calls, layers,
+        text, recogniser, rows, bodies, words, names, figures, calls, layers,
     ) {
         Err(refusal) => no_summary(text, refusal),
         Ok(live) => tell(bodies, rows, live, names, figures, calls, layers, symbol),
@@ -287,15 +280,9 @@ fn tell_text(
 }
 
 // The same, with memory of its own but for the words lent, of which no more are used than bodies can need.
-fn tell_passed(
-    text: &[u8],
-    bodies: &mut [i32],
-    names: &[usize; definition::MOST_LAYERS],
-    count: usize,
-    symbol: usize,
-) -> Summary
-    requires { NamedPassed text.now names.now count }
-    ensures { TellsText text.now (length bodies.old) names.now count symbol result }
+fn tell_passed(text: &[u8], bodies: &mut [i32], names: &Names, symbol: usize) -> Summary
+    requires { NamedPassed text.now names.now.numbers names.now.count }
+    ensures { TellsText text.now (length bodies.old) names.now.numbers names.now.count symbol result }
 {
     let recogniser = grammar::Recogniser::new();
     let mut rows = [0usize; library::ROW_NUMBERS];
@@ -311,7 +298,6 @@ fn tell_passed(
         &mut bodies[0..lent],
         &mut words,
         names,
-        count,
         &mut figures,
         &mut calls,
         &mut layers,
@@ -323,10 +309,9 @@ fn tell_passed(
 fn sum_up(text: &[u8], bodies: &mut [i32], symbol: usize) -> Summary
     ensures { Summarises text.now (length bodies.old) symbol result }
 {
-    let mut names = [0usize; definition::MOST_LAYERS];
-    match begin(text, &mut names) {
+    match begin(text) {
         Err(refusal) => no_summary(text, refusal),
-        Ok(count) => tell_passed(text, bodies, &names, count, symbol),
+        Ok(names) => tell_passed(text, bodies, &names, symbol),
     }
 }
 

@@ -3,4 +3,4 @@ use Rattle.marks.specs.Noted.{New}
 use Rattle.marks.proofs.mark_of.Given as goal
 
 abbrev pub invariant-loop-i : goal.invariant-loop-i
-invariant-loop-i l = New l.names l.i l.name
+invariant-loop-i l = New l.names.numbers l.i l.name

@@ -2,14 +2,11 @@
 use Rattle.summary.proofs.Starting.{foremost_none, foremost-name, foremost-before}
 use Rattle.summary.proofs.foremost.Goals as goal
 
-pub gather-requires : goal.gather-requires
-gather-requires c = c.requires
-
 pub returns-then-place-refusal : goal.returns-then-place-refusal
-returns-then-place-refusal c = foremost-name _ _ c.gather.ensures c.in-Err.is c.if-place-refusal.true
+returns-then-place-refusal c = foremost-name _ c.gather.ensures c.in-Err.is c.if-place-refusal.true
 
 pub returns-in-Ok : goal.returns-in-Ok
-returns-in-Ok c = foremost_none _ _ c.gather.ensures c.in-Ok.is
+returns-in-Ok c = foremost_none _ c.gather.ensures c.in-Ok.is
 
 pub returns-else-place-refusal : goal.returns-else-place-refusal
-returns-else-place-refusal c = foremost-before _ _ c.gather.ensures c.in-Err.is c.if-place-refusal.false
+returns-else-place-refusal c = foremost-before _ c.gather.ensures c.in-Err.is c.if-place-refusal.false

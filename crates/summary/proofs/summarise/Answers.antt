@@ -2,7 +2,6 @@
 use mathlib.Core.Path.{ap, ◌∙◌}
 use lib.IntN.{pos}
 use lib.ListN.{replicate}
-use borrow.Author.Rules.{rules}
 use Rattle.summary.proofs.summarise.Goals as goal
 
 pub returns : goal.returns
