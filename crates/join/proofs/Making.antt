@@ -3,6 +3,7 @@
 use Rattle.std.specs.Prelude.{if◌then◌else◌, Err, Ok, Result}
 use mathlib.Core.Path.{◌≡◌, refl, sym, ap, ap₂, ◌∙◌, subst}
 use mathlib.Core.Bool.{Bool, true, false, ◌&&◌}
+use mathlib.Core.Logic.{◌⊎◌, inl, inr}
 use mathlib.Core.List.{List, ◌++◌, append_assoc}
 use Prim.Native.Nat.{ℕ, ◌+◌, ◌≤◌, ◌<◌}
 use native.Mathlib.Omega.{arith}
@@ -68,13 +69,13 @@ module _ {first : List ℕ} {end : ℕ} (cut : CutAt first end) (second : List �
       → (r ≡ fitted bytes (length room)) × (room ≡ room_after r (joined first second) room)
   eighteen room is test = (is ∙ ap (by_test bytes) (sym test), ap (λ (x : Result ℕ NotJoined). room_after x (joined first second) room) (sym is))
 
-  pub no_room : {r : Result ℕ NotJoined} (room : List ℕ) → r ≡ about Neither FlatFileTooLong 0 → length room < end + 4 + length second
+  no_room : {r : Result ℕ NotJoined} (room : List ℕ) → r ≡ about Neither FlatFileTooLong 0 → length room < end + 4 + length second
       → (r ≡ fitted bytes (length room)) × (room ≡ room_after r (joined first second) room)
   no_room room is h =
       let k : length room < bytes = omega (arith, h, joined_length) in
       eighteen room is (ap (λ (b : Bool). b && leb bytes most_bytes) (lt-leb bytes (length room) k))
 
-  pub beyond_limit : {r : Result ℕ NotJoined} (room : List ℕ) → r ≡ about Neither FlatFileTooLong 0 → most_bytes < end + 4 + length second
+  beyond_limit : {r : Result ℕ NotJoined} (room : List ℕ) → r ≡ about Neither FlatFileTooLong 0 → most_bytes < end + 4 + length second
       → (r ≡ fitted bytes (length room)) × (room ≡ room_after r (joined first second) room)
   beyond_limit room is h =
       let k : most_bytes < bytes = omega (arith, h, joined_length) in
@@ -83,6 +84,12 @@ module _ {first : List ℕ} {end : ℕ} (cut : CutAt first end) (second : List �
       neither : (b : Bool) → (b && false) ≡ false
       neither true = refl
       neither false = refl
+
+  pub too_large : {r : Result ℕ NotJoined} (room : List ℕ) → r ≡ about Neither FlatFileTooLong 0
+      → (length room < end + 4 + length second) ⊎ ((end + 4 + length second ≤ length room) × (most_bytes < end + 4 + length second))
+      → (r ≡ fitted bytes (length room)) × (room ≡ room_after r (joined first second) room)
+  too_large room is (inl h) = no_room room is h
+  too_large room is (inr h) = beyond_limit room is h.1
 
   pub fits : {room left : List ℕ} {n : ℕ} → end + 4 + length second ≤ length room → end + 4 + length second ≤ most_bytes → Writes room left 0 n (joined first second)
       → (Ok n ≡ fitted bytes (length room)) × (left ≡ room_after (Ok n) (joined first second) room)

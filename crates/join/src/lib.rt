@@ -78,10 +78,7 @@ fn join_sound(first: &[u8], second: &[u8], room: &mut [u8]) -> Result<usize, Not
 {
     let end = end_of(first);
     let length = end + SEAM.len() + second.len();
-    if room.len() < length {
-        return Err(refused(Which::Neither, Rule::FlatFileTooLong, 0));
-    }
-    if definition::MOST_BYTES < length {
+    if room.len() < length || definition::MOST_BYTES < length {
         return Err(refused(Which::Neither, Rule::FlatFileTooLong, 0));
     }
     Ok(write(first, end, second, room))

@@ -25,6 +25,7 @@ pub fn run(
 {
     let mut frames = [machine::NO_FRAME; MOST_RECORDS];
     let mut s = begun;
+    // Not the loop of crate frames: that one goes from where a text begins, and this one from any state.
     while s.going {
         let slot = s.slot;
         let old = frames[slot];

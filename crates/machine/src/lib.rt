@@ -440,7 +440,7 @@ fn written(bodies: &mut [i32], room: &mut [u8], c: Course, ink: Ink) -> State
     over(bodies, answer, c.records)
 }
 
-// The text goes on, onto the room.
+// The text goes on, onto the room. It is no part of `measure`: that one ends with it, and no function here may call itself.
 fn write(
     text: &[u8],
     rows: &mut [usize; library::ROW_NUMBERS],

@@ -124,6 +124,7 @@ pub fn draw_body(
     let mut at = here.at;
     let mut layer = here.layer;
     let mut ink = before;
+    // No `for`: each command says where the next one begins.
     while at < end {
         let head = engine::head_at(bodies, at);
         let from = at;

@@ -15,7 +15,7 @@ pub returns-then-room-length : goal.returns-then-room-length
 returns-then-room-length c =
     let long : TooLong (c.args.ink.pen.at + 2) (length c.args.room.now) =
     elim c.then-room-length.branch [
-      then-room-length-via-then-room-length w ↦ inl w.if-room-length.true
+      | then-room-length-via-then-room-length w ↦ inl w.if-room-length.true
       | then-room-length-via-else-room-length+then-length-gt-MOST_BYTES w ↦ inr w.if-length-gt-MOST_BYTES.true
     ] in
     λ h fs m. measured_long m long c.refused_outside-answer.ensures c.over.ensures.0 c.over.ensures.1
