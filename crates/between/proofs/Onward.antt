@@ -18,8 +18,8 @@ use Rattle.definition.specs.Limits.{most_definitions}
 use Rattle.definition.specs.Words.{Placed, at}
 use Rattle.definition.specs.declared.Rule.TheVariants.{TooManyDefinitions, TooFewWords}
 use Rattle.definition.specs.Rules.{refuse}
-use Rattle.definition.specs.Commands.{Number, Command, layer, delete}
-use Rattle.definition.specs.Standing.{Standing, outside, after}
+use Rattle.definition.specs.Commands.{Command, layer}
+use Rattle.definition.specs.Standing.{Standing, after}
 use Rattle.definition.specs.Table.{Step, Definition, Table, enter}
 use Rattle.definition.specs.Drawing.{Deed, output, define, remove, deeds, Chain, Event, entered, removed, refused, happens, table_after, story}
 use Rattle.definition.specs.Counts.{counted, shapes_of}
@@ -31,20 +31,19 @@ use Rattle.laws.proofs.Story.Lean.{Alike, alike_output}
 use Rattle.reasons.specs.Parts.{StopsIn}
 use Rattle.reasons.proofs.Parts.{stops-part, stops_alike, stops-both}
 use Rattle.names.specs.Names.{name_of}
-use Rattle.pieces.specs.Pieces.{stream, letter_s, too_large, Fit}
+use Rattle.pieces.specs.Pieces.{stream, letter_s, too_large}
 use Rattle.pieces.specs.declared.Spot.{Spot}
 use Rattle.rules.specs.Letters.{letter_d, letter_l}
 use Rattle.rules.specs.Written.{Written, written}
 use Rattle.commands.specs.Words.{DecodedOne}
-use Rattle.counts.specs.declared.Counts.{Counts}
 use Rattle.counts.specs.Counting.{tally}
 use Rattle.moves.specs.Moves.{most_values}
 use Rattle.shapes.specs.declared.Ink.{Ink}
-use Rattle.shapes.specs.Painting.{inked, Reached, Goes, Answered, Painted}
+use Rattle.shapes.specs.Painting.{inked, Goes, Answered, Painted}
 use Rattle.shapes.proofs.Painting.{PaintedSoFar, so_far, goes_on, skips, stops, over, quiet, refusal}
 use Rattle.shapes.proofs.Alike.{alike_painted}
 use Rattle.library.proofs.Holding.{held-table}
-use Rattle.keeping.specs.Keeping.{most_words, Begins, Takes, Defines, DefinesAt}
+use Rattle.keeping.specs.Keeping.{Begins, Defines, DefinesAt}
 use Rattle.keeping.specs.declared.Start.{Start}
 use Rattle.keeping.specs.declared.Stock.{Stock}
 use Rattle.engine.specs.Outer.{Says}
@@ -52,11 +51,11 @@ use Rattle.engine.proofs.Heads.{natural_fits}
 use Rattle.passing.specs.Passed.{outputs, start_in, Deletes}
 use Rattle.passing.proofs.Letters.{is_delete}
 use Rattle.passing.proofs.Reading.{Met, none_met, third_word, met_layer}
-use Rattle.passing.proofs.Stands.{Stands, to_do, met, deeds_are, past_layer, layer-left, past_delete, delete-left, past_other, begins, open_there, text-opens, made, define-left, past_define, start-within, may_define, comes, takes}
+use Rattle.passing.proofs.Stands.{to_do, met, deeds_are, past_layer, layer-left, past_delete, delete-left, past_other, begins, open_there, text-opens, made, define-left, past_define, start-within, may_define, comes, takes}
 use Rattle.passing.proofs.Outer.{is_output, is_idle}
 use Rattle.opening.specs.declared.Call.{Call}
 use Rattle.between.specs.declared.Stand.{Stand}
-use Rattle.between.specs.Texts.{held_story, held_deed, Origin, Paused, shown_by, OuterOpens, OuterCase, OuterBy, OuterComes, CallsOut, TextCase, TextBy}
+use Rattle.between.specs.Texts.{held_story, held_deed, Origin, Paused, shown_by, OuterOpens, OuterCase, OuterBy, OuterComes, TextCase, TextBy}
 use Rattle.between.proofs.Redefined.{alike_stacked, shown_same}
 use Rattle.std.specs.Prelude.{Err, Ok, Result}
 use Rattle.keeping.specs.declared.Taken.{Taken}

@@ -1,7 +1,7 @@
 -- To draw a call or a shape redefines nothing, held to records or not; and what is alike stays so when it is held to them.
 -- Assumes nothing.
 use Rattle.std.specs.Prelude.{if◌then◌else◌, Ok}
-use mathlib.Core.Path.{◌≡◌, refl, ap, subst}
+use mathlib.Core.Path.{◌≡◌, refl, ap}
 use mathlib.Core.Bool.{Bool, true, false}
 use mathlib.Core.List.{List, [], ◌∷◌, map}
 use Prim.Native.Nat.{ℕ}
@@ -11,7 +11,7 @@ use lib.ListN.{length}
 use Rattle.definition.specs.Words.{Placed}
 use Rattle.definition.specs.declared.Rule.TheVariants.{TooFewRecords}
 use Rattle.definition.specs.Rules.{refuse}
-use Rattle.definition.specs.Table.{Step, Definition, Table}
+use Rattle.definition.specs.Table.{Step, Table}
 use Rattle.definition.specs.Drawing.{Chain, Event, called, drew, entered, removed, refused, output, happens}
 use Rattle.definition.specs.Records.{stacked_to}
 use Rattle.laws.proofs.Lists.Range.{All}

@@ -1,15 +1,13 @@
 -- A command outside of definitions that draws, held to the records lent: a call is refused or opened where none is open, and a shape is drawn where nothing is moved.
 -- Assumes nothing.
 use mathlib.Core.Path.{◌≡◌, refl, sym, ap, ap₂, ◌∙◌, subst}
-use mathlib.Core.List.{List, [], ◌∷◌, ◌++◌, map, append-nil}
-use Prim.Native.Nat.{ℕ, ◌-◌, ◌*◌, ◌^◌}
+use mathlib.Core.List.{List, [], ◌∷◌, append-nil}
+use Prim.Native.Nat.{ℕ}
 use native.Mathlib.Omega.{arith}
 use lib.IntN.{ℤ, nat_abs}
-use lib.ListN.{length}
-use Rattle.definition.specs.Words.{at}
 use Rattle.definition.specs.Commands.{Shape, Turn}
-use Rattle.definition.specs.Table.{Step, shape, instance}
-use Rattle.definition.specs.Drawing.{Chain, Event, drawn_shape, drawn_step, drawn_call, output, happens}
+use Rattle.definition.specs.Table.{shape, instance}
+use Rattle.definition.specs.Drawing.{Chain, Event, drawn_shape, drawn_step, happens}
 use Rattle.definition.specs.Records.{stacked_to}
 use Rattle.definition.specs.declared.Refusal.{Refusal}
 use Rattle.laws.proofs.Story.Axes.{by_axes}
@@ -18,25 +16,23 @@ use Rattle.turns.specs.declared.Net.{Net}
 use Rattle.turns.specs.Nets.{Carries, Near}
 use Rattle.turns.proofs.Nets.{near-more}
 use Rattle.moves.specs.Moves.{ShapedAt}
-use Rattle.counts.specs.declared.Counts.{Counts}
 use Rattle.shapes.specs.declared.Ink.{Ink}
 use Rattle.shapes.specs.Painting.{inked, Reached, Painted, ShapeDraws}
-use Rattle.shapes.proofs.Painting.{PaintedSoFar, begun, skips}
+use Rattle.shapes.proofs.Painting.{begun, skips}
 use Rattle.library.specs.Memory.{call_letter, table_of}
 use Rattle.chain.specs.Chain.{open_calls}
 use Rattle.chain.proofs.Runs.{none_open}
 use Rattle.opening.specs.declared.Call.{Call}
 use Rattle.opening.specs.Calls.{CalledAt, ReadsCall}
 use Rattle.engine.specs.Draws.{open_at}
-use Rattle.engine.specs.Outer.{Says, a_shape, a_call}
-use Rattle.engine.proofs.Outer.{said-call}
+use Rattle.engine.specs.Outer.{a_shape, a_call}
 use Rattle.engine.proofs.Taking.{no_kind}
 use Rattle.stretch.specs.Opening.{OpensWith}
 use Rattle.stretch.specs.Bodies.{call_story, Led}
 use Rattle.stretch.specs.Bodies.{Opens as OpensCall}
 use Rattle.stretch.proofs.Calls.{call-stopped, call-led, call-counts, call-going}
 use Rattle.stretch.proofs.Counting.{painted-grows}
-use Rattle.between.specs.Texts.{shown_by, OuterOpens, OuterCase, OuterBy, OuterComes, OuterGrows}
+use Rattle.between.specs.Texts.{shown_by, OuterCase, OuterComes, OuterGrows}
 use Rattle.std.specs.Prelude.{Err, Ok, Result}
 use Rattle.opening.specs.declared.Entered.{Entered}
 use Rattle.between.specs.declared.Outer.{Outer}

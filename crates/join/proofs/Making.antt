@@ -18,11 +18,11 @@ use Rattle.grammar.proofs.Verdicts.{Bytes}
 use Rattle.grammar.proofs.Verdicts
 use Rattle.definition.specs.Limits.{most_bytes}
 use Rattle.definition.specs.Words.{bytes_of}
-use Rattle.definition.specs.declared.Rule.TheVariants.{NotInGrammar, FlatFileTooLong}
+use Rattle.definition.specs.declared.Rule.TheVariants.{FlatFileTooLong}
 use Rattle.joining.specs.Joined.{before_e, joined}
 use Rattle.digits.specs.Writes.{Writes}
 use Rattle.digits.proofs.Writing.{written, both, same_bytes, begins, measures}
-use Rattle.join.specs.Made.{CutAt, about, fitted, by_verdicts, LeavesAt, Joining, judged, room_after, Made}
+use Rattle.join.specs.Made.{CutAt, about, fitted, LeavesAt, Joining, judged, room_after, Made}
 use Rattle.join.specs.declared.NotJoined.{NotJoined}
 use Rattle.join.specs.declared.Which.TheVariants.{Neither, First, Second}
 

@@ -1,7 +1,7 @@
 -- What `join` answers is settled, and so is every byte of the room; and two accepted texts are joined wherever the joined text fits.
 -- Assumes nothing.
-use Rattle.std.specs.Prelude.{if◌then◌else◌, Err, Ok, Result}
-use mathlib.Core.Path.{◌≡◌, refl, sym, ap, ap₂, ◌∙◌, subst}
+use Rattle.std.specs.Prelude.{if◌then◌else◌, Ok, Result}
+use mathlib.Core.Path.{◌≡◌, refl, sym, ap, ap₂, ◌∙◌}
 use mathlib.Core.Bool.{Bool, ◌&&◌}
 use mathlib.Core.List.{List, ◌++◌}
 use Prim.Native.Nat.{ℕ, ◌≤◌}
@@ -9,7 +9,7 @@ use native.Mathlib.Omega.{arith}
 use borrow.Author.Tests.{le-leb}
 use lib.ListN.{length, take, drop}
 use lib.Seq.{take_at, drop_at}
-use Rattle.grammar.specs.Viable.{Grammatical, Judged}
+use Rattle.grammar.specs.Viable.{Grammatical}
 use Rattle.grammar.proofs.Unique.{one_verdict}
 use Rattle.definition.specs.Limits.{most_bytes}
 use Rattle.definition.specs.Words.{Placed}

@@ -2,17 +2,15 @@
 -- Assumes nothing.
 use mathlib.Core.Path.{◌≡◌, refl, sym, ap, ◌∙◌, subst}
 use mathlib.Core.Bool.{Bool, true, false}
-use mathlib.Core.List.{List, [], ◌∷◌, ◌++◌}
+use mathlib.Core.List.{List}
 use Prim.Native.Nat.{ℕ, zero, suc, ◌+◌, ◌-◌, ◌*◌, ◌^◌, ◌≤◌, ◌<◌}
 use native.Mathlib.Omega.{arith}
 use lib.IntN.{ℤ}
 use lib.ListN.{length}
 use Rattle.definition.specs.declared.Answer.{Answer}
 use Rattle.definition.specs.declared.Refusal.{Refusal}
-use Rattle.definition.specs.Limits.{most_calls}
 use Rattle.definition.specs.Answer.{failure}
-use Rattle.definition.specs.Counts.{counts, finished, stopped, ending}
-use Rattle.definition.specs.Table.{Table}
+use Rattle.definition.specs.Counts.{stopped, ending}
 use Rattle.definition.specs.Commands.{Turn}
 use Rattle.definition.specs.Drawing.{Chain, Event}
 use Rattle.laws.proofs.Story.Counting.{not_finished}
@@ -24,18 +22,18 @@ use Rattle.turns.specs.Nets.{Carries, Near}
 use Rattle.counts.specs.Counting.{tally}
 use Rattle.shapes.specs.declared.Ink.{Ink}
 use Rattle.shapes.specs.Painting.{Goes, Answered, Painted}
-use Rattle.shapes.proofs.Painting.{PaintedSoFar, goes_on, stops, so_far}
+use Rattle.shapes.proofs.Painting.{goes_on, stops, so_far}
 use Rattle.library.specs.Memory.{table_of, start_at, length_at, most}
 use Rattle.chain.specs.Chain.{run_length, open_calls}
 use Rattle.passing.specs.Passed.{Passed}
 use Rattle.opening.specs.declared.Call.{Call}
 use Rattle.stretch.specs.declared.Here.{Here}
-use Rattle.stretch.specs.Bodies.{rest_of, Poised, body_story, Led, CallsOn, BodyComes, Grows}
+use Rattle.stretch.specs.Bodies.{rest_of, body_story, Led, CallsOn, BodyComes, Grows}
 use Rattle.machine.specs.declared.Frame.{Frame}
 use Rattle.machine.specs.declared.Course.{Course}
 use Rattle.machine.specs.declared.State.{State}
 use Rattle.machine.specs.States.{started, popping, Unwinds, Pushes, open_in, cut, onto, Spares, StandsIn, Stretches}
-use Rattle.machine.specs.Underway.{Host, course_turns, all_of, NetThere, CameOut, stopped_there, Phase, Base, Calling, InBody, Arrives}
+use Rattle.machine.specs.Underway.{Host, course_turns, all_of, NetThere, CameOut, stopped_there, Phase, InBody, Arrives}
 use Rattle.machine.proofs.Stepping.{unwinds_arrive, pop_arrives}
 use Rattle.machine.proofs.Pushing.{phase_on, body-pushed}
 use Rattle.std.specs.Prelude.{Err, Ok, Result}

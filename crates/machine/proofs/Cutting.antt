@@ -4,23 +4,20 @@ use Rattle.std.specs.Prelude.{if◌then◌else◌, Result}
 use mathlib.Core.Path.{◌≡◌, refl, sym, ap, ◌∙◌, subst}
 use mathlib.Core.Bool.{Bool, true, false}
 use mathlib.Core.List.{List, [], ◌∷◌, ◌++◌, append-nil}
-use Prim.Native.Nat.{ℕ, zero, suc, ◌+◌, ◌-◌, ◌*◌, ◌^◌, ◌≤◌, ◌<◌}
+use Prim.Native.Nat.{ℕ, zero, suc, ◌+◌, ◌-◌, ◌*◌, ◌^◌, ◌≤◌}
 use native.Mathlib.Omega.{arith}
 use lib.IntN.{ℤ}
 use lib.ListN.{length, take, drop, length-append}
 use lib.Seq.{take_all, drop-length, take-append_seam, length-take-le}
-use borrow.Author.Tests.{ltb-true, ltb-false}
+use borrow.Author.Tests.{ltb-false}
 use lib.Dec.{ltb}
 use Rattle.definition.specs.Limits.{deepest}
-use Rattle.definition.specs.Drawing.{Chain, Event}
 use Rattle.turns.specs.Nets.{Near}
 use Rattle.library.specs.Memory.{most_words}
-use Rattle.chain.specs.Chain.{run_length, open_calls}
+use Rattle.chain.specs.Chain.{open_calls}
 use Rattle.passing.specs.Passed.{lent_of}
-use Rattle.shapes.specs.declared.Ink.{Ink}
 use Rattle.stretch.specs.declared.Here.{Here}
 use Rattle.stretch.specs.Bodies.{Rests, Poised, BodyComes, Grows}
-use Rattle.between.specs.declared.Stand.{Stand}
 use Rattle.between.specs.Texts.{Paused, Pausing, TextBy, TextComes, TextGrows}
 use Rattle.machine.specs.declared.Course.{Course}
 use Rattle.machine.specs.States.{cut, seen_of, onto, Spares, open_in, StandsIn, Stretches, Passes}

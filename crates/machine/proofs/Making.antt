@@ -1,6 +1,6 @@
 -- Records and states as they are made: a body comes back from its record, and a refusal unwinds or is over.
 -- Assumes nothing.
-use mathlib.Core.Path.{◌≡◌, refl, sym, ap, ◌∙◌, subst}
+use mathlib.Core.Path.{◌≡◌, refl, ap, ◌∙◌, subst}
 use mathlib.Core.Bool.{Bool, true, false}
 use mathlib.Core.List.{List}
 use Prim.Native.Nat.{ℕ, ◌/◌, ◌%◌, ◌≤◌}
@@ -11,7 +11,6 @@ use lib.IntN.{ℤ, pos}
 use lib.ListN.{length, replicate}
 use Rattle.definition.specs.declared.Answer.{Answer}
 use Rattle.definition.specs.declared.Refusal.{Refusal}
-use Rattle.definition.specs.Drawing.{Chain}
 use Rattle.definition.specs.Answer.{failure}
 use Rattle.turns.specs.declared.Net.{Net}
 use Rattle.chain.specs.Chain.{chain_in, Stopped}

@@ -6,9 +6,8 @@ use mathlib.Core.List.{List, [], ◌∷◌, ◌++◌, append_assoc}
 use Prim.Native.Nat.{ℕ, zero, suc, ◌+◌, ◌-◌, ◌*◌, ◌^◌, ◌≤◌, ◌<◌}
 use native.Mathlib.Omega.{arith}
 use lib.IntN.{ℤ}
-use lib.ListN.{length, get_or, set, length-set}
+use lib.ListN.{length, set, length-set}
 use lib.Seq.{get_or-set_same}
-use Rattle.definition.specs.Limits.{most_calls}
 use Rattle.definition.specs.Words.{Placed, at}
 use Rattle.definition.specs.Commands.{Turn}
 use Rattle.definition.specs.Table.{Step, Table}
@@ -19,7 +18,7 @@ use Rattle.pen.proofs.Names.{no_name}
 use Rattle.shapes.specs.declared.Ink.{Ink}
 use Rattle.shapes.proofs.Painting.{PaintedSoFar, goes_on, skips, so_far}
 use Rattle.library.specs.Memory.{words_at, steps_of, table_of, start_at, length_at, body_at}
-use Rattle.library.specs.Sound.{all_words, Proper, Stocked}
+use Rattle.library.specs.Sound.{Proper, Stocked}
 use Rattle.chain.specs.Chain.{open_calls}
 use Rattle.chain.proofs.Runs.{kept-below, so_many, none_open}
 use Rattle.passing.specs.Passed.{lent_of}
@@ -31,8 +30,8 @@ use Rattle.between.specs.Texts.{CallsOut}
 use Rattle.machine.specs.declared.Frame.{Frame}
 use Rattle.machine.specs.declared.Course.{Course}
 use Rattle.machine.specs.declared.State.{State}
-use Rattle.machine.specs.States.{no_frame, no_here, frame_of, here_of, pushing, Pushes, cut, onto, Spares}
-use Rattle.machine.specs.Underway.{Host, origin_of, phase_turns, course_turns, turns_left, Blank, all_of, Phase, Base, AtText, Calling, Caller, Callers, InBody, Means, MeansBy, Underway, Arrives}
+use Rattle.machine.specs.States.{no_frame, frame_of, Pushes, cut, onto, Spares}
+use Rattle.machine.specs.Underway.{Host, origin_of, course_turns, turns_left, Blank, all_of, Phase, Base, AtText, Calling, Caller, Callers, InBody, Means, MeansBy, Arrives}
 use Rattle.machine.proofs.Making.{here_back}
 use Rattle.machine.proofs.Stepping.{blank_put, callers-set, callers-run}
 

@@ -3,7 +3,6 @@
 use mathlib.Core.Path.{◌≡◌, refl, sym, ap, ◌∙◌, subst}
 use mathlib.Core.Bool.{Bool, true, false}
 use mathlib.Core.List.{List, [], ◌∷◌}
-use mathlib.Core.Logic.{inl, inr}
 use Prim.Native.Nat.{ℕ, zero, suc, ◌+◌, ◌-◌, ◌*◌, ◌^◌, ◌≤◌, ◌<◌}
 use native.Mathlib.Omega.{arith}
 use lib.IntN.{ℤ, pos}
@@ -21,7 +20,6 @@ use Rattle.definition.specs.Limits.{most_bytes, most_calls, most_shapes}
 use Rattle.definition.specs.declared.Rule.TheVariants.{FlatFileTooLong}
 use Rattle.definition.specs.Rules.{refuse}
 use Rattle.definition.specs.Answer.{failure}
-use Rattle.definition.specs.Drawing.{Event}
 use Rattle.laws.proofs.Rules.Outcomes.{TooLong}
 use Rattle.pen.proofs.Names.{no_name}
 use Rattle.shapes.specs.declared.Ink.{Ink}
@@ -36,7 +34,7 @@ use Rattle.machine.specs.declared.Frame.{Frame}
 use Rattle.machine.specs.declared.Course.{Course}
 use Rattle.machine.specs.declared.State.{State}
 use Rattle.machine.specs.States.{no_frame, started, fresh_course, over_state, clearing, here_of, cut, onto, Spares, Passes}
-use Rattle.machine.specs.Underway.{Host, lends_from, refused_early, too_long_for, phase_turns, course_turns, start_turns, turns_left, Blank, Cleared, all_of, Fits, Phase, Base, AtText, InBody, Back, to_text, to_body, Beginning, Means, MeansBy, Measured, Arrives}
+use Rattle.machine.specs.Underway.{Host, lends_from, refused_early, too_long_for, phase_turns, course_turns, start_turns, turns_left, Blank, Cleared, all_of, Phase, Base, AtText, InBody, Back, to_text, to_body, Beginning, Means, MeansBy, Measured, Arrives}
 use Rattle.machine.proofs.Settling.{finished-goes}
 use Rattle.machine.proofs.Stepping.{over_arrives}
 use Rattle.machine.proofs.Cutting.{lent-within}

@@ -1,45 +1,31 @@
 -- From one state to the next: what a stretch of drawing came to, and the state that is made of it, is under way. One law for each way.
 -- Assumes nothing.
 use mathlib.Core.Path.{◌≡◌, refl, sym, ap, ◌∙◌, subst}
-use mathlib.Core.Bool.{Bool, true, false}
-use mathlib.Core.List.{List, [], ◌∷◌, ◌++◌, append-nil, append_assoc}
-use Prim.Native.Nat.{ℕ, zero, suc, ◌+◌, ◌-◌, ◌*◌, ◌^◌, ◌≤◌, ◌<◌}
+use mathlib.Core.Bool.{true}
+use mathlib.Core.List.{List, ◌++◌}
+use Prim.Native.Nat.{ℕ, zero, suc, ◌+◌, ◌-◌, ◌*◌, ◌≤◌, ◌<◌}
 use native.Mathlib.Omega.{arith}
 use borrow.Author.Tests.{eq-eqb, ne_eqb}
 use lib.IntN.{ℤ, pos}
 use lib.ListN.{length, get_or, set, replicate, length-set}
 use lib.Seq.{get_or-set_same, get_or-set_other}
 use Rattle.definition.specs.declared.Answer.{Answer}
-use Rattle.definition.specs.declared.Refusal.{Refusal}
 use Rattle.definition.specs.Limits.{most_calls}
-use Rattle.definition.specs.Words.{at}
-use Rattle.definition.specs.Commands.{Turn}
 use Rattle.definition.specs.Table.{Table}
 use Rattle.definition.specs.Drawing.{Chain, Event}
-use Rattle.turns.specs.Nets.{Carries, Near}
 use Rattle.shapes.specs.declared.Ink.{Ink}
-use Rattle.shapes.specs.Painting.{Reached, Painted}
-use Rattle.shapes.proofs.Painting.{PaintedSoFar, goes_on, skips, stops, over, so_far}
-use Rattle.library.specs.Memory.{table_of, start_at, length_at, body_at}
-use Rattle.library.specs.Sound.{Stocked}
-use Rattle.chain.specs.Chain.{open_calls, Pushed}
-use Rattle.chain.proofs.Runs.{kept-below, so_many}
-use Rattle.passing.specs.Passed.{Passed, lent_of}
-use Rattle.opening.specs.declared.Call.{Call}
+use Rattle.shapes.proofs.Painting.{skips, over}
+use Rattle.library.specs.Memory.{table_of}
+use Rattle.chain.specs.Chain.{open_calls}
+use Rattle.passing.specs.Passed.{lent_of}
 use Rattle.stretch.specs.declared.Here.{Here}
-use Rattle.stretch.specs.Bodies.{rest_of, Rests, body_story, deeper, Led, CallsOn}
-use Rattle.stretch.specs.Bodies.{Opens as OpensCall}
-use Rattle.stretch.proofs.Running.{rest_is}
-use Rattle.between.specs.declared.Stand.{Stand}
-use Rattle.between.specs.Texts.{Paused, CallsOut}
+use Rattle.stretch.specs.Bodies.{rest_of, body_story}
 use Rattle.machine.specs.declared.Frame.{Frame}
 use Rattle.machine.specs.declared.Course.{Course}
-use Rattle.machine.specs.declared.Kind.{Kind}
-use Rattle.machine.specs.declared.Kind.TheVariants.{Clear, Push, Pop, Unwind}
+use Rattle.machine.specs.declared.Kind.TheVariants.{Pop}
 use Rattle.machine.specs.declared.State.{State}
-use Rattle.machine.specs.States.{no_frame, frame_of, here_of, over_at, clearing, at_level, popping, unwinding, Unwinds, pushing, Pushes, open_in, cut, onto}
-use Rattle.machine.specs.Underway.{Host, origin_of, phase_turns, course_turns, start_turns, turns_left, Blank, Cleared, CameOut, all_of, Phase, Base, AtText, Calling, Caller, Callers, InBody, Back, to_text, to_body, Beginning, Refusing, Means, Over, MeansBy, Arrives}
-use Rattle.machine.proofs.Making.{here_back}
+use Rattle.machine.specs.States.{no_frame, here_of, over_at, at_level, popping, unwinding, Unwinds, cut, onto}
+use Rattle.machine.specs.Underway.{Host, origin_of, phase_turns, turns_left, Blank, CameOut, all_of, Base, Calling, Caller, Callers, Back, to_text, to_body, Means, MeansBy, Arrives}
 
 -- ---- records that change at one slot
 

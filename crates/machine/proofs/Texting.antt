@@ -1,30 +1,27 @@
 -- The text goes on, while measuring and while writing: what its stretch came to makes the next state.
 -- Assumes nothing.
 use mathlib.Core.Path.{◌≡◌, refl, sym, ap, ◌∙◌, subst}
-use mathlib.Core.Bool.{Bool, true, false}
-use mathlib.Core.List.{List, [], ◌∷◌, ◌++◌}
-use Prim.Native.Nat.{ℕ, zero, suc, ◌+◌, ◌-◌, ◌*◌, ◌^◌, ◌≤◌, ◌<◌}
+use mathlib.Core.Bool.{Bool, true}
+use mathlib.Core.List.{List, []}
+use Prim.Native.Nat.{ℕ, ◌+◌, ◌^◌, ◌≤◌, ◌<◌}
 use native.Mathlib.Omega.{arith}
 use lib.IntN.{ℤ}
 use lib.ListN.{length}
-use Rattle.definition.specs.declared.Answer.{Answer}
 use Rattle.definition.specs.declared.Refusal.{Refusal}
-use Rattle.definition.specs.Limits.{most_calls}
 use Rattle.definition.specs.Answer.{failure}
 use Rattle.definition.specs.Commands.{Turn, commands}
 use Rattle.definition.specs.Standing.{outside}
-use Rattle.definition.specs.Drawing.{Chain, Event, deeds}
+use Rattle.definition.specs.Drawing.{Event, deeds}
 use Rattle.definition.specs.Counts.{counts, stopped, ending}
 use Rattle.reasons.proofs.Owned.{held-own, net_there}
 use Rattle.turns.specs.Nets.{Carries}
 use Rattle.turns.proofs.Nets.{nothing_carried}
 use Rattle.shapes.specs.declared.Ink.{Ink}
 use Rattle.shapes.specs.Painting.{Goes, Answered, Painted}
-use Rattle.shapes.proofs.Painting.{so_far}
-use Rattle.library.specs.Memory.{start_at, length_at, most, row_numbers}
+use Rattle.library.specs.Memory.{start_at, length_at, most}
 use Rattle.chain.specs.Chain.{run_length, open_calls}
 use Rattle.chain.proofs.Runs.{none_open}
-use Rattle.passing.specs.Passed.{Passed, lent_of}
+use Rattle.passing.specs.Passed.{lent_of}
 use Rattle.opening.specs.declared.Call.{Call}
 use Rattle.stretch.specs.declared.Here.{Here}
 use Rattle.between.specs.declared.Stand.{Stand}
@@ -32,8 +29,8 @@ use Rattle.between.specs.Texts.{Origin, Paused, Pausing, CallsOut, TextCase, Tex
 use Rattle.machine.specs.declared.Frame.{Frame}
 use Rattle.machine.specs.declared.Course.{Course}
 use Rattle.machine.specs.declared.State.{State}
-use Rattle.machine.specs.States.{started, no_here, Unwinds, Pushes, Writes, open_in, cut, onto, Spares, Passes}
-use Rattle.machine.specs.Underway.{Host, origin_of, course_turns, all_of, NetThere, CameOut, written_out, Fits, Phase, Base, AtText, Arrives}
+use Rattle.machine.specs.States.{started, no_here, Unwinds, Pushes, Writes, open_in, cut, onto, Passes}
+use Rattle.machine.specs.Underway.{Host, origin_of, course_turns, all_of, NetThere, written_out, Fits, Phase, AtText, Arrives}
 use Rattle.machine.proofs.Settling.{finished-goes}
 use Rattle.machine.proofs.Stepping.{over_arrives, unwinds_arrive}
 use Rattle.machine.proofs.Pushing.{text-pushed}

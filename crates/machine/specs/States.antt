@@ -1,15 +1,15 @@
 -- The machine's records and states as they are made: what a record keeps of a body, and the state after each thing that can happen. A running account, not to be
 -- believed: what a state means stands in Underway.antt.
 -- Assumes nothing.
-use Rattle.std.specs.Prelude.{◌≡◌, Bool, true, false, List, [], ◌∷◌, ℕ, suc, ◌+◌, ◌-◌, ◌*◌, ◌/◌, ◌%◌, ◌^◌, ◌<◌, ◌≤◌, eqb, ℤ, pos, length, take, replicate, if◌then◌else◌, Result}
+use Rattle.std.specs.Prelude.{◌≡◌, Bool, true, false, List, [], ◌∷◌, ℕ, ◌+◌, ◌-◌, ◌*◌, ◌/◌, ◌%◌, ◌^◌, ◌<◌, ◌≤◌, eqb, ℤ, pos, length, take, replicate, if◌then◌else◌, Result}
 use Rattle.std.proofs.lemmas.List.Edits.{sets}
 use Rattle.definition.specs.declared.Answer.{Answer}
 use Rattle.definition.specs.declared.Refusal.{Refusal}
 use Rattle.definition.specs.Drawing.{Chain}
-use Rattle.definition.specs.Answer.{success, failure}
+use Rattle.definition.specs.Answer.{success}
 use Rattle.definition.specs.Counts.{counts}
 use Rattle.turns.specs.declared.Net.{Net}
-use Rattle.counts.specs.Counting.{tally, zero_counts}
+use Rattle.counts.specs.Counting.{tally}
 use Rattle.shapes.specs.declared.Ink.{Ink}
 use Rattle.chain.specs.Chain.{open_calls, Pushed}
 use Rattle.passing.specs.Passed.{lent_of}

@@ -1,7 +1,7 @@
 -- What a state of the machine means: what is left to be drawn, by the records, the words and the room as they are. `Underway` is the invariant of every loop over
 -- `turn`, whoever keeps the records. A running account, not to be believed: what is promised is crates/definition's.
 -- Assumes nothing.
-use Rattle.std.specs.Prelude.{◌≡◌, Bool, true, false, List, [], ◌∷◌, ◌++◌, map, ℕ, zero, suc, ◌+◌, ◌-◌, ◌*◌, ◌^◌, ◌<◌, ◌≤◌, ℤ, pos, length, get_or, set, replicate, if◌then◌else◌, Err, Ok, Result}
+use Rattle.std.specs.Prelude.{◌≡◌, Bool, true, false, List, [], ◌∷◌, ◌++◌, map, ℕ, zero, suc, ◌+◌, ◌-◌, ◌*◌, ◌^◌, ◌<◌, ◌≤◌, ℤ, pos, length, get_or, set, replicate, Err, Ok, Result}
 use Rattle.std.proofs.Math.Option.{some}
 use Rattle.std.proofs.Common.{arith}
 use Rattle.std.proofs.lemmas.List.Edits.{sets}
@@ -42,7 +42,7 @@ use Rattle.machine.specs.declared.Course.{Course}
 use Rattle.machine.specs.declared.Kind.{Kind}
 use Rattle.machine.specs.declared.Kind.TheVariants.{Clear, Push, Pop, Unwind}
 use Rattle.machine.specs.declared.State.{State}
-use Rattle.machine.specs.States.{no_frame, here_of, started, open_in, cut, onto}
+use Rattle.machine.specs.States.{no_frame, here_of, started, cut, onto}
 
 -- what a host lends: so many words, a room, and so many records; and how many shapes count as drawn before its text
 pub record Host : Type 0 where

@@ -1,12 +1,11 @@
 -- One call held to the records lent: refused before its body, or counted, and then what its body draws one level down is left.
 -- Assumes nothing.
 use mathlib.Core.Path.{◌≡◌, refl, sym, ap, ap₂, ◌∙◌, subst}
-use mathlib.Core.List.{List, [], ◌∷◌, ◌++◌, map, append_assoc}
-use Prim.Native.Nat.{ℕ, zero, suc, ◌+◌, ◌-◌, ◌*◌, ◌^◌, ◌≤◌, ◌<◌}
+use mathlib.Core.List.{List, [], ◌∷◌, ◌++◌, map}
+use Prim.Native.Nat.{ℕ, zero, suc, ◌+◌, ◌-◌, ◌*◌, ◌^◌, ◌<◌}
 use native.Mathlib.Omega.{arith}
 use lib.IntN.{ℤ}
 use lib.ListN.{length}
-use Rattle.definition.specs.Words.{at}
 use Rattle.definition.specs.Commands.{Turn}
 use Rattle.definition.specs.Turns.{off_axes}
 use Rattle.definition.specs.Table.{Definition, Table}
@@ -14,8 +13,7 @@ use Rattle.definition.specs.Drawing.{Chain, Event, called, leads, passage_of, th
 use Rattle.definition.specs.Counts.{shapes_of}
 use Rattle.definition.specs.Records.{stacked_to}
 use Rattle.definition.specs.declared.Refusal.{Refusal}
-use Rattle.turns.specs.Nets.{Carries, Near}
-use Rattle.counts.specs.declared.Counts.{Counts}
+use Rattle.turns.specs.Nets.{Near}
 use Rattle.shapes.specs.declared.Ink.{Ink}
 use Rattle.shapes.specs.Painting.{inked, Reached, Painted}
 use Rattle.shapes.proofs.Painting.{PaintedSoFar, quiet, refusal, goes_on}
@@ -28,7 +26,7 @@ use Rattle.engine.proofs.Calls.{row_live, descent_reached}
 use Rattle.stacking.proofs.Stacked.{stacked_one}
 use Rattle.stretch.specs.Opening.{OpensWith}
 use Rattle.stretch.proofs.Counting.{called_one}
-use Rattle.stretch.specs.Bodies.{body_story, call_story, deeper, Led, Opens}
+use Rattle.stretch.specs.Bodies.{body_story, call_story, deeper, Led}
 use Rattle.std.specs.Prelude.{Err, Ok, Result}
 use Rattle.opening.specs.declared.Entered.{Entered}
 

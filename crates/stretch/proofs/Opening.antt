@@ -3,22 +3,17 @@
 -- Assumes nothing.
 use Rattle.std.specs.Prelude.{if◌then◌else◌, Err, Ok, Result}
 use mathlib.Core.Path.{◌≡◌, refl, sym, ap, ◌∙◌, subst}
-use mathlib.Core.Bool.{Bool, true, false}
-use mathlib.Core.List.{List, [], ◌∷◌, map, head-eq_of_cons-eq, tail-eq_of_cons-eq}
+use mathlib.Core.Bool.{Bool}
+use mathlib.Core.List.{List, [], ◌∷◌, map, head-eq_of_cons-eq}
 use Prim.Native.Nat.{ℕ, ◌-◌, ◌≤◌, ◌<◌}
-use native.Mathlib.Omega.{arith}
 use borrow.Author.Tests.{le-leb}
-use lib.Dec.{ltb}
-use lib.IntN.{ℤ}
 use lib.ListN.{length}
-use Rattle.definition.specs.Limits.{deepest, most_calls}
-use Rattle.definition.specs.declared.Rule.TheVariants.{TooFewRecords, TooManyCalls}
+use Rattle.definition.specs.Limits.{deepest}
+use Rattle.definition.specs.declared.Rule.TheVariants.{TooFewRecords}
 use Rattle.definition.specs.Rules.{refuse}
-use Rattle.definition.specs.Commands.{Turn}
-use Rattle.definition.specs.Turns.{off_axes}
 use Rattle.definition.specs.Table.{Definition}
 use Rattle.definition.specs.Drawing.{Chain, Event, called, refused, Passage, barred, leads, passage_of, through}
-use Rattle.definition.specs.Counts.{finished, stopped, counted}
+use Rattle.definition.specs.Counts.{stopped, counted}
 use Rattle.definition.specs.Records.{stacked_to}
 use Rattle.definition.specs.declared.Refusal.{Refusal}
 use Rattle.counts.specs.declared.Counts.{Counts}

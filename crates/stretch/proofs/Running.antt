@@ -2,7 +2,7 @@
 -- are those whose words stand from here to the end.
 -- Assumes nothing.
 use mathlib.Core.Path.{◌≡◌, refl, sym, ap, ap₂, ◌∙◌, subst}
-use mathlib.Core.List.{List, [], ◌∷◌, ◌++◌, map, map-append}
+use mathlib.Core.List.{List, [], ◌∷◌, ◌++◌, map-append}
 use Prim.Native.Nat.{ℕ, ◌+◌, ◌-◌, ◌*◌, ◌^◌, ◌≤◌, ◌<◌}
 use native.Mathlib.Omega.{arith}
 use lib.IntN.{ℤ, pos, nat_abs}
@@ -19,7 +19,6 @@ use Rattle.turns.specs.Nets.{Carries, Near}
 use Rattle.turns.proofs.Nets.{near-more}
 use Rattle.names.specs.Names.{name_of, packed}
 use Rattle.moves.specs.Moves.{ShapedAt}
-use Rattle.counts.specs.declared.Counts.{Counts}
 use Rattle.shapes.specs.declared.Ink.{Ink}
 use Rattle.shapes.specs.Painting.{inked, Reached, Painted, ShapeDraws}
 use Rattle.shapes.proofs.Painting.{PaintedSoFar, begun, goes_on, skips, stops, over, so_far, room-kept}
@@ -36,7 +35,7 @@ use Rattle.opening.specs.Calls.{CalledAt, ReadsCall}
 use Rattle.opening.proofs.Witnesses.{some_list}
 use Rattle.stretch.specs.declared.Here.{Here}
 use Rattle.stretch.specs.Opening.{OpensWith}
-use Rattle.stretch.specs.Bodies.{rest_of, Rests, body_story, call_story, Led, Opens, CallsOn, BodyComes, Grows}
+use Rattle.stretch.specs.Bodies.{rest_of, Rests, body_story, call_story, BodyComes, Grows}
 use Rattle.stretch.proofs.Calls.{call-stopped, call-led, call-counts, call-going}
 use Rattle.stretch.proofs.Counting.{going-grows}
 use Rattle.std.specs.Prelude.{Err, Ok, Result}

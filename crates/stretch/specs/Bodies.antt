@@ -1,7 +1,7 @@
 -- What a stretch of a body draws: what its steps from here on draw in the table that the memory holds, held to the records lent, or as much of it as comes before
 -- the body of a call. What is left is a function of the memory. A running account, not to be believed.
 -- Assumes nothing.
-use Rattle.std.specs.Prelude.{◌≡◌, List, [], ◌∷◌, ◌++◌, map, ℕ, ◌+◌, ◌-◌, ◌*◌, ◌^◌, ◌≤◌, ◌<◌, ℤ, length, Err, Ok, Result}
+use Rattle.std.specs.Prelude.{◌≡◌, List, [], ◌∷◌, ◌++◌, map, ℕ, ◌-◌, ◌*◌, ◌^◌, ◌≤◌, ◌<◌, ℤ, length, Err, Ok, Result}
 use Rattle.definition.specs.Words.{Placed, at}
 use Rattle.definition.specs.Limits.{deepest}
 use Rattle.definition.specs.Commands.{Turn}

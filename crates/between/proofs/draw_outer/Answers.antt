@@ -4,7 +4,6 @@ use Rattle.std.proofs.lemmas.Result.{err_from_is_err_and}
 use mathlib.Core.Path.{ap, ◌∙◌}
 use mathlib.Core.List.{[]}
 use native.Mathlib.Omega.{arith}
-use borrow.Author.Rules.{rules}
 use Rattle.turns.proofs.Nets.{near-more}
 use Rattle.engine.proofs.Outer.{said-call, said-shape}
 use Rattle.between.proofs.Shown.{outer-refused, outer-opens, opens-grows, outer_shown, shown_grows, outer-stopped, stopped-grows}

@@ -1,6 +1,5 @@
 -- `draw_text` meets its contract: it lends the tables and the words of one command.
 use native.Mathlib.Omega.{arith}
-use borrow.Author.Rules.{rules}
 use Rattle.between.proofs.draw_text.Goals as goal
 
 pub draw_commands-requires : goal.draw_commands-requires

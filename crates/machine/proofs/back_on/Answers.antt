@@ -1,8 +1,4 @@
 -- `back_on` meets its contract: by what the record says (proofs/Starting.antt).
-use borrow.Author.Rules.{rules}
-use mathlib.Core.Path.{sym, subst}
-use Rattle.stretch.specs.declared.Here.{Here}
-use Rattle.machine.specs.Underway.{InBody}
 use Rattle.machine.proofs.Starting.{back-text, back-body, back-layer, here_in}
 use Rattle.machine.proofs.back_on.Goals as goal
 

@@ -1,5 +1,4 @@
 -- `begin` meets its contract: no shape counts as drawn before.
-use borrow.Author.Rules.{rules}
 use Rattle.machine.specs.Underway.{none_earlier}
 use Rattle.machine.proofs.begin.Goals as goal
 

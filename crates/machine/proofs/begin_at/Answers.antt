@@ -1,5 +1,4 @@
 -- `begin_at` meets its contract: no record is known to be zero (proofs/Starting.antt).
-use borrow.Author.Rules.{rules}
 use native.Mathlib.Omega.{arith}
 use mathlib.Core.List.{List}
 use lib.ListN.{replicate, length-replicate}

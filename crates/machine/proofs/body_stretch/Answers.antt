@@ -1,7 +1,6 @@
 -- `body_stretch` meets its contract: the parts that are lent on are those that it names (proofs/Cutting.antt).
-use borrow.Author.Rules.{rules}
 use native.Mathlib.Omega.{arith}
-use Rattle.machine.proofs.Cutting.{seen_in, lent-within, body_asked, stretched, text_asked, text-passed}
+use Rattle.machine.proofs.Cutting.{seen_in, lent-within, body_asked, stretched}
 use Rattle.machine.proofs.body_stretch.Goals as goal
 
 pub overflow_sub-left : goal.overflow_sub-left

@@ -1,5 +1,4 @@
 -- `clear` meets its contract: the next record is put to zero, or all are (proofs/Starting.antt).
-use borrow.Author.Rules.{rules}
 use native.Mathlib.Omega.{arith}
 use Rattle.machine.proofs.Starting.{sooner, clear_next, all_blank}
 use Rattle.machine.proofs.clear.Goals as goal

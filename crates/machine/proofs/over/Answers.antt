@@ -1,5 +1,4 @@
 -- `over` meets its contract.
-use borrow.Author.Rules.{rules}
 use Rattle.machine.proofs.over.Goals as goal
 
 pub returns : goal.returns

@@ -1,5 +1,4 @@
 -- `over_at` meets its contract.
-use borrow.Author.Rules.{rules}
 use Rattle.machine.proofs.over_at.Goals as goal
 
 pub returns : goal.returns

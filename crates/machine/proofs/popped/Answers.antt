@@ -1,6 +1,4 @@
 -- `popped` meets its contract.
-use borrow.Author.Rules.{rules}
-use native.Mathlib.Omega.{arith}
 use Rattle.machine.proofs.popped.Goals as goal
 
 pub returns : goal.returns

@@ -1,7 +1,5 @@
 -- `pushed` meets its contract.
-use borrow.Author.Rules.{rules}
 use native.Mathlib.Omega.{arith}
-use mathlib.Core.Path.{◌∙◌}
 use Rattle.machine.proofs.pushed.Goals as goal
 
 pub start_at-from-requires : goal.start_at-from-requires

@@ -1,5 +1,4 @@
 -- `start` meets its contract: 1 to 9, or it is measured (proofs/Starting.antt).
-use borrow.Author.Rules.{rules}
 use mathlib.Core.Path.{ap}
 use Rattle.machine.specs.declared.Course.{Course}
 use Rattle.machine.proofs.Starting.{sooner, start-refused, start_at, start_bound}

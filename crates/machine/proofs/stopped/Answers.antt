@@ -1,6 +1,4 @@
 -- `stopped` meets its contract: the run tells the calls that are open.
-use borrow.Author.Rules.{rules}
-use native.Mathlib.Omega.{arith}
 use mathlib.Core.Path.{◌∙◌}
 use Rattle.machine.proofs.Making.{stopped_so}
 use Rattle.machine.proofs.stopped.Goals as goal

@@ -1,5 +1,4 @@
 -- `text_on` meets its contract.
-use borrow.Author.Rules.{rules}
 use Rattle.machine.proofs.text_on.Goals as goal
 
 pub write-requires : goal.write-requires

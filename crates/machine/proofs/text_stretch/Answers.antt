@@ -1,7 +1,5 @@
 -- `text_stretch` meets its contract: the parts that are lent on are those that it names (proofs/Cutting.antt).
-use borrow.Author.Rules.{rules}
-use native.Mathlib.Omega.{arith}
-use Rattle.machine.proofs.Cutting.{seen_in, lent-within, body_asked, stretched, text_asked, text-passed}
+use Rattle.machine.proofs.Cutting.{seen_in, lent-within, text_asked, text-passed}
 use Rattle.machine.proofs.text_stretch.Goals as goal
 
 pub slice_bounds-draw_text-end : goal.slice_bounds-draw_text-end

@@ -1,5 +1,4 @@
 -- `turn` meets its contract: by the kind of the state, what it means is what the function of that kind asks (proofs/Turning.antt).
-use borrow.Author.Rules.{rules}
 use native.Mathlib.Omega.{arith}
 use Rattle.machine.proofs.Turning.{clear_asks, clear_slot, push_asks, pop_asks, clear-turns, push_turns, pop_turns, unwind_turns}
 use Rattle.machine.proofs.turn.Goals as goal

@@ -1,6 +1,4 @@
 -- `unwind` meets its contract: at level 0 the state is over.
-use borrow.Author.Rules.{rules}
-use native.Mathlib.Omega.{arith}
 use Rattle.machine.proofs.Making.{unwinds_over, unwinds_on}
 use Rattle.machine.proofs.unwind.Goals as goal
 

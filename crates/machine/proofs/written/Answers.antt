@@ -1,5 +1,4 @@
 -- `written` meets its contract.
-use borrow.Author.Rules.{rules}
 use native.Mathlib.Omega.{arith}
 use Rattle.machine.proofs.written.Goals as goal
 

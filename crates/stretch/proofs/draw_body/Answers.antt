@@ -4,8 +4,7 @@ use native.Mathlib.Omega.{arith}
 use mathlib.Core.Path.{ap, ◌∙◌}
 use Rattle.std.specs.Prelude.{Err}
 use Rattle.std.proofs.lemmas.Result.{err_from_is_err_and}
-use Rattle.stretch.proofs.Running.{Running, started, reached-here, room-here, was_all, two_more, met, layer_asked, was_layer, shape_asked, was_shape, shape-refused, call_asked, call-refused, call_opens, call-grows, all_grows, stopped-grows}
-use Prim.Native.Nat.{◌-◌}
+use Rattle.stretch.proofs.Running.{started, reached-here, was_all, two_more, met, layer_asked, was_layer, shape_asked, was_shape, shape-refused, call_asked, call-refused, call_opens, call-grows, all_grows, stopped-grows}
 use Rattle.stretch.proofs.draw_body.Goals as goal
 
 pub loop-at-init : goal.loop-at-init
