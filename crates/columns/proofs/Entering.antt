@@ -1,4 +1,4 @@
--- What `enter` hands on: the words of a row's body are sound, and the three columns together.
+-- What `enter` hands on: the words of a row's body are sound, and the column.
 -- Assumes nothing.
 use mathlib.Core.Path.{◌≡◌, sym, subst}
 use mathlib.Core.List.{List}
@@ -18,17 +18,14 @@ module _ {rows : List ℕ} {b : List ℤ} {live row from many : ℕ} where
   pub row_inside : Stocked rows b live → row < live → from ≡ start_at rows row → many ≡ length_at rows row → from + many ≤ length b
   row_inside k h p q = omega (arith, p, q, k.within row h)
 
-  pub entered_all : {before symbol count : ℕ} {names : List ℕ} {own : Own} {shapes calls layers shapes' calls' layers' : List ℕ} → row < live → symbol_at rows row ≡ symbol
-      → from ≡ start_at rows row → many ≡ length_at rows row → OwnOf b from many names count own
-      → Puts shapes before live row own.shapes shapes' → Puts calls before live row own.calls calls' → Puts layers before live row own.layers layers'
-      → Enters b rows before live symbol names count shapes calls layers shapes' calls' layers'
-  entered_all {count = count} {names = names} {own = own} h e p q o x y z = record {
+  pub entered_all : {before symbol count : ℕ} {names : List ℕ} {own : Own} {column column' : List Own} → row < live → symbol_at rows row ≡ symbol
+      → from ≡ start_at rows row → many ≡ length_at rows row → OwnOf b from many names count own → Puts column before live row own column'
+      → Enters b rows before live symbol names count column column'
+  entered_all {count = count} {names = names} {own = own} h e p q o x = record {
     row = row;
     here = h;
     symbol_is = e;
     own = own;
     own_is = subst (λ (i : ℕ). OwnOf b i (length_at rows row) names count own) p (subst (λ (i : ℕ). OwnOf b from i names count own) q o);
-    shapes_put = x;
-    calls_put = y;
-    layers_put = z;
+    put = x;
   }

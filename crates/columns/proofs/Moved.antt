@@ -1,4 +1,4 @@
--- Rows that move as a definition is entered, and columns with them: afterwards they are what would be made afresh from the bodies.
+-- Rows that move as a definition is entered, and the column with them: afterwards it is what would be made afresh from the bodies.
 -- Assumes nothing.
 use Rattle.std.specs.Prelude.{if◌then◌else◌}
 use mathlib.Core.Path.{◌≡◌, refl, sym, ap, ◌∙◌, subst}
@@ -13,11 +13,11 @@ use lib.ListN.{length, get_or}
 use Rattle.definition.specs.Words.{Placed}
 use Rattle.definition.specs.Table.{Step, Definition, Table, enter}
 use Rattle.definition.specs.Lean.{lean, lean_definition}
-use Rattle.definition.specs.Summary.{own_shapes, own_calls}
 use Rattle.library.specs.Memory.{most, symbol_at, body_at, definition_at}
 use Rattle.library.specs.Rows.{Sorted, bare}
 use Rattle.library.specs.Holds.{HoldsFrom, Holds}
-use Rattle.columns.specs.Columns.{SetOf, Puts, More, Stands, Enters, Afresh}
+use Rattle.columns.specs.declared.Own.{Own}
+use Rattle.columns.specs.Columns.{own_at, OwnBy, Puts, More, Stands, Enters, Afresh}
 
 -- ---- where an entry comes to stand
 
@@ -189,29 +189,29 @@ module _ {rows rows' : List ℕ} {b b' : List ℤ} {live live' : ℕ} {t : Table
         body-held h' x (suc j) m
         ∙ (ap (λ (e : Definition). lean e.body) (p.added (omega (arith, e, h.many, h'.many)) j (omega (arith, l, is_row))) ∙ sym (body-held h x j (omega (arith, m, e))))
 
-    -- so is its number, whatever is told of a body
-    module _ (P : ℕ → List (Placed Step) → Type 0) {old new : List ℕ} {v : ℕ} (put : Puts old live live' row v new) (mine : P v (body_at rows' b' row))
-        (others : (i : ℕ) → i < live → P (get_or old i 0) (body_at rows b i)) where
-      low : (j : ℕ) → j < row → j < live' → j < live → P (get_or new j 0) (body_at rows' b' j)
+    -- so are its numbers, whatever is told of a body
+    module _ (P : Own → List (Placed Step) → Type 0) {old new : List Own} {v : Own} (put : Puts old live live' row v new) (mine : P v (body_at rows' b' row))
+        (others : (i : ℕ) → i < live → P (own_at old i) (body_at rows b i)) where
+      low : (j : ℕ) → j < row → j < live' → j < live → P (own_at new j) (body_at rows' b' j)
       low j l m k =
-          subst (λ (n : ℕ). P n (body_at rows' b' j)) (sym (put.below j l)) (subst (P (get_or old j 0)) (sym (stays-below j l m k)) (others j k))
+          subst (λ (n : Own). P n (body_at rows' b' j)) (sym (put.below j l)) (subst (P (own_at old j)) (sym (stays-below j l m k)) (others j k))
 
-      high : live' ≡ live → (j : ℕ) → row < j → j < live' → P (get_or new j 0) (body_at rows' b' j)
+      high : live' ≡ live → (j : ℕ) → row < j → j < live' → P (own_at new j) (body_at rows' b' j)
       high e j l m =
-          subst (λ (n : ℕ). P n (body_at rows' b' j)) (sym (put.replaced e j l)) (subst (P (get_or old j 0)) (sym (stays-above e j l m)) (others j (omega (arith, m, e))))
+          subst (λ (n : Own). P n (body_at rows' b' j)) (sym (put.replaced e j l)) (subst (P (own_at old j)) (sym (stays-above e j l m)) (others j (omega (arith, m, e))))
 
-      up : live' ≡ live + 1 → (j : ℕ) → row < j → j < live' → P (get_or new j 0) (body_at rows' b' j)
+      up : live' ≡ live + 1 → (j : ℕ) → row < j → j < live' → P (own_at new j) (body_at rows' b' j)
       up e zero l m = absurd (omega (arith, l))
       up e (suc j) l m =
           let one : j + 1 ≡ suc j = omega arith in
-          subst (λ (n : ℕ). P n (body_at rows' b' (suc j))) (sym (sym (ap (λ (k : ℕ). get_or new k 0) one) ∙ put.added e j (omega (arith, l)) (omega (arith, m, e))))
-          (subst (P (get_or old j 0)) (sym (goes_up e j (omega (arith, l)) m)) (others j (omega (arith, m, e))))
+          subst (λ (n : Own). P n (body_at rows' b' (suc j))) (sym (sym (ap (λ (k : ℕ). own_at new k) one) ∙ put.added e j (omega (arith, l)) (omega (arith, m, e))))
+          (subst (P (own_at old j)) (sym (goes_up e j (omega (arith, l)) m)) (others j (omega (arith, m, e))))
 
-      after : More live live' → (j : ℕ) → row < j → j < live' → P (get_or new j 0) (body_at rows' b' j)
+      after : More live live' → (j : ℕ) → row < j → j < live' → P (own_at new j) (body_at rows' b' j)
       after (inl e) j l m = high e j l m
       after (inr e) j l m = up e j l m
 
-      moved : (j : ℕ) → j < live' → P (get_or new j 0) (body_at rows' b' j)
+      moved : (j : ℕ) → j < live' → P (own_at new j) (body_at rows' b' j)
       moved j m = go (three_way j row)
         where
           three_way : (i j : ℕ) → (i < j) ⊎ ((i ≡ j) ⊎ (j < i))
@@ -225,48 +225,28 @@ module _ {rows rows' : List ℕ} {b b' : List ℤ} {live live' : ℕ} {t : Table
               more (inr (inl q)) = inr (inl (ap suc q))
               more (inr (inr q)) = inr (inr (omega (arith, q)))
 
-          go : (j < row) ⊎ ((j ≡ row) ⊎ (row < j)) → P (get_or new j 0) (body_at rows' b' j)
+          go : (j < row) ⊎ ((j ≡ row) ⊎ (row < j)) → P (own_at new j) (body_at rows' b' j)
           go (inl l) = low j l m (below_live entered-more)
             where
               below_live : More live live' → j < live
               below_live (inl e) = omega (arith, e, m)
               below_live (inr e) = omega (arith, e, l, here)
-          go (inr (inl e)) = subst (λ (k : ℕ). P (get_or new k 0) (body_at rows' b' k)) (sym e) (subst (λ (n : ℕ). P n (body_at rows' b' row)) (sym put.here) mine)
+          go (inr (inl e)) = subst (λ (k : ℕ). P (own_at new k) (body_at rows' b' k)) (sym e) (subst (λ (n : Own). P n (body_at rows' b' row)) (sym put.here) mine)
           go (inr (inr l)) = after entered-more j l m
 
-  -- the theorem: after a DF the columns are those made afresh
-  pub afresh-entered : {names : List ℕ} {count : ℕ} {shapes calls layers shapes' calls' layers' : List ℕ} {n : ℕ} → n ≡ d.symbol → Sorted rows' live'
-      → Afresh rows b live names count shapes calls layers → Enters b' rows' live live' n names count shapes calls layers shapes' calls' layers'
-      → Afresh rows' b' live' names count shapes' calls' layers'
+  -- the theorem: after a DF the column is the one made afresh
+  pub afresh-entered : {names : List ℕ} {count : ℕ} {column column' : List Own} {n : ℕ} → n ≡ d.symbol → Sorted rows' live'
+      → Afresh rows b live names count column → Enters b' rows' live live' n names count column column' → Afresh rows' b' live' names count column'
   afresh-entered {names} {count} q s a e = record {
-    shapes_sized = e.shapes_put.size ∙ a.shapes_sized;
-    calls_sized = e.calls_put.size ∙ a.calls_sized;
-    layers_sized = e.layers_put.size ∙ a.layers_sized;
-    shapes_are = moved s e.here (e.symbol_is ∙ q) (λ v ss. v ≡ own_shapes ss) e.shapes_put e.own_is.shapes a.shapes_are;
-    calls_are = moved s e.here (e.symbol_is ∙ q) (λ v ss. v ≡ own_calls ss) e.calls_put e.own_is.calls a.calls_are;
-    layers_are = moved s e.here (e.symbol_is ∙ q) (λ v ss. SetOf names count ss v) e.layers_put e.own_is.layers a.layers_are;
+    sized = e.put.size ∙ a.sized;
+    are = moved s e.here (e.symbol_is ∙ q) (λ v ss. OwnBy names count ss v) e.put e.own_is a.are;
   }
 
 -- and after a DD
-pub afresh-cut : {rows : List ℕ} {b : List ℤ} {live left : ℕ} {names : List ℕ} {count : ℕ} {shapes calls layers : List ℕ} → left ≤ live
-    → Afresh rows b live names count shapes calls layers → Afresh rows b left names count shapes calls layers
-afresh-cut h a = record {
-  shapes_sized = a.shapes_sized;
-  calls_sized = a.calls_sized;
-  layers_sized = a.layers_sized;
-  shapes_are = λ i l. a.shapes_are i (omega (arith, l, h));
-  calls_are = λ i l. a.calls_are i (omega (arith, l, h));
-  layers_are = λ i l. a.layers_are i (omega (arith, l, h));
-}
+pub afresh-cut : {rows : List ℕ} {b : List ℤ} {live left : ℕ} {names : List ℕ} {count : ℕ} {column : List Own} → left ≤ live
+    → Afresh rows b live names count column → Afresh rows b left names count column
+afresh-cut h a = record { sized = a.sized; are = λ i l. a.are i (omega (arith, l, h)) }
 
 -- of no rows
-pub afresh_none : (rows : List ℕ) (b : List ℤ) (names : List ℕ) (count : ℕ) {shapes calls layers : List ℕ} → length shapes ≡ most → length calls ≡ most → length layers ≡ most
-    → Afresh rows b 0 names count shapes calls layers
-afresh_none rows b names count e f g = record {
-  shapes_sized = e;
-  calls_sized = f;
-  layers_sized = g;
-  shapes_are = λ i l. absurd (omega (arith, l));
-  calls_are = λ i l. absurd (omega (arith, l));
-  layers_are = λ i l. absurd (omega (arith, l));
-}
+pub afresh_none : (rows : List ℕ) (b : List ℤ) (names : List ℕ) (count : ℕ) {column : List Own} → length column ≡ most → Afresh rows b 0 names count column
+afresh_none rows b names count e = record { sized = e; are = λ i l. absurd (omega (arith, l)) }

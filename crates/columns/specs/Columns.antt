@@ -14,16 +14,26 @@ use Rattle.columns.specs.declared.Own.{Own}
 abbrev pub SetOf : (names : List ℕ) (count : ℕ) → List (Placed Step) → (set : ℕ) → Type 0
 SetOf names count ss r = (ns : Names) → Noted names count ns → r ≡ set_of_layers ns (own_layers ss)
 
-pub record OwnOf (b : List ℤ) (from many : ℕ) (names : List ℕ) (count : ℕ) (r : Own) : Type 0 where
-  pub shapes : r.shapes ≡ own_shapes (steps_in b from many)
-  pub calls : r.calls ≡ own_calls (steps_in b from many)
-  pub layers : SetOf names count (steps_in b from many) r.layers
+-- the own numbers of a body
+pub record OwnBy (names : List ℕ) (count : ℕ) (ss : List (Placed Step)) (r : Own) : Type 0 where
+  pub shapes : r.shapes ≡ own_shapes ss
+  pub calls : r.calls ≡ own_calls ss
+  pub layers : SetOf names count ss r.layers
 
--- the numbers from a row on stand one higher
-pub record Shifted (old : List ℕ) (before row : ℕ) (new : List ℕ) : Type 0 where
+abbrev pub OwnOf : (b : List ℤ) (from many : ℕ) (names : List ℕ) (count : ℕ) → Own → Type 0
+OwnOf b from many names count r = OwnBy names count (steps_in b from many) r
+
+abbrev pub none_own : Own
+none_own = record { shapes = 0; calls = 0; layers = 0 }
+
+abbrev pub own_at : List Own → ℕ → Own
+own_at column k = get_or column k none_own
+
+-- what stands from a row on stands one higher
+pub record Shifted (old : List Own) (before row : ℕ) (new : List Own) : Type 0 where
   pub size : length new ≡ length old
-  pub below : (k : ℕ) → k < row → get_or new k 0 ≡ get_or old k 0
-  pub above : (k : ℕ) → row ≤ k → k < before → get_or new (k + 1) 0 ≡ get_or old k 0
+  pub below : (k : ℕ) → k < row → own_at new k ≡ own_at old k
+  pub above : (k : ℕ) → row ≤ k → k < before → own_at new (k + 1) ≡ own_at old k
 
 -- there are as many rows as before or one more
 abbrev pub More : (before live : ℕ) → Type 0
@@ -35,29 +45,23 @@ pub record Stands (rows : List ℕ) (live symbol : ℕ) : Type 0 where
   pub within : at < live
   pub is : symbol_at rows at ≡ symbol
 
--- a number is put: at its row, and those of the other rows stay with them
-pub record Puts (old : List ℕ) (before live row number : ℕ) (new : List ℕ) : Type 0 where
+-- own numbers are put: at their row, and those of the other rows stay with them
+pub record Puts (old : List Own) (before live row : ℕ) (own : Own) (new : List Own) : Type 0 where
   pub size : length new ≡ length old
-  pub here : get_or new row 0 ≡ number
-  pub below : (k : ℕ) → k < row → get_or new k 0 ≡ get_or old k 0
-  pub replaced : live ≡ before → (k : ℕ) → row < k → get_or new k 0 ≡ get_or old k 0
-  pub added : live ≡ before + 1 → (k : ℕ) → row ≤ k → k < before → get_or new (k + 1) 0 ≡ get_or old k 0
+  pub here : own_at new row ≡ own
+  pub below : (k : ℕ) → k < row → own_at new k ≡ own_at old k
+  pub replaced : live ≡ before → (k : ℕ) → row < k → own_at new k ≡ own_at old k
+  pub added : live ≡ before + 1 → (k : ℕ) → row ≤ k → k < before → own_at new (k + 1) ≡ own_at old k
 
-pub record Enters (b : List ℤ) (rows : List ℕ) (before live symbol : ℕ) (names : List ℕ) (count : ℕ) (shapes calls layers shapes' calls' layers' : List ℕ) : Type 0 where
+pub record Enters (b : List ℤ) (rows : List ℕ) (before live symbol : ℕ) (names : List ℕ) (count : ℕ) (column column' : List Own) : Type 0 where
   pub row : ℕ
   pub here : row < live
   pub symbol_is : symbol_at rows row ≡ symbol
   pub own : Own
   pub own_is : OwnOf b (start_at rows row) (length_at rows row) names count own
-  pub shapes_put : Puts shapes before live row own.shapes shapes'
-  pub calls_put : Puts calls before live row own.calls calls'
-  pub layers_put : Puts layers before live row own.layers layers'
+  pub put : Puts column before live row own column'
 
--- the columns made afresh from the bodies in memory
-pub record Afresh (rows : List ℕ) (b : List ℤ) (live : ℕ) (names : List ℕ) (count : ℕ) (shapes calls layers : List ℕ) : Type 0 where
-  pub shapes_sized : length shapes ≡ most
-  pub calls_sized : length calls ≡ most
-  pub layers_sized : length layers ≡ most
-  pub shapes_are : (i : ℕ) → i < live → get_or shapes i 0 ≡ own_shapes (body_at rows b i)
-  pub calls_are : (i : ℕ) → i < live → get_or calls i 0 ≡ own_calls (body_at rows b i)
-  pub layers_are : (i : ℕ) → i < live → SetOf names count (body_at rows b i) (get_or layers i 0)
+-- the column made afresh from the bodies in memory
+pub record Afresh (rows : List ℕ) (b : List ℤ) (live : ℕ) (names : List ℕ) (count : ℕ) (column : List Own) : Type 0 where
+  pub sized : length column ≡ most
+  pub are : (i : ℕ) → i < live → OwnBy names count (body_at rows b i) (own_at column i)

@@ -1,6 +1,6 @@
-// The summary beside the table (RULES 19, request 3): for each live row its own shapes, its own calls and the set of the layers of its own shapes, one column each. A
-// definition that is entered has its numbers made once, from its body's words, and the others move with their rows; DD cuts the columns with the rows. So
-// the columns are always those that would be made afresh from the bodies.
+// The summary beside the table (RULES 19, request 3): for each live row its own shapes, its own calls and the set of the layers of its own shapes, all in one column. A
+// definition that is entered has its numbers made once, from its body's words, and the others move with their rows; DD cuts the column with the rows. So
+// the column is always the one that would be made afresh from the bodies.
 #![tactic(auto)]
 
 ghost use Rattle.std.specs.Prelude.{◌≡◌, ◌+◌, ◌<◌, ◌≤◌, length};
@@ -17,6 +17,13 @@ pub struct Own {
     pub calls: u64,
     pub layers: u64,
 }
+
+// What is told of a symbol that is not defined.
+pub const NONE: Own = Own {
+    shapes: 0,
+    calls: 0,
+    layers: 0,
+};
 
 // The own numbers of a body, of which so many words are stored from a place on. A shape is on the layer of the last L before it.
 fn own_of(bodies: &[i32], from: usize, many: usize, names: &marks::Names) -> Own
@@ -49,7 +56,7 @@ fn own_of(bodies: &[i32], from: usize, many: usize, names: &marks::Names) -> Own
 }
 
 // Moves the numbers of the rows from one on up by one, from the last down.
-fn shift(column: &mut [u64; library::MOST], before: usize, row: usize)
+fn shift(column: &mut [Own; library::MOST], before: usize, row: usize)
     requires { (row ≤ before) × (before < most) × (length column.old ≡ most) }
     ensures { Shifted column.old before row column.new }
 {
@@ -58,20 +65,20 @@ fn shift(column: &mut [u64; library::MOST], before: usize, row: usize)
     }
 }
 
-// One number for a row that was entered: in the place of the one that it replaces, or between the others.
-fn put(column: &mut [u64; library::MOST], before: usize, live: usize, row: usize, number: u64)
+// The numbers of a row that was entered: in the place of the one that it replaces, or between the others.
+fn put(column: &mut [Own; library::MOST], before: usize, live: usize, row: usize, own: Own)
     requires { More before live × (row < live) × (live ≤ most) × (length column.old ≡ most) }
-    ensures { Puts column.old before live row number column.new }
+    ensures { Puts column.old before live row own column.new }
 {
     if before < live {
         shift(column, before, row);
-        column[row] = number;
+        column[row] = own;
         return;
     }
-    column[row] = number;
+    column[row] = own;
 }
 
-// The columns after a definition was entered: of `before` rows there are `live` now.
+// The column after a definition was entered: of `before` rows there are `live` now.
 pub fn enter(
     bodies: &[i32],
     rows: &[usize; library::ROW_NUMBERS],
@@ -79,20 +86,16 @@ pub fn enter(
     live: usize,
     symbol: usize,
     names: &marks::Names,
-    shapes: &mut [u64; library::MOST],
-    calls: &mut [u64; library::MOST],
-    layers: &mut [u64; library::MOST],
+    column: &mut [Own; library::MOST],
 )
-    requires shapes_len { (length shapes.old ≡ most) × (length calls.old ≡ most) × (length layers.old ≡ most) }
+    requires column_len { length column.old ≡ most }
     requires more { More before live × Sorted rows.now live × Stands rows.now live symbol }
     requires stocked { Stocked rows.now bodies.now live × (length bodies.now ≤ most_words) × (names.now.count ≤ most_layers) }
-    ensures { Enters bodies.now rows.now before live symbol names.now.numbers names.now.count shapes.old calls.old layers.old shapes.new calls.new layers.new }
+    ensures { Enters bodies.now rows.now before live symbol names.now.numbers names.now.count column.old column.new }
 {
     let row = library::find(rows, live, symbol).unwrap();
     let from = library::start_at(rows, row);
     let many = library::length_at(rows, row);
     let own = own_of(bodies, from, many, names);
-    put(shapes, before, live, row, own.shapes);
-    put(calls, before, live, row, own.calls);
-    put(layers, before, live, row, own.layers);
+    put(column, before, live, row, own);
 }

@@ -11,7 +11,7 @@ use borrow.Author.Tests.{eq-eqb, ne_eqb}
 use lib.Dec.{eqb}
 use lib.Bits.{bit_or}
 use lib.IntN.{ℤ}
-use lib.ListN.{length, get_or, set, replicate, length-set}
+use lib.ListN.{length, set, replicate, length-set}
 use lib.Seq.{get_or-set_same, get_or-set_other}
 use Rattle.std.specs.Prelude.{Option as Maybe, Some, None, Result, Ok, Err, ok_or}
 use Rattle.definition.specs.Limits.{deepest}
@@ -24,6 +24,8 @@ use Rattle.library.specs.Sound.{Stocked}
 use Rattle.library.specs.Rows.{Sorted, Finds}
 use Rattle.library.proofs.Cases.{by_row, side}
 use Rattle.library.proofs.Looking.{found, not_found}
+use Rattle.columns.specs.declared.Own.{Own}
+use Rattle.columns.specs.Columns.{own_at}
 use Rattle.heights.specs.declared.Standing.{Standing}
 use Rattle.heights.specs.declared.Next.{Next}
 use Rattle.heights.specs.declared.Seen.{Seen}
@@ -70,23 +72,23 @@ next_is b {at} {end} {cs} h e = subst (CallNext b at end cs) e h
 
 -- ---- the graph at a row
 
-set_from_lem : (rows own : List ℕ) (n : ℕ) (d m j i : ℕ) → i ≡ j + d → d < m → ((k : ℕ) → j ≤ k → k < i → symbol_at rows k ≡ n → ⊥) → symbol_at rows i ≡ n → set_from rows own n j m ≡ get_or own i 0
+set_from_lem : (rows : List ℕ) (own : List Own) (n : ℕ) (d m j i : ℕ) → i ≡ j + d → d < m → ((k : ℕ) → j ≤ k → k < i → symbol_at rows k ≡ n → ⊥) → symbol_at rows i ≡ n → set_from rows own n j m ≡ (own_at own i).layers
 unfolding set_from
 set_from_lem rows own n d zero j i e l h q = absurd (not-suc-le-zero l)
 set_from_lem rows own n zero (suc m) j i e l h q =
     let f : j ≡ i = omega arith in
-    subst (λ (x : ℕ). set_from rows own n j (suc m) ≡ get_or own x 0) f
+    subst (λ (x : ℕ). set_from rows own n j (suc m) ≡ (own_at own x).layers) f
     (unfold set_from in rw (eq-eqb (symbol_at rows j) n (subst (λ (x : ℕ). symbol_at rows x ≡ n) (sym f) q)))
 set_from_lem rows own n (suc d) (suc m) j i e l h q =
     rw (ne_eqb (symbol_at rows j) n (h j (omega arith) (omega arith)))
     (set_from_lem rows own n d m (j + 1) i (omega arith) (omega arith) (λ k a c. h k (omega arith) c) q)
 
-module _ (rows : List ℕ) (b : List ℤ) (live : ℕ) (own : List ℕ) where
+module _ (rows : List ℕ) (b : List ℤ) (live : ℕ) (own : List Own) where
   abbrev g : Graph
   g = graph_in rows b live own
 
   abbrev node_from : ℕ → Node
-  node_from i = record { calls = calls_of (body_at rows b i); own = get_or own i 0 }
+  node_from i = record { calls = calls_of (body_at rows b i); own = (own_at own i).layers }
 
   node_at : {n i : ℕ} → AtRow rows live n i → g n ≡ some (node_from i)
   unfolding Finds
@@ -282,12 +284,12 @@ module _ (rows : List ℕ) (b : List ℤ) (live : ℕ) (own : List ℕ) where
     pub rest : List ℕ
     pub remains : Remains b here end rest
     pub along : (o : List ℕ) → Inside rows b live own seen₀ row o
-        → through (walk g left o) 0 (get_or own row 0) (calls_of (body_at rows b row)) ≡ through (walk g left o) tallest set rest
+        → through (walk g left o) 0 ((own_at own row).layers) (calls_of (body_at rows b row)) ≡ through (walk g left o) tallest set rest
     pub leads : (o : List ℕ) → Inside rows b live own seen₀ row o → (m : ℕ) → among m o ≡ true → Each (Leads g m) rest
     pub low : tallest ≤ left
     pub keeps : Keeps rows b live own seen₀ seen
 
-  pub starts : {row left : ℕ} {seen : List Seen} {end here s : ℕ} → Ready rows b live own seen left → Remains b here end (calls_of (body_at rows b row)) → s ≡ get_or own row 0
+  pub starts : {row left : ℕ} {seen : List Seen} {end here s : ℕ} → Ready rows b live own seen left → Remains b here end (calls_of (body_at rows b row)) → s ≡ (own_at own row).layers
       → WalkedSoFar row left seen end seen here 0 s
   starts {row} {left} ready r e = record {
     rest = calls_of (body_at rows b row);
@@ -327,7 +329,7 @@ module _ (rows : List ℕ) (b : List ℤ) (live : ℕ) (own : List ℕ) where
 
       module _ {r : Result Standing Rule} {seen' : List Seen} (told : Replies rows b live own seen n left r seen') where
         call_next : (o : List ℕ) → Inside rows b live own seen₀ row o → (q : Result Standing Rule) → r ≡ q
-            → through (walk g left o) 0 (get_or own row 0) (calls_of (body_at rows b row)) ≡ thence q (λ k u. through (walk g left o) (max tallest k) (bit_or set u) rest')
+            → through (walk g left o) 0 ((own_at own row).layers) (calls_of (body_at rows b row)) ≡ thence q (λ k u. through (walk g left o) (max tallest k) (bit_or set u) rest')
         unfolding through
         call_next o ins q e =
             w.along o ins

@@ -11,7 +11,6 @@ use lib.Arith.{bin_ind}
 use lib.Bits.{bit_or, or_step, or_zero_l, or_zero_r, or_comm}
 use lib.Dec.{eqb, eqb-suc-zero}
 use lib.IntN.{ℤ}
-use lib.ListN.{get_or}
 use Rattle.definition.specs.Limits.{deepest}
 use Rattle.definition.specs.Words.{Placed, at, any}
 use Rattle.definition.specs.declared.Rule.{Rule}
@@ -24,6 +23,8 @@ use Rattle.definition.specs.Marks.{set_of_layers}
 use Rattle.laws.proofs.Story.Marks.{any-++, set-joined}
 use Rattle.library.specs.Memory.{symbol_at, body_at, definition_at, table_from, table_of}
 use Rattle.heights.specs.Calls.{call_in, calls_of}
+use Rattle.columns.specs.declared.Own.{Own}
+use Rattle.columns.specs.Columns.{own_at}
 use Rattle.heights.specs.declared.Standing.{Standing}
 use Rattle.heights.specs.Walk.{Node, Graph, standing, through, raised, enters, among, walk, set_from, node_of, graph_in}
 use Rattle.heights.specs.Replies.{ReplyOf, SymbolReplies}
@@ -210,19 +211,19 @@ module _ (ns : Names) where
 
   -- ---- the table that memory holds
 
-  nodes_from : (rows : List ℕ) (b : List ℤ) (own : List ℕ) (n m j : ℕ) → ((i : ℕ) → j ≤ i → i < j + m → get_or own i 0 ≡ own_set (body_at rows b i))
+  nodes_from : (rows : List ℕ) (b : List ℤ) (own : List Own) (n m j : ℕ) → ((i : ℕ) → j ≤ i → i < j + m → (own_at own i).layers ≡ own_set (body_at rows b i))
       → node_of (find n (table_from rows b j m)) (set_from rows own n j m) ≡ nodes_for (find n (table_from rows b j m))
   unfolding find table_from set_from nodes_for node_for
   nodes_from rows b own n zero j h = refl
   nodes_from rows b own n (suc m) j h = go (eqb (symbol_at rows j) n) (nodes_from rows b own n m (j + 1) (λ i l k. h i (omega arith) (omega arith)))
     where
       go : (z : Bool) → node_of (find n (table_from rows b (j + 1) m)) (set_from rows own n (j + 1) m) ≡ nodes_for (find n (table_from rows b (j + 1) m))
-          → node_of (if z then some (definition_at rows b j) else find n (table_from rows b (j + 1) m)) (if z then get_or own j 0 else set_from rows own n (j + 1) m)
+          → node_of (if z then some (definition_at rows b j) else find n (table_from rows b (j + 1) m)) (if z then (own_at own j).layers else set_from rows own n (j + 1) m)
           ≡ nodes_for (if z then some (definition_at rows b j) else find n (table_from rows b (j + 1) m))
       go true later = ap (λ (s : ℕ). node_of (some (definition_at rows b j)) s) (h j (omega arith) (omega arith))
       go false later = later
 
-pub is_told : (rows : List ℕ) (b : List ℤ) (live : ℕ) (own : List ℕ) (n : ℕ) {r : Result Standing Rule} → r ≡ walk (graph_in rows b live own) deepest [] n → SymbolReplies rows b live own n r
+pub is_told : (rows : List ℕ) (b : List ℤ) (live : ℕ) (own : List Own) (n : ℕ) {r : Result Standing Rule} → r ≡ walk (graph_in rows b live own) deepest [] n → SymbolReplies rows b live own n r
 unfolding any
 is_told rows b live own n e ns sets =
     reply_of ns (reply_to deepest (table_of rows b live) [] 0 n)

@@ -9,6 +9,8 @@ use Rattle.library.specs.Memory.{most, most_words, symbol_at, body_at}
 use Rattle.library.specs.Sound.{Stocked}
 use Rattle.library.specs.Rows.{Sorted, Finds}
 use Rattle.heights.specs.Calls.{calls_of}
+use Rattle.columns.specs.declared.Own.{Own}
+use Rattle.columns.specs.Columns.{own_at}
 use Rattle.heights.specs.declared.Standing.{Standing}
 use Rattle.heights.specs.declared.Seen.{Seen}
 use Rattle.heights.specs.declared.Seen.TheVariants.{Unknown, Open, Known}
@@ -53,7 +55,7 @@ Each P [] = Unit {0}
 Each P (c ∷ cs) = P c × Each P cs
 
 -- what is kept of a symbol is what it gives
-abbrev pub Remembered : (rows : List ℕ) (b : List ℤ) (live : ℕ) (own : List ℕ) → List Seen → Type 0
+abbrev pub Remembered : (rows : List ℕ) (b : List ℤ) (live : ℕ) (own : List Own) → List Seen → Type 0
 Remembered rows b live own seen =
     (i : ℕ) → i < live → (x : Standing) → seen_at seen i ≡ Known x → Stood (graph_in rows b live own) deepest (symbol_at rows i) x.height x.layers
 
@@ -61,7 +63,7 @@ Remembered rows b live own seen =
 abbrev pub Marked : (rows : List ℕ) (live : ℕ) → List Seen → List ℕ → Type 0
 Marked rows live seen o = (i : ℕ) → i < live → among (symbol_at rows i) o ≡ open? (seen_at seen i)
 
-pub record Ready (rows : List ℕ) (b : List ℤ) (live : ℕ) (own : List ℕ) (seen : List Seen) (left : ℕ) : Type 0 where
+pub record Ready (rows : List ℕ) (b : List ℤ) (live : ℕ) (own : List Own) (seen : List Seen) (left : ℕ) : Type 0 where
   pub sorted : Sorted rows live
   pub stocked : Stocked rows b live
   pub short : length b ≤ most_words
@@ -70,18 +72,18 @@ pub record Ready (rows : List ℕ) (b : List ℤ) (live : ℕ) (own : List ℕ) 
   pub remembered : Remembered rows b live own seen
 
 -- before a call of a symbol: every open symbol leads to it
-pub record Opened (rows : List ℕ) (b : List ℤ) (live : ℕ) (own : List ℕ) (seen : List Seen) (n : ℕ) (o : List ℕ) : Type 0 where
+pub record Opened (rows : List ℕ) (b : List ℤ) (live : ℕ) (own : List Own) (seen : List Seen) (n : ℕ) (o : List ℕ) : Type 0 where
   pub marked : Marked rows live seen o
   pub leads : (m : ℕ) → among m o ≡ true → Leads (graph_in rows b live own) m n
 
 -- before the body of a row: every open symbol leads to each that it calls
-pub record Inside (rows : List ℕ) (b : List ℤ) (live : ℕ) (own : List ℕ) (seen : List Seen) (row : ℕ) (o : List ℕ) : Type 0 where
+pub record Inside (rows : List ℕ) (b : List ℤ) (live : ℕ) (own : List Own) (seen : List Seen) (row : ℕ) (o : List ℕ) : Type 0 where
   pub here : row < live
   pub marked : Marked rows live seen o
   pub leads : (m : ℕ) → among m o ≡ true → Each (Leads (graph_in rows b live own) m) (calls_of (body_at rows b row))
 
 -- where a symbol stands, the same are open as before, and what is kept is right
-pub record Keeps (rows : List ℕ) (b : List ℤ) (live : ℕ) (own : List ℕ) (seen seen' : List Seen) : Type 0 where
+pub record Keeps (rows : List ℕ) (b : List ℤ) (live : ℕ) (own : List Own) (seen seen' : List Seen) : Type 0 where
   pub same_open : (i : ℕ) → i < live → open? (seen_at seen' i) ≡ open? (seen_at seen i)
   pub sized : length seen' ≡ most
   pub remembered : Remembered rows b live own seen'
@@ -91,12 +93,12 @@ KeepsIf (Err r) K = Unit {0}
 KeepsIf (Ok x) K = K
 
 -- the contract of `reply_to`
-pub record Replies (rows : List ℕ) (b : List ℤ) (live : ℕ) (own : List ℕ) (seen : List Seen) (n left : ℕ) (r : Result Standing Rule) (seen' : List Seen) : Type 0 where
+pub record Replies (rows : List ℕ) (b : List ℤ) (live : ℕ) (own : List Own) (seen : List Seen) (n left : ℕ) (r : Result Standing Rule) (seen' : List Seen) : Type 0 where
   pub reply : (o : List ℕ) → Opened rows b live own seen n o → r ≡ walk (graph_in rows b live own) left o n
   pub keeps : KeepsIf r (Keeps rows b live own seen seen')
 
 -- of `reply_of_body`
-pub record BodyReplies (rows : List ℕ) (b : List ℤ) (live : ℕ) (own : List ℕ) (seen : List Seen) (row left : ℕ) (r : Result Standing Rule) (seen' : List Seen) : Type 0 where
+pub record BodyReplies (rows : List ℕ) (b : List ℤ) (live : ℕ) (own : List Own) (seen : List Seen) (row left : ℕ) (r : Result Standing Rule) (seen' : List Seen) : Type 0 where
   pub reply : (o : List ℕ) → Inside rows b live own seen row o
-      → r ≡ through (walk (graph_in rows b live own) left o) 0 (get_or own row 0) (calls_of (body_at rows b row))
+      → r ≡ through (walk (graph_in rows b live own) left o) 0 ((own_at own row).layers) (calls_of (body_at rows b row))
   pub keeps : KeepsIf r (Keeps rows b live own seen seen')

@@ -2,7 +2,7 @@
 -- symbols that are open, as crates/definition has (`reply_to`), and `free` does without: a symbol that stands has no cycle below it, so the two agree on
 -- it, and its height answers for any allowance (proofs/Walking.antt). A running account, not to be believed: proofs/Replied.antt says that it is `reply_to`.
 -- Assumes nothing.
-use Rattle.std.specs.Prelude.{Bool, true, false, List, [], ◌∷◌, ℕ, zero, suc, ◌+◌, Result, Ok, Err, max, eqb, ltb, ℤ, get_or, if◌then◌else◌}
+use Rattle.std.specs.Prelude.{Bool, true, false, List, [], ◌∷◌, ℕ, zero, suc, ◌+◌, Result, Ok, Err, max, eqb, ltb, ℤ, if◌then◌else◌}
 use Rattle.std.proofs.Math.Option.{Option, none, some}
 use Rattle.std.specs.Int.Bits.{bit_or}
 use Rattle.definition.specs.Words.{any}
@@ -10,6 +10,8 @@ use Rattle.definition.specs.declared.Rule.{Rule}
 use Rattle.definition.specs.declared.Rule.TheVariants.{UndefinedSymbol, BeingDrawn, TooDeep}
 use Rattle.definition.specs.Table.{Definition, find}
 use Rattle.library.specs.Memory.{symbol_at, table_of}
+use Rattle.columns.specs.declared.Own.{Own}
+use Rattle.columns.specs.Columns.{own_at}
 use Rattle.heights.specs.Calls.{calls_of}
 use Rattle.heights.specs.declared.Standing.{Standing}
 
@@ -67,15 +69,15 @@ within left h s = if ltb left h then Err TooDeep else standing h s
 -- ---- the table that memory holds, with a set beside each row
 
 -- the set beside the first row of this symbol, from row i on
-unfoldable pub set_from : List ℕ → List ℕ → ℕ → ℕ → ℕ → ℕ
+unfoldable pub set_from : List ℕ → List Own → ℕ → ℕ → ℕ → ℕ
 set_from rows own n i zero = 0
 set_from rows own n i (suc k) =
     let later = set_from rows own n (i + 1) k in
-    if eqb (symbol_at rows i) n then get_or own i 0 else later
+    if eqb (symbol_at rows i) n then (own_at own i).layers else later
 
 abbrev pub node_of : Option Definition → ℕ → Option Node
 node_of none s = none
 node_of (some d) s = some (record { calls = calls_of d.body; own = s })
 
-abbrev pub graph_in : List ℕ → List ℤ → ℕ → List ℕ → Graph
+abbrev pub graph_in : List ℕ → List ℤ → ℕ → List Own → Graph
 graph_in rows b live own n = node_of (find n (table_of rows b live)) (set_from rows own n 0 live)

@@ -90,7 +90,7 @@ fn reply_to(
     bodies: &[i32],
     rows: &[usize; library::ROW_NUMBERS],
     live: usize,
-    own: &[u64; library::MOST],
+    own: &[columns::Own; library::MOST],
     seen: &mut [Seen; library::MOST],
     symbol: usize,
     left: usize,
@@ -119,7 +119,7 @@ fn reply_of_body(
     bodies: &[i32],
     rows: &[usize; library::ROW_NUMBERS],
     live: usize,
-    own: &[u64; library::MOST],
+    own: &[columns::Own; library::MOST],
     seen: &mut [Seen; library::MOST],
     row: usize,
     left: usize,
@@ -130,7 +130,7 @@ fn reply_of_body(
     let mut at = library::start_at(rows, row);
     let end = at + library::length_at(rows, row);
     let mut tallest: usize = 0;
-    let mut set = own[row];
+    let mut set = own[row].layers;
     loop {
         match next_call(bodies, at, end) {
             None => {
@@ -154,7 +154,7 @@ pub fn ask(
     bodies: &[i32],
     rows: &[usize; library::ROW_NUMBERS],
     live: usize,
-    own: &[u64; library::MOST],
+    own: &[columns::Own; library::MOST],
     symbol: usize,
 ) -> Result<Standing, Rule>
     requires { Sorted rows.now live × Stocked rows.now bodies.now live × (length bodies.now ≤ most_words) }

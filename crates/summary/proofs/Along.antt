@@ -1,4 +1,4 @@
--- What the loop of `keep_text` keeps: where the pass stands (crates/passing, proofs/Stands.antt), that the columns are those made afresh from the bodies, and
+-- What the loop of `keep_text` keeps: where the pass stands (crates/passing, proofs/Stands.antt), that the column is the one made afresh from the bodies, and
 -- that the table and the ending of the whole text are those of what is left.
 -- Assumes nothing.
 use Rattle.std.specs.Prelude.{Option, None, Result, Ok, Err}
@@ -50,6 +50,7 @@ use Rattle.passing.proofs.Letters.{is_layer, is_delete}
 use Rattle.passing.proofs.Reading.{Met, run_kept, read_none, third_word, none_met}
 use Rattle.passing.proofs.Outer.{is_output, is_idle}
 use Rattle.passing.proofs.Stands.{Stands, nothing_kept, to_do, at_start, deletable, met, deeds_are, past_layer, layer-left, past_delete, delete-left, past_other, open_there, made, define-left, past_define, start-within, may_define, comes, takes}
+use Rattle.columns.specs.declared.Own.{Own}
 use Rattle.columns.specs.Columns.{More, Enters, Afresh}
 use Rattle.columns.specs.Columns.{Stands as StandsIn}
 use Rattle.columns.proofs.Moved.{entered-more, entered-stands, afresh-entered, afresh-cut, afresh_none}
@@ -120,7 +121,7 @@ then_define t d ds = refl
 
 -- ---- between two commands
 
-pub record Along (t : List ℕ) (w : ℕ) (words₀ : List ℤ) (names : List ℕ) (count : ℕ) (rows : List ℕ) (b words : List ℤ) (figures calls layers : List ℕ) (spot : Spot) (stock : Stock)
+pub record Along (t : List ℕ) (w : ℕ) (words₀ : List ℤ) (names : List ℕ) (count : ℕ) (rows : List ℕ) (b words : List ℤ) (column : List Own) (spot : Spot) (stock : Stock)
     (counts : Counts) : Type 0 where
   pub passed : Passed t
   pub stands : Stands t rows b stock spot
@@ -128,13 +129,13 @@ pub record Along (t : List ℕ) (w : ℕ) (words₀ : List ℤ) (names : List �
   pub bodies_kept : length b ≡ w
   pub words_kept : length words ≡ length words₀
   pub few : counts.redefinitions ≤ spot.at
-  pub afresh : Afresh rows b stock.live names count figures calls layers
+  pub afresh : Afresh rows b stock.live names count column
   pub table-left : table_then stands.table (kept_of (to_do stands)) ≡ table_left passed.letters
   pub end_left : end_from w (tally counts) stands.table (kept_of (to_do stands)) ≡ end_of w passed.letters
 
-pub along_begin : {t : List ℕ} (rows : List ℕ) (b words : List ℤ) (names : List ℕ) (count : ℕ) {figures calls layers : List ℕ} → Passed t → length rows ≡ row_numbers → length b ≤ most_words
-    → (length figures ≡ most) × (length calls ≡ most) × (length layers ≡ most) → {c : Counts} → c ≡ zero_counts
-    → Along t (length b) words names count rows b words figures calls layers text_start nothing_kept c
+pub along_begin : {t : List ℕ} (rows : List ℕ) (b words : List ℤ) (names : List ℕ) (count : ℕ) {column : List Own} → Passed t → length rows ≡ row_numbers → length b ≤ most_words
+    → length column ≡ most → {c : Counts} → c ≡ zero_counts
+    → Along t (length b) words names count rows b words column text_start nothing_kept c
 unfolding table_deeds
 along_begin {t} rows b words names count p s h sized {c} e = record {
   passed = p;
@@ -143,13 +144,13 @@ along_begin {t} rows b words names count p s h sized {c} e = record {
   bodies_kept = refl;
   words_kept = refl;
   few = let z = ap (λ (x : Counts). x.redefinitions) e in omega (arith, z);
-  afresh = afresh_none rows b names count sized.0 sized.1 sized.2;
+  afresh = afresh_none rows b names count sized;
   table-left = refl;
   end_left = ap (λ (x : Counts). end_from (length b) (tally x) [] (kept_of (deeds (outside []) (commands 0 p.letters)))) e;
 }
 
-module _ {t : List ℕ} {w : ℕ} {words₀ : List ℤ} {names : List ℕ} {count : ℕ} {rows : List ℕ} {b words : List ℤ} {figures calls layers : List ℕ} {spot : Spot} {stock : Stock} {counts : Counts}
-    (u : Along t w words₀ names count rows b words figures calls layers spot stock counts) where
+module _ {t : List ℕ} {w : ℕ} {words₀ : List ℤ} {names : List ℕ} {count : ℕ} {rows : List ℕ} {b words : List ℤ} {column : List Own} {spot : Spot} {stock : Stock} {counts : Counts}
+    (u : Along t w words₀ names count rows b words column spot stock counts) where
   abbrev s : Stands t rows b stock spot
   s = u.stands
 
@@ -164,13 +165,13 @@ module _ {t : List ℕ} {w : ℕ} {words₀ : List ℤ} {names : List ℕ} {coun
   told_of P h p = subst P (marking_is u.passed.marked ∙ sym (marking_is p.marked)) h
 
   -- no command is left
-  pub along_out : (r : Option Decoded) (words' : List ℤ) → ReadsCommand t spot 1 1 words r words' → r ≡ None → KeepsText t w names count (Ok stock.live) rows b figures calls layers
+  pub along_out : (r : Option Decoded) (words' : List ℤ) → ReadsCommand t spot 1 1 words r words' → r ≡ None → KeepsText t w names count (Ok stock.live) rows b column
   unfolding KeepsText deeds
   along_out r words' x e =
       let none : to_do s ≡ [] = ap (deeds s.standing) (none_met t spot s.told (read_none t spot 1 1 words r words' x e)) in
       let over : kept_of (to_do s) ≡ [] = ap kept_of none ∙ kept_none in
       let left : s.table ≡ table_left u.passed.letters = sym (ap (table_then s.table) over ∙ then_none s.table) ∙ u.table-left in
-      told_of (λ (m : List Letter). KeepsAll w m names count stock.live rows b figures calls layers) (record {
+      told_of (λ (m : List Letter). KeepsAll w m names count stock.live rows b column) (record {
         totals = tally counts;
         ends = sym u.end_left ∙ (ap (end_from w (tally counts) s.table) over ∙ end_none w (tally counts) s.table);
         held = record {
@@ -189,11 +190,11 @@ module _ {t : List ℕ} {w : ℕ} {words₀ : List ℤ} {names : List ℕ} {coun
     abbrev m : Met t s.standing s.commands kind place n to words'
     m = met s (omega (arith, big, u.words_kept)) r
 
-    abbrev Next : List ℕ → List ℤ → List ℕ → List ℕ → List ℕ → Spot → Stock → Counts → Type 0
-    Next rows' b' figures' calls' layers' to' stock' counts' = Along t w words₀ names count rows' b' words' figures' calls' layers' to' stock' counts'
+    abbrev Next : List ℕ → List ℤ → List Own → Spot → Stock → Counts → Type 0
+    Next rows' b' column' to' stock' counts' = Along t w words₀ names count rows' b' words' column' to' stock' counts'
 
     -- a command that leaves the table alone
-    passes_by : (s' : Stands t rows b stock to) → s'.table ≡ s.table → kept_of (to_do s) ≡ kept_of (to_do s') → Next rows b figures calls layers to stock counts
+    passes_by : (s' : Stands t rows b stock to) → s'.table ≡ s.table → kept_of (to_do s) ≡ kept_of (to_do s') → Next rows b column to stock counts
     passes_by s' e f = record {
       passed = u.passed;
       stands = s';
@@ -206,10 +207,10 @@ module _ {t : List ℕ} {w : ℕ} {words₀ : List ℤ} {names : List ℕ} {coun
       end_left = ap₂ {C = End} (end_from w (tally counts)) e (sym f) ∙ u.end_left;
     }
 
-    pub along_other : (kind ≡ letter_d → ⊥) → (kind ≡ letter_s → ⊥) → Next rows b figures calls layers to stock counts
+    pub along_other : (kind ≡ letter_d → ⊥) → (kind ≡ letter_s → ⊥) → Next rows b column to stock counts
     along_other no_d no_s = by_layer (eqb kind letter_l) refl
       where
-        by_output : (kind ≡ letter_l → ⊥) → (x : Bool) → outputs kind ≡ x → Next rows b figures calls layers to stock counts
+        by_output : (kind ≡ letter_l → ⊥) → (x : Bool) → outputs kind ≡ x → Next rows b column to stock counts
         by_output no_l true e =
             let o = is_output s.closed place m.rest m.voice e no_l no_d no_s in
             let f : to_do s ≡ output (at place o.step) ∷ deeds s.standing m.rest = deeds_are s m refl ∙ o.deed in
@@ -218,7 +219,7 @@ module _ {t : List ℕ} {w : ℕ} {words₀ : List ℤ} {names : List ℕ} {coun
             let i = is_idle s.closed place m.rest m.voice e no_l no_d no_s in
             passes_by (past_other s m i.stays) refl (ap kept_of (deeds_are s m refl ∙ i.deed))
 
-        by_layer : (x : Bool) → eqb kind letter_l ≡ x → Next rows b figures calls layers to stock counts
+        by_layer : (x : Bool) → eqb kind letter_l ≡ x → Next rows b column to stock counts
         by_layer true e =
             let i = is_layer m.voice (eqb-true kind letter_l e) in
             passes_by (past_layer s m i.0 i.1) refl (ap kept_of (layer-left s m i.0 i.1))
@@ -227,7 +228,7 @@ module _ {t : List ℕ} {w : ℕ} {words₀ : List ℤ} {names : List ℕ} {coun
     -- ---- a deletion
 
     pub along_deleted : kind ≡ letter_d → {symbol : ℕ} {left : Stock} → symbol ≡ nat_abs (get_or words' 2 (pos 0)) → Deletes rows stock symbol left
-        → Next rows b figures calls layers to left counts
+        → Next rows b column to left counts
     along_deleted e {symbol} {left} q f =
         let i = is_delete m.voice e in
         let gone : Number = i.0 in
@@ -282,8 +283,8 @@ module _ {t : List ℕ} {w : ℕ} {words₀ : List ℤ} {names : List ℕ} {coun
               let k = (takes s m e start q defines f).kept in
               ((entered-more new s.kept.holds k.holds, k.sorted, entered-stands new s.kept.holds k.holds same-symbol), (k.stocked, k.short))
 
-          pub along_defined : {figures' calls' layers' : List ℕ} → Enters b' rows' stock.live taken.stock.live start.symbol names count figures calls layers figures' calls' layers'
-              → Next rows' b' figures' calls' layers' taken.to taken.stock taken.counts
+          pub along_defined : {column' : List Own} → Enters b' rows' stock.live taken.stock.live start.symbol names count column column'
+              → Next rows' b' column' taken.to taken.stock taken.counts
           along_defined x =
               let k = takes s m e start q defines f in
               let z = k.kept.enough in
@@ -316,7 +317,7 @@ module _ {t : List ℕ} {w : ℕ} {words₀ : List ℤ} {names : List ℕ} {coun
             end_short w (tally counts) s.table new (kept_of later) k.0 (let y = size_then in omega (arith, y, z))
         ends-so _ f = absurd (comes s m e start q defines f)
 
-        pub along_refused : {rule : Rule} → d ≡ Err rule → KeepsText t w names count (Err (refuse rule place)) rows' b' figures calls layers
+        pub along_refused : {rule : Rule} → d ≡ Err rule → KeepsText t w names count (Err (refuse rule place)) rows' b' column
         unfolding KeepsText
         along_refused {rule} f =
             told_of (λ (m : List Letter). end_of w m ≡ stopped (refuse rule place) [])

@@ -39,6 +39,7 @@ use Rattle.passing.specs.Passed.{Passed}
 use Rattle.marks.specs.declared.Names.{Names as Run}
 use Rattle.marks.specs.Noted.{Noted}
 use Rattle.columns.specs.declared.Own.{Own}
+use Rattle.columns.specs.Columns.{none_own, own_at}
 use Rattle.heights.specs.declared.Standing.{Standing}
 use Rattle.heights.specs.Walk.{standing}
 use Rattle.heights.specs.Replies.{ReplyOf, SymbolReplies}
@@ -157,7 +158,7 @@ none_appear : (ns : Names) → length (appearing ns []) ≡ 0
 unfolding ones
 none_appear ns = sym (set-ones ns []) ∙ ap ones (set_none ns)
 
-no_own : (ns : Names) → OwnIs ns (record { shapes = 0; calls = 0; layers = 0 }) []
+no_own : (ns : Names) → OwnIs ns none_own []
 unfolding own_shapes own_calls own_layers those flat_map
 no_own ns = record { shapes = refl; calls = refl; layers = sym (set_none ns) }
 
@@ -169,14 +170,14 @@ undefined : (t : Table) (n : ℕ) → find n t ≡ none → reply_to deepest t [
 unfolding reply_to
 undefined t n e = by_none n (find n t) _ e
 
-module _ {rows : List ℕ} {b : List ℤ} {live : ℕ} {names : List ℕ} {count : ℕ} {figures calls layers : List ℕ} {t : Table} {ns : Names}
-    (n : Noted names count ns) (h : TableHeld rows b live names count figures calls layers t) (symbol : ℕ) where
+module _ {rows : List ℕ} {b : List ℤ} {live : ℕ} {names : List ℕ} {count : ℕ} {column : List Own} {t : Table} {ns : Names}
+    (n : Noted names count ns) (h : TableHeld rows b live names count column t) (symbol : ℕ) where
   lean-table : table_of rows b live ≡ lean_table t
   lean-table = held-table h.holds
 
-  pub reply_there : (r : Result Standing Rule) → SymbolReplies rows b live layers symbol r → ReplyOf ns (reply_to deepest t [] 0 symbol) r
+  pub reply_there : (r : Result Standing Rule) → SymbolReplies rows b live column symbol r → ReplyOf ns (reply_to deepest t [] 0 symbol) r
   reply_there r s =
-      subst (λ (q : Reply). ReplyOf ns q r) (ap (λ (u : Table). reply_to deepest u [] 0 symbol) lean-table ∙ lean_replies t deepest [] 0 symbol) (s ns (λ i l. h.afresh.layers_are i l ns n))
+      subst (λ (q : Reply). ReplyOf ns q r) (ap (λ (u : Table). reply_to deepest u [] 0 symbol) lean-table ∙ lean_replies t deepest [] 0 symbol) (s ns (λ i l. (h.afresh.are i l).layers ns n))
 
   module _ {f : Maybe ℕ} (x : Finds rows live symbol f) {row : ℕ} (e : f ≡ Some row) where
     pub row_within : row < live
@@ -186,15 +187,17 @@ module _ {rows : List ℕ} {b : List ℤ} {live : ℕ} {names : List ℕ} {count
     unfolding body_found
     found_body = sym (ap body_found (found rows b symbol live f row x e).1) ∙ (ap (λ (u : Table). body_found (find symbol u)) lean-table ∙ lean_found t symbol)
 
-    pub own_there : {own : Own} → own ≡ record { shapes = get_or figures row 0; calls = get_or calls row 0; layers = get_or layers row 0 } → OwnIs ns own (body_found (find symbol t))
-    own_there q = record {
-      shapes = ap (λ (o : Own). o.shapes) q ∙ (h.afresh.shapes_are row row_within ∙ (ap own_shapes found_body ∙ lean-shapes (body_found (find symbol t))));
-      calls = ap (λ (o : Own). o.calls) q ∙ (h.afresh.calls_are row row_within ∙ (ap own_calls found_body ∙ lean-calls (body_found (find symbol t))));
-      layers = ap (λ (o : Own). o.layers) q ∙ (h.afresh.layers_are row row_within ns n ∙ ap (set_of_layers ns) (ap own_layers found_body ∙ lean-layers (body_found (find symbol t))));
-    }
+    pub own_there : {own : Own} → own ≡ own_at column row → OwnIs ns own (body_found (find symbol t))
+    own_there q =
+        let a = h.afresh.are row row_within in
+        record {
+          shapes = ap (λ (o : Own). o.shapes) q ∙ (a.shapes ∙ (ap own_shapes found_body ∙ lean-shapes (body_found (find symbol t))));
+          calls = ap (λ (o : Own). o.calls) q ∙ (a.calls ∙ (ap own_calls found_body ∙ lean-calls (body_found (find symbol t))));
+          layers = ap (λ (o : Own). o.layers) q ∙ (a.layers ns n ∙ ap (set_of_layers ns) (ap own_layers found_body ∙ lean-layers (body_found (find symbol t))));
+        }
 
   -- no row has the number
-  pub none_there : {f : Maybe ℕ} → Finds rows live symbol f → f ≡ None → {r : Summary} → TellsReply names (Err UndefinedSymbol) (record { shapes = 0; calls = 0; layers = 0 }) r → r ≡ in_symbol ns (reply_to deepest t [] 0 symbol) (body_found (find symbol t))
+  pub none_there : {f : Maybe ℕ} → Finds rows live symbol f → f ≡ None → {r : Summary} → TellsReply names (Err UndefinedSymbol) none_own r → r ≡ in_symbol ns (reply_to deepest t [] 0 symbol) (body_found (find symbol t))
   unfolding body_found ReplyOf
   none_there {f} x e {r} tells =
       let lost : find symbol t ≡ none = not_lean (find symbol t) (sym (lean-find symbol t) ∙ (sym (ap (find symbol) lean-table) ∙ not_found rows b symbol live f x e)) in
@@ -218,7 +221,7 @@ set_given {names} {reply} {own} {height} {set} g e = go g.told g.is
     go (bars rule) f = absurd (bars_not (is_bars g.all_names rule reply f) e)
     go (stands h ls) f = record { count = g.count; all_names = g.all_names; layers = ls; noted = g.noted; is = same_set (is_stands g.all_names h ls reply f) e }
 
-pub given_none : {names : List ℕ} {count : ℕ} {ns : Names} → Noted names count ns → Given names (Err UndefinedSymbol) (record { shapes = 0; calls = 0; layers = 0 })
+pub given_none : {names : List ℕ} {count : ℕ} {ns : Names} → Noted names count ns → Given names (Err UndefinedSymbol) none_own
 unfolding ReplyOf
 given_none {count = count} {ns = ns} n = record { count = count; all_names = ns; told = bars UndefinedSymbol; body = []; noted = n; is = refl; own_is = no_own ns }
 
@@ -226,16 +229,16 @@ pub given-row : {names : List ℕ} {count : ℕ} {ns : Names} (told : Reply) {ss
     → Given names reply own
 given-row {count = count} {ns = ns} told {ss = ss} n f o = record { count = count; all_names = ns; told = told; body = ss; noted = n; is = f; own_is = o }
 
-module _ (t : List ℕ) (w : ℕ) (names : List ℕ) (count : ℕ) {s : Result ℕ Refusal} (rows : List ℕ) (b : List ℤ) (figures calls layers : List ℕ) (k : KeepsText t w names count s rows b figures calls layers) where
+module _ (t : List ℕ) (w : ℕ) (names : List ℕ) (count : ℕ) {s : Result ℕ Refusal} (rows : List ℕ) (b : List ℤ) (column : List Own) (k : KeepsText t w names count s rows b column) where
   module _ {n : ℕ} (e : s ≡ Ok n) where
-    live_kept : (p : Passed t) → KeepsAll w p.letters names count n rows b figures calls layers
+    live_kept : (p : Passed t) → KeepsAll w p.letters names count n rows b column
     unfolding KeepsText
-    live_kept = subst (λ (x : Result ℕ Refusal). KeepsText t w names count x rows b figures calls layers) e k
+    live_kept = subst (λ (x : Result ℕ Refusal). KeepsText t w names count x rows b column) e k
 
-    pub may_ask : NamedPassed t names count → Askable rows b n names figures calls layers
+    pub may_ask : NamedPassed t names count → Askable rows b n names column
     may_ask q = record { count = count; all_names = _; table = _; noted = q.noted; held = (live_kept q.passed).held }
 
-    pub text-told : (symbol : ℕ) {r : Summary} → Tells rows b n names figures calls layers symbol r → TellsText t w names count symbol r
+    pub text-told : (symbol : ℕ) {r : Summary} → Tells rows b n names column symbol r → TellsText t w names count symbol r
     unfolding summary_in
     text-told symbol x p noted =
         let y = live_kept p in
@@ -245,7 +248,7 @@ module _ (t : List ℕ) (w : ℕ) (names : List ℕ) (count : ℕ) {s : Result �
   pub text-refused : (symbol : ℕ) {why : Refusal} → s ≡ Err why → {r : Summary} → r ≡ empty_summary t why → TellsText t w names count symbol r
   unfolding summary_in KeepsText
   text-refused symbol {why} e q p noted =
-      let y : end_of w p.letters ≡ stopped why [] = subst (λ (x : Result ℕ Refusal). KeepsText t w names count x rows b figures calls layers) e k p in
+      let y : end_of w p.letters ≡ stopped why [] = subst (λ (x : Result ℕ Refusal). KeepsText t w names count x rows b column) e k p in
       q ∙ sym (ap (λ (o : End). summary_in t o (layer_names (commands 0 p.letters)) (table_left p.letters) symbol) y)
 
 module _ (t : List ℕ) {g : Result Run Refusal} (s : Starts t g) where

@@ -41,22 +41,22 @@ abbrev pub table_left : List Letter → Table
 table_left m = table_then [] (table_deeds (commands 0 m))
 
 -- memory holds a table, with the summary beside it
-pub record TableHeld (rows : List ℕ) (b : List ℤ) (live : ℕ) (names : List ℕ) (count : ℕ) (figures calls layers : List ℕ) (t : Table) : Type 0 where
+pub record TableHeld (rows : List ℕ) (b : List ℤ) (live : ℕ) (names : List ℕ) (count : ℕ) (column : List Own) (t : Table) : Type 0 where
   pub holds : Holds rows b live t
   pub sorted : Sorted rows live
   pub stocked : Stocked rows b live
   pub short : length b ≤ most_words
-  pub afresh : Afresh rows b live names count figures calls layers
+  pub afresh : Afresh rows b live names count column
 
 -- the contract of `keep_text`
-pub record KeepsAll (words : ℕ) (m : List Letter) (names : List ℕ) (count live : ℕ) (rows : List ℕ) (b : List ℤ) (figures calls layers : List ℕ) : Type 0 where
+pub record KeepsAll (words : ℕ) (m : List Letter) (names : List ℕ) (count live : ℕ) (rows : List ℕ) (b : List ℤ) (column : List Own) : Type 0 where
   pub totals : Counts
   pub ends : end_of words m ≡ finished totals
-  pub held : TableHeld rows b live names count figures calls layers (table_left m)
+  pub held : TableHeld rows b live names count column (table_left m)
 
-unfoldable pub KeepsText : (t : List ℕ) (words : ℕ) (names : List ℕ) (count : ℕ) → Result ℕ Refusal → (rows : List ℕ) (b : List ℤ) (figures calls layers : List ℕ) → Type 0
-KeepsText t words names count (Ok n) rows b figures calls layers = (p : Passed t) → KeepsAll words p.letters names count n rows b figures calls layers
-KeepsText t words names count (Err why) rows b figures calls layers = (p : Passed t) → end_of words p.letters ≡ stopped why []
+unfoldable pub KeepsText : (t : List ℕ) (words : ℕ) (names : List ℕ) (count : ℕ) → Result ℕ Refusal → (rows : List ℕ) (b : List ℤ) (column : List Own) → Type 0
+KeepsText t words names count (Ok n) rows b column = (p : Passed t) → KeepsAll words p.letters names count n rows b column
+KeepsText t words names count (Err why) rows b column = (p : Passed t) → end_of words p.letters ≡ stopped why []
 
 -- of refusals 3 to 9 and 19 of a text of the grammar the first in text order: the contract of `foremost`
 abbrev pub Foremost : List ℕ → Refusal → Refusal → Type 0
@@ -106,17 +106,17 @@ abbrev pub TellsReply : (names : List ℕ) (reply : Result Standing Rule) (own :
 TellsReply names reply own r =
     (count : ℕ) (ns : Names) (told : Reply) (ss : List (Placed Step)) → Noted names count ns → ReplyOf ns told reply → OwnIs ns own ss → r ≡ in_symbol ns told ss
 
-abbrev pub Tells : (rows : List ℕ) (b : List ℤ) (live : ℕ) (names : List ℕ) (figures calls layers : List ℕ) (symbol : ℕ) → Summary → Type 0
-Tells rows b live names figures calls layers symbol r =
-    (count : ℕ) (ns : Names) (t : Table) → Noted names count ns → TableHeld rows b live names count figures calls layers t
+abbrev pub Tells : (rows : List ℕ) (b : List ℤ) (live : ℕ) (names : List ℕ) (column : List Own) (symbol : ℕ) → Summary → Type 0
+Tells rows b live names column symbol r =
+    (count : ℕ) (ns : Names) (t : Table) → Noted names count ns → TableHeld rows b live names count column t
     → r ≡ in_symbol ns (reply_to deepest t [] 0 symbol) (body_found (find symbol t))
 
-pub record Askable (rows : List ℕ) (b : List ℤ) (live : ℕ) (names : List ℕ) (figures calls layers : List ℕ) : Type 0 where
+pub record Askable (rows : List ℕ) (b : List ℤ) (live : ℕ) (names : List ℕ) (column : List Own) : Type 0 where
   pub count : ℕ
   pub all_names : Names
   pub table : Table
   pub noted : Noted names count all_names
-  pub held : TableHeld rows b live names count figures calls layers table
+  pub held : TableHeld rows b live names count column table
 
 abbrev pub TellsText : (t : List ℕ) (words : ℕ) (names : List ℕ) (count symbol : ℕ) → Summary → Type 0
 TellsText t words names count symbol r =

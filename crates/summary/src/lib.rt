@@ -3,7 +3,6 @@
 #![tactic(auto)]
 
 ghost use Rattle.std.specs.Prelude.{ltb, ◌≡◌, ◌+◌, ◌<◌, ◌≤◌, length};
-ghost use Rattle.std.specs.Int.Count.{ones, count_trailing_zeros};
 ghost use Rattle.grammar.specs.Viable.{Grammatical};
 ghost use Rattle.definition.specs.Limits.{most_layers};
 ghost use Rattle.definition.specs.Rules.{number_of};
@@ -24,7 +23,7 @@ use marks::Names;
 // A command has at most 2,049 numbers, and two words in front.
 const COMMAND_WORDS: usize = 2051;
 
-// The commands of a text from its start on: definitions are entered, with their columns, and removed; how many are live at its end. A definition that is one too many or needs more words
+// The commands of a text from its start on: definitions are entered, with their own numbers, and removed; how many are live at its end. A definition that is one too many or needs more words
 // than were lent ends the pass, as it ends the drawing.
 fn keep_text(
     text: &[u8],
@@ -33,14 +32,12 @@ fn keep_text(
     bodies: &mut [i32],
     words: &mut [i32],
     names: &Names,
-    figures: &mut [u64; library::MOST],
-    calls: &mut [u64; library::MOST],
-    layers: &mut [u64; library::MOST],
+    column: &mut [Own; library::MOST],
 ) -> Result<usize, Refusal>
     requires passed { Passed text.now × (length rows.old ≡ row_numbers) × (length bodies.old ≤ most_words) }
     requires most_values_in_bounds { (most_values + 2 ≤ length words.old) × (names.now.count ≤ most_layers) }
-    requires figures_len { (length figures.old ≡ most) × (length calls.old ≡ most) × (length layers.old ≡ most) }
-    ensures { KeepsText text.now (length bodies.old) names.now.numbers names.now.count result rows.new bodies.new figures.new calls.new layers.new }
+    requires column_len { length column.old ≡ most }
+    ensures { KeepsText text.now (length bodies.old) names.now.numbers names.now.count result rows.new bodies.new column.new }
 {
     let mut spot = pieces::Spot { at: 0, state: 0 };
     let mut stock = Stock {
@@ -74,9 +71,7 @@ fn keep_text(
                         taken.stock.live,
                         start.symbol,
                         names,
-                        figures,
-                        calls,
-                        layers,
+                        column,
                     );
                     spot = taken.to;
                     stock = taken.stock;
@@ -151,19 +146,6 @@ fn begin(text: &[u8]) -> Result<Names, Refusal>
     }
 }
 
-// How many layers a set has, and the mark of the first of them in the text.
-fn ones_of(set: u64) -> u32
-    ensures { result ≡ ones set }
-{
-    u64::count_ones(set)
-}
-
-fn lowest_of(set: u64) -> u32
-    ensures { result ≡ count_trailing_zeros 64 set }
-{
-    u64::trailing_zeros(set)
-}
-
 // The name of a set's first layer, packed; 0 for none.
 fn first_name(names: &Names, set: u64) -> usize
     requires { SetIn names.now.numbers set }
@@ -172,7 +154,7 @@ fn first_name(names: &Names, set: u64) -> usize
     if set == 0 {
         return 0;
     }
-    let mark = lowest_of(set) as usize;
+    let mark = set.trailing_zeros() as usize;
     names.numbers[mark]
 }
 
@@ -183,7 +165,7 @@ fn tell_reply(names: &Names, reply: Result<Standing, Rule>, own: Own) -> Summary
 {
     let shapes = own.shapes as usize;
     let calls = own.calls as usize;
-    let layers = ones_of(own.layers) as usize;
+    let layers = own.layers.count_ones() as usize;
     match reply {
         Err(rule) => Summary {
             number: 0,
@@ -200,7 +182,7 @@ fn tell_reply(names: &Names, reply: Result<Standing, Rule>, own: Own) -> Summary
         },
         Ok(standing) => {
             let first = first_name(names, standing.layers);
-            let drawn = ones_of(standing.layers) as usize;
+            let drawn = standing.layers.count_ones() as usize;
             Summary {
                 number: 0,
                 place: 0,
@@ -224,31 +206,17 @@ fn tell(
     rows: &[usize; library::ROW_NUMBERS],
     live: usize,
     names: &Names,
-    figures: &[u64; library::MOST],
-    calls: &[u64; library::MOST],
-    layers: &[u64; library::MOST],
+    column: &[Own; library::MOST],
     symbol: usize,
 ) -> Summary
-    requires { Askable rows.now bodies.now live names.now.numbers figures.now calls.now layers.now }
-    ensures { Tells rows.now bodies.now live names.now.numbers figures.now calls.now layers.now symbol result }
+    requires { Askable rows.now bodies.now live names.now.numbers column.now }
+    ensures { Tells rows.now bodies.now live names.now.numbers column.now symbol result }
 {
     match library::find(rows, live, symbol) {
-        None => {
-            let none = Own {
-                shapes: 0,
-                calls: 0,
-                layers: 0,
-            };
-            tell_reply(names, Err(Rule::UndefinedSymbol), none)
-        }
+        None => { tell_reply(names, Err(Rule::UndefinedSymbol), columns::NONE) }
         Some(row) => {
-            let own = Own {
-                shapes: figures[row],
-                calls: calls[row],
-                layers: layers[row],
-            };
-            let reply = heights::ask(bodies, rows, live, layers, symbol);
-            tell_reply(names, reply, own)
+            let reply = heights::ask(bodies, rows, live, column, symbol);
+            tell_reply(names, reply, column[row])
         }
     }
 }
@@ -261,21 +229,17 @@ fn tell_text(
     bodies: &mut [i32],
     words: &mut [i32],
     names: &Names,
-    figures: &mut [u64; library::MOST],
-    calls: &mut [u64; library::MOST],
-    layers: &mut [u64; library::MOST],
+    column: &mut [Own; library::MOST],
     symbol: usize,
 ) -> Summary
     requires named_passed { NamedPassed text.now names.now.numbers names.now.count × (length rows.old ≡ row_numbers) × (length bodies.old ≤ most_words) }
     requires most_values_in_bounds { most_values + 2 ≤ length words.old }
-    requires figures_len { (length figures.old ≡ most) × (length calls.old ≡ most) × (length layers.old ≡ most) }
+    requires column_len { length column.old ≡ most }
     ensures { TellsText text.now (length bodies.old) names.now.numbers names.now.count symbol result }
 {
-    match keep_text(
-        text, recogniser, rows, bodies, words, names, figures, calls, layers,
-    ) {
+    match keep_text(text, recogniser, rows, bodies, words, names, column) {
         Err(refusal) => no_summary(text, refusal),
-        Ok(live) => tell(bodies, rows, live, names, figures, calls, layers, symbol),
+        Ok(live) => tell(bodies, rows, live, names, column, symbol),
     }
 }
 
@@ -287,9 +251,7 @@ fn tell_passed(text: &[u8], bodies: &mut [i32], names: &Names, symbol: usize) ->
     let recogniser = grammar::Recogniser::new();
     let mut rows = [0usize; library::ROW_NUMBERS];
     let mut words = [0i32; COMMAND_WORDS];
-    let mut figures = [0u64; library::MOST];
-    let mut calls = [0u64; library::MOST];
-    let mut layers = [0u64; library::MOST];
+    let mut column = [columns::NONE; library::MOST];
     let lent = passing::at_most(bodies.len());
     tell_text(
         text,
@@ -298,9 +260,7 @@ fn tell_passed(text: &[u8], bodies: &mut [i32], names: &Names, symbol: usize) ->
         &mut bodies[0..lent],
         &mut words,
         names,
-        &mut figures,
-        &mut calls,
-        &mut layers,
+        &mut column,
         symbol,
     )
 }

@@ -1,4 +1,4 @@
--- `enter` meets its contract: the row's numbers are made once, and put into each column.
+-- `enter` meets its contract: the row's numbers are made once, and put into the column.
 use native.Mathlib.Omega.{arith}
 use Rattle.columns.proofs.Putting.{row_found, it_stands}
 use Rattle.columns.proofs.Entering.{row-sound, row_inside, entered_all}
@@ -17,13 +17,7 @@ pub own_of-own-requires : goal.own_of-own-requires
 own_of-own-requires c = (row-sound c.requires.stocked.0 (row_found _ _ _ c.find.ensures c.unwrap-row.ensures).0 c.start_at-from.ensures c.length_at-many.ensures, row_inside c.requires.stocked.0 (row_found _ _ _ c.find.ensures c.unwrap-row.ensures).0 c.start_at-from.ensures c.length_at-many.ensures, c.requires.stocked.1, c.requires.stocked.2)
 
 pub put-requires : goal.put-requires
-put-requires c = (c.requires.more.0, (row_found _ _ _ c.find.ensures c.unwrap-row.ensures).0, c.requires.more.1.few, c.requires.shapes_len.0)
-
-pub put-requires-2 : goal.put-requires-2
-put-requires-2 c = (c.requires.more.0, (row_found _ _ _ c.find.ensures c.unwrap-row.ensures).0, c.requires.more.1.few, c.requires.shapes_len.1)
-
-pub put-requires-3 : goal.put-requires-3
-put-requires-3 c = (c.requires.more.0, (row_found _ _ _ c.find.ensures c.unwrap-row.ensures).0, c.requires.more.1.few, c.requires.shapes_len.2)
+put-requires c = (c.requires.more.0, (row_found _ _ _ c.find.ensures c.unwrap-row.ensures).0, c.requires.more.1.few, c.requires.column_len)
 
 pub returns : goal.returns
-returns c = entered_all (row_found _ _ _ c.find.ensures c.unwrap-row.ensures).0 (row_found _ _ _ c.find.ensures c.unwrap-row.ensures).1 c.start_at-from.ensures c.length_at-many.ensures c.own_of-own.ensures c.put.ensures c.put-2.ensures c.put-3.ensures
+returns c = entered_all (row_found _ _ _ c.find.ensures c.unwrap-row.ensures).0 (row_found _ _ _ c.find.ensures c.unwrap-row.ensures).1 c.start_at-from.ensures c.length_at-many.ensures c.own_of-own.ensures c.put.ensures

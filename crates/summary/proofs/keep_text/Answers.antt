@@ -10,7 +10,7 @@ use Rattle.summary.proofs.Along.{along_begin, few-redefined, may_delete, along_o
 use Rattle.summary.proofs.keep_text.Goals as goal
 
 pub loop-c-init : goal.loop-c-init
-loop-c-init c = along_begin _ _ _ _ _ c.requires.passed.0 c.requires.passed.1 c.requires.passed.2 c.requires.figures_len c.no_counts-counts.ensures
+loop-c-init c = along_begin _ _ _ _ _ c.requires.passed.0 c.requires.passed.1 c.requires.passed.2 c.requires.column_len c.no_counts-counts.ensures
 
 pub read_command-requires : goal.read_command-requires
 read_command-requires c = record { fit = (c.loop-c.invariant.fit, omega arith, omega arith) }
@@ -39,7 +39,7 @@ define-requires c = record { fit = ((read_one c.read_command.ensures c.in-Some.i
 pub enter-requires : goal.enter-requires
 enter-requires c =
     let q : c.define.result ≡ Ok c.in_ok-taken-in-Some.taken = grind arith in
-    record { shapes_len = (c.loop-c.invariant.afresh.shapes_sized, c.loop-c.invariant.afresh.calls_sized, c.loop-c.invariant.afresh.layers_sized); more = (may_enter c.loop-c.invariant c.requires.most_values_in_bounds.0 (read_one c.read_command.ensures c.in-Some.is).1 c.if-kind-eq83.true _ c.start_in-start.ensures c.define.ensures q).0; stocked = ((may_enter c.loop-c.invariant c.requires.most_values_in_bounds.0 (read_one c.read_command.ensures c.in-Some.is).1 c.if-kind-eq83.true _ c.start_in-start.ensures c.define.ensures q).1.0, (may_enter c.loop-c.invariant c.requires.most_values_in_bounds.0 (read_one c.read_command.ensures c.in-Some.is).1 c.if-kind-eq83.true _ c.start_in-start.ensures c.define.ensures q).1.1, c.requires.most_values_in_bounds.1) }
+    record { column_len = c.loop-c.invariant.afresh.sized; more = (may_enter c.loop-c.invariant c.requires.most_values_in_bounds.0 (read_one c.read_command.ensures c.in-Some.is).1 c.if-kind-eq83.true _ c.start_in-start.ensures c.define.ensures q).0; stocked = ((may_enter c.loop-c.invariant c.requires.most_values_in_bounds.0 (read_one c.read_command.ensures c.in-Some.is).1 c.if-kind-eq83.true _ c.start_in-start.ensures c.define.ensures q).1.0, (may_enter c.loop-c.invariant c.requires.most_values_in_bounds.0 (read_one c.read_command.ensures c.in-Some.is).1 c.if-kind-eq83.true _ c.start_in-start.ensures c.define.ensures q).1.1, c.requires.most_values_in_bounds.1) }
 
 pub loop-c-smaller-then-kind-eq83 : goal.loop-c-smaller-then-kind-eq83
 loop-c-smaller-then-kind-eq83 c =

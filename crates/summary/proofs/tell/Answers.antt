@@ -10,23 +10,11 @@ find-requires c = c.requires.held.sorted
 pub tell_reply-requires : goal.tell_reply-requires
 tell_reply-requires c = given_none c.requires.noted
 
-pub bounds-figures-row : goal.bounds-figures-row
-bounds-figures-row c = let z = row_within c.requires.noted c.requires.held _ c.find.ensures c.in-Some.is in omega (arith, z, c.requires.held.sorted.few)
+pub bounds-column-row : goal.bounds-column-row
+bounds-column-row c = let z = row_within c.requires.noted c.requires.held _ c.find.ensures c.in-Some.is in omega (arith, z, c.requires.held.sorted.few)
 
-pub offset_bounds-figures-row : goal.offset_bounds-figures-row
-offset_bounds-figures-row c = let z = row_within c.requires.noted c.requires.held _ c.find.ensures c.in-Some.is in omega (arith, z, c.requires.held.sorted.few)
-
-pub bounds-calls-row : goal.bounds-calls-row
-bounds-calls-row c = let z = row_within c.requires.noted c.requires.held _ c.find.ensures c.in-Some.is in omega (arith, z, c.requires.held.sorted.few)
-
-pub offset_bounds-calls-row : goal.offset_bounds-calls-row
-offset_bounds-calls-row c = let z = row_within c.requires.noted c.requires.held _ c.find.ensures c.in-Some.is in omega (arith, z, c.requires.held.sorted.few)
-
-pub bounds-layers-row : goal.bounds-layers-row
-bounds-layers-row c = let z = row_within c.requires.noted c.requires.held _ c.find.ensures c.in-Some.is in omega (arith, z, c.requires.held.sorted.few)
-
-pub offset_bounds-layers-row : goal.offset_bounds-layers-row
-offset_bounds-layers-row c = let z = row_within c.requires.noted c.requires.held _ c.find.ensures c.in-Some.is in omega (arith, z, c.requires.held.sorted.few)
+pub offset_bounds-column-row : goal.offset_bounds-column-row
+offset_bounds-column-row c = let z = row_within c.requires.noted c.requires.held _ c.find.ensures c.in-Some.is in omega (arith, z, c.requires.held.sorted.few)
 
 pub tell_reply-requires-in-Some : goal.tell_reply-requires-in-Some
 tell_reply-requires-in-Some c = given-row _ c.requires.noted (reply_there c.requires.noted c.requires.held _ _ c.ask-reply.ensures.symbol_replies) (own_there c.requires.noted c.requires.held _ c.find.ensures c.in-Some.is refl)
