@@ -36,6 +36,7 @@ fn own_of(bodies: &[i32], from: usize, many: usize, names: &marks::Names) -> Own
     let mut calls: u64 = 0;
     let mut layers: u64 = 0;
     let mut layer: u64 = 0;
+    // a `while`, since commands differ in length: an iterator over them would keep the same place
     while at < end {
         let head = engine::head_at(bodies, at);
         if head.kind == b'L' {

@@ -28,6 +28,7 @@ pub fn first_dangling(
     for i in 0..live {
         let mut at = library::start_at(rows, i);
         let end = at + library::length_at(rows, i);
+        // a `while`, since commands differ in length: an iterator over them would keep the same place
         while at < end {
             let head = engine::head_at(bodies, at);
             if head.kind == b'C' {

@@ -50,6 +50,7 @@ fn next_call(bodies: &[i32], from: usize, end: usize) -> Option<Next>
     ensures { (cs : List ℕ) → Remains bodies.now from end cs → CallNext bodies.now from end cs result }
 {
     let mut at = from;
+    // a `while`, since commands differ in length: an iterator over them would keep the same place
     while at < end {
         let head = engine::head_at(bodies, at);
         if head.kind == b'C' {
@@ -131,22 +132,16 @@ fn reply_of_body(
     let end = at + library::length_at(rows, row);
     let mut tallest: usize = 0;
     let mut set = own[row].layers;
-    loop {
-        match next_call(bodies, at, end) {
-            None => {
-                return Ok(Standing {
-                    height: tallest,
-                    layers: set,
-                });
-            }
-            Some(next) => {
-                at = next.at;
-                let called = reply_to(bodies, rows, live, own, seen, next.symbol, left)?;
-                tallest = tallest.max(called.height);
-                set = set | called.layers;
-            }
-        }
+    while let Some(next) = next_call(bodies, at, end) {
+        at = next.at;
+        let called = reply_to(bodies, rows, live, own, seen, next.symbol, left)?;
+        tallest = tallest.max(called.height);
+        set |= called.layers;
     }
+    Ok(Standing {
+        height: tallest,
+        layers: set,
+    })
 }
 
 // A symbol, asked for with every level left and nothing known yet.

@@ -71,22 +71,16 @@ fn gather_by(text: &[u8], recogniser: &grammar::Recogniser) -> Result<Names, usi
         numbers: [0; definition::MOST_LAYERS],
         count: 0,
     };
-    loop {
-        match commands::read_command(text, recogniser, &mut words, spot, 1, 1) {
-            None => {
-                return Ok(names);
-            }
-            Some(c) => {
-                spot = c.to;
-                if c.kind == b'L' {
-                    let name = shapes::size_at(&words, 2);
-                    if !note(&mut names, name) {
-                        return Err(c.place);
-                    }
-                }
+    while let Some(c) = commands::read_command(text, recogniser, &mut words, spot, 1, 1) {
+        spot = c.to;
+        if c.kind == b'L' {
+            let name = shapes::size_at(&words, 2);
+            if !note(&mut names, name) {
+                return Err(c.place);
             }
         }
     }
+    Ok(names)
 }
 
 // The distinct names of a text's L commands, by first appearance.

@@ -46,40 +46,34 @@ fn keep_text(
         needed: 0,
     };
     let mut counts = counts::no_counts();
-    loop {
-        match commands::read_command(text, recogniser, words, spot, 1, 1) {
-            None => {
-                return Ok(stock.live);
-            }
-            Some(c) => {
-                let kind = c.kind;
-                let place = c.place;
-                let to = c.to;
-                spot = to;
-                if kind == b'D' {
-                    let symbol = shapes::size_at(words, 2);
-                    stock = passing::delete(rows, stock, symbol);
-                } else if kind == b'S' {
-                    let start = passing::start_in(words, place);
-                    let taken = keeping::define(
-                        text, recogniser, rows, bodies, stock, start, to, counts,
-                    ).map_err(|rule| Refusal { rule, place })?;
-                    columns::enter(
-                        bodies,
-                        rows,
-                        stock.live,
-                        taken.stock.live,
-                        start.symbol,
-                        names,
-                        column,
-                    );
-                    spot = taken.to;
-                    stock = taken.stock;
-                    counts = taken.counts;
-                }
-            }
+    while let Some(c) = commands::read_command(text, recogniser, words, spot, 1, 1) {
+        let kind = c.kind;
+        let place = c.place;
+        let to = c.to;
+        spot = to;
+        if kind == b'D' {
+            let symbol = shapes::size_at(words, 2);
+            stock = passing::delete(rows, stock, symbol);
+        } else if kind == b'S' {
+            let start = passing::start_in(words, place);
+            let taken = keeping::define(
+                text, recogniser, rows, bodies, stock, start, to, counts,
+            ).map_err(|rule| Refusal { rule, place })?;
+            columns::enter(
+                bodies,
+                rows,
+                stock.live,
+                taken.stock.live,
+                start.symbol,
+                names,
+                column,
+            );
+            spot = taken.to;
+            stock = taken.stock;
+            counts = taken.counts;
         }
     }
+    Ok(stock.live)
 }
 
 // A refused text tells where, and nothing of a symbol.

@@ -90,45 +90,37 @@ fn warn_text(
     let mut counts = counts::no_counts();
     let mut searched = None;
     let mut at = from;
-    loop {
-        match commands::read_command(text, recogniser, words, spot, 1, 1) {
-            None => {
-                return at;
-            }
-            Some(c) => {
-                let kind = c.kind;
-                let place = c.place;
-                let to = c.to;
-                spot = to;
-                if kind == b'D' {
-                    let symbol = shapes::size_at(words, 2);
-                    let left = passing::delete(rows, stock, symbol);
-                    let found = find_dangling(bodies, rows, stock.live, left.live, searched);
-                    searched = Some(found);
-                    stock = left;
-                    at = put_dangling(out, at, found);
-                } else if kind == b'S' {
-                    let start = passing::start_in(words, place);
-                    match keeping::define(
-                        text, recogniser, rows, bodies, stock, start, to, counts,
-                    ) {
-                        Ok(taken) => {
-                            let had = counts.redefinitions;
-                            let has = taken.counts.redefinitions;
-                            at = put_redefined(out, at, start.symbol, had, has);
-                            spot = taken.to;
-                            stock = taken.stock;
-                            counts = taken.counts;
-                            searched = None;
-                        }
-                        Err(_) => {
-                            return at;
-                        }
-                    }
+    while let Some(c) = commands::read_command(text, recogniser, words, spot, 1, 1) {
+        let kind = c.kind;
+        let place = c.place;
+        let to = c.to;
+        spot = to;
+        if kind == b'D' {
+            let symbol = shapes::size_at(words, 2);
+            let left = passing::delete(rows, stock, symbol);
+            let found = find_dangling(bodies, rows, stock.live, left.live, searched);
+            searched = Some(found);
+            stock = left;
+            at = put_dangling(out, at, found);
+        } else if kind == b'S' {
+            let start = passing::start_in(words, place);
+            match keeping::define(text, recogniser, rows, bodies, stock, start, to, counts) {
+                Ok(taken) => {
+                    let had = counts.redefinitions;
+                    let has = taken.counts.redefinitions;
+                    at = put_redefined(out, at, start.symbol, had, has);
+                    spot = taken.to;
+                    stock = taken.stock;
+                    counts = taken.counts;
+                    searched = None;
+                }
+                Err(_) => {
+                    return at;
                 }
             }
         }
     }
+    at
 }
 
 // The warnings of a text that refusals 1 to 9 let pass come to stand in `out` from a place on, as far as it reaches; the place after them is exact all the

@@ -15,23 +15,23 @@ reply_of_body-loop-next-init t c = starts _ _ _ _ c.requires.0 (all_left _ _ _ _
 pub reply_of_body-next_call-requires : goal.reply_of_body-next_call-requires
 reply_of_body-next_call-requires t c = (c.loop-next.invariant.rest, c.loop-next.invariant.remains)
 
-pub reply_of_body-returns-in-None : goal.reply_of_body-returns-in-None
-reply_of_body-returns-in-None t c = all_done _ _ _ _ c.loop-next.invariant (c.next_call.ensures c.loop-next.invariant.rest c.loop-next.invariant.remains) c.in-None.is
+pub reply_of_body-returns : goal.reply_of_body-returns
+reply_of_body-returns t c = all_done _ _ _ _ c.loop-next.invariant (c.next_call.ensures c.loop-next.invariant.rest c.loop-next.invariant.remains) c.in_default.is
 
 pub reply_of_body-reply_to-requires : goal.reply_of_body-reply_to-requires
 reply_of_body-reply_to-requires t c = let n = next_is _ (c.next_call.ensures c.loop-next.invariant.rest c.loop-next.invariant.remains) c.in-Some.is in (omega (arith, c.decreases), (ready_on _ _ _ _ c.loop-next.invariant c.requires.0, (c.requires.1.0, opened_on _ _ _ _ c.loop-next.invariant n.1 c.requires.1.0 c.requires.1.1)))
 
-pub reply_of_body-returns-in_err-called-in-Some : goal.reply_of_body-returns-in_err-called-in-Some
-reply_of_body-returns-in_err-called-in-Some t c =
+pub reply_of_body-returns-in_err-called : goal.reply_of_body-returns-in_err-called
+reply_of_body-returns-in_err-called t c =
     let n = next_is _ (c.next_call.ensures c.loop-next.invariant.rest c.loop-next.invariant.remains) c.in-Some.is in
     let p = err_from_is_err_and c.from_residual.result c.from_residual.ensures.1 in
-    rw (p.1, p.2) (barred _ _ _ _ c.loop-next.invariant n.1 c.reply_to.ensures c.in_err-called-in-Some.was)
+    rw (p.1, p.2) (barred _ _ _ _ c.loop-next.invariant n.1 c.reply_to.ensures c.in_err-called.was)
 
 pub reply_of_body-loop-next-smaller : goal.reply_of_body-loop-next-smaller
 reply_of_body-loop-next-smaller t c = let n = next_is _ (c.next_call.ensures c.loop-next.invariant.rest c.loop-next.invariant.remains) c.in-Some.is in omega (arith, n.3, n.2.low)
 
 pub reply_of_body-loop-next-preserved : goal.reply_of_body-loop-next-preserved
-reply_of_body-loop-next-preserved t c = let n = next_is _ (c.next_call.ensures c.loop-next.invariant.rest c.loop-next.invariant.remains) c.in-Some.is in went_on _ _ _ _ c.loop-next.invariant n.1 c.reply_to.ensures c.in_ok-called-in-Some.was n.2 c.requires.1.0 c.requires.1.1 c.max-tallest.ensures
+reply_of_body-loop-next-preserved t c = let n = next_is _ (c.next_call.ensures c.loop-next.invariant.rest c.loop-next.invariant.remains) c.in-Some.is in went_on _ _ _ _ c.loop-next.invariant n.1 c.reply_to.ensures c.in_ok-called.was n.2 c.requires.1.0 c.requires.1.1 c.max-tallest.ensures
 
 pub reply_to-returns-in_err-standing : goal.reply_to-returns-in_err-standing
 reply_to-returns-in_err-standing t c =

@@ -4,8 +4,8 @@ use lib.ListN.{length}
 use Rattle.marks.proofs.Gathering.{Gathering}
 use Rattle.marks.proofs.gather_by.Given as goal
 
-abbrev pub invariant-loop-names : goal.invariant-loop-names
-invariant-loop-names l = Gathering l.text l.names l.words l.spot
+abbrev pub invariant-loop-c : goal.invariant-loop-c
+invariant-loop-c l = Gathering l.text l.names l.words l.spot
 
-abbrev pub decreases-loop-names : goal.decreases-loop-names
-decreases-loop-names l = length l.text - l.spot.at
+abbrev pub decreases-loop-c : goal.decreases-loop-c
+decreases-loop-c l = length l.text - l.spot.at

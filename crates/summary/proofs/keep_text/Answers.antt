@@ -15,8 +15,8 @@ loop-c-init c = along_begin _ _ _ _ _ c.requires.passed.0 c.requires.passed.1 c.
 pub read_command-requires : goal.read_command-requires
 read_command-requires c = record { fit = (c.loop-c.invariant.fit, omega arith, omega arith) }
 
-pub returns-in-None : goal.returns-in-None
-returns-in-None c = along_out c.loop-c.invariant c.read_command.result _ c.read_command.ensures c.in-None.is
+pub returns : goal.returns
+returns c = along_out c.loop-c.invariant c.read_command.result _ c.read_command.ensures c.in_default.is
 
 pub size_at-symbol-requires : goal.size_at-symbol-requires
 size_at-symbol-requires c = let z = words_then c.loop-c.invariant c.requires.most_values_in_bounds.0 (read_one c.read_command.ensures c.in-Some.is).1 in omega (arith, z)
@@ -38,21 +38,21 @@ define-requires c = record { fit = ((read_one c.read_command.ensures c.in-Some.i
 
 pub enter-requires : goal.enter-requires
 enter-requires c =
-    let q : c.define.result ≡ Ok c.in_ok-taken-in-Some.taken = grind arith in
+    let q : c.define.result ≡ Ok c.in_ok-taken.taken = grind arith in
     record { column_len = c.loop-c.invariant.afresh.sized; more = (may_enter c.loop-c.invariant c.requires.most_values_in_bounds.0 (read_one c.read_command.ensures c.in-Some.is).1 c.if-kind-eq83.true _ c.start_in-start.ensures c.define.ensures q).0; stocked = ((may_enter c.loop-c.invariant c.requires.most_values_in_bounds.0 (read_one c.read_command.ensures c.in-Some.is).1 c.if-kind-eq83.true _ c.start_in-start.ensures c.define.ensures q).1.0, (may_enter c.loop-c.invariant c.requires.most_values_in_bounds.0 (read_one c.read_command.ensures c.in-Some.is).1 c.if-kind-eq83.true _ c.start_in-start.ensures c.define.ensures q).1.1, c.requires.most_values_in_bounds.1) }
 
 pub loop-c-smaller-then-kind-eq83 : goal.loop-c-smaller-then-kind-eq83
 loop-c-smaller-then-kind-eq83 c =
-    let q : c.define.result ≡ Ok c.in_ok-taken-in-Some.taken = grind arith in
+    let q : c.define.result ≡ Ok c.in_ok-taken.taken = grind arith in
     along_on c.loop-c.invariant c.requires.most_values_in_bounds.0 (read_one c.read_command.ensures c.in-Some.is).1 c.if-kind-eq83.true _ c.start_in-start.ensures c.define.ensures q
 
 pub loop-c-preserved-then-kind-eq83 : goal.loop-c-preserved-then-kind-eq83
 loop-c-preserved-then-kind-eq83 c =
-    let q : c.define.result ≡ Ok c.in_ok-taken-in-Some.taken = grind arith in
+    let q : c.define.result ≡ Ok c.in_ok-taken.taken = grind arith in
     along_defined c.loop-c.invariant c.requires.most_values_in_bounds.0 (read_one c.read_command.ensures c.in-Some.is).1 c.if-kind-eq83.true _ c.start_in-start.ensures c.define.ensures q c.enter.ensures
 
-pub returns-in_err-taken-in-Some : goal.returns-in_err-taken-in-Some
-returns-in_err-taken-in-Some c =
+pub returns-in_err-taken : goal.returns-in_err-taken
+returns-in_err-taken c =
     let q : (rule : Rule) × (c.define.result ≡ Err rule) × (c.from_residual.result ≡ Err (refuse rule c.in-Some.c.place)) = search rules in
     rw q.2 (along_refused c.loop-c.invariant c.requires.most_values_in_bounds.0 (read_one c.read_command.ensures c.in-Some.is).1 c.if-kind-eq83.true _ c.start_in-start.ensures c.define.ensures {rule = q.0} q.1)
 

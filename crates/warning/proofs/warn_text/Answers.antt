@@ -10,8 +10,8 @@ loop-c-init c = along_begin _ _ _ _ _ c.requires.passed.0 c.requires.passed.1 c.
 pub read_command-requires : goal.read_command-requires
 read_command-requires c = record { fit = (c.loop-c.invariant.fit, omega arith, omega arith) }
 
-pub returns-in-None : goal.returns-in-None
-returns-in-None c = along_out c.loop-c.invariant c.read_command.result _ c.read_command.ensures c.in-None.is
+pub returns : goal.returns
+returns c = along_out c.loop-c.invariant c.read_command.result _ c.read_command.ensures c.in_default.is
 
 pub size_at-symbol-requires : goal.size_at-symbol-requires
 size_at-symbol-requires c = let z = words_then c.loop-c.invariant c.requires.most_values_in_bounds.0 (read_one c.read_command.ensures c.in-Some.is).1 in omega (arith, z)
