@@ -11,7 +11,7 @@ use lib.Dec.{eqb}
 use lib.IntN.{ℤ, pos, nat_abs}
 use lib.ListN.{length}
 use Rattle.definition.specs.Words.{Placed, at}
-use Rattle.definition.specs.Commands.{Kind, box, flash, wire, polygon, Command, layer, finish, nothing}
+use Rattle.definition.specs.Commands.{Kind, box, flash, wire, polygon, Command, finish, nothing}
 use Rattle.definition.specs.Standing.{Standing, outside, after, scaled_shape, scaled_turn}
 use Rattle.definition.specs.Table.{Step, shape, instance, setting}
 use Rattle.definition.specs.Flat.{letter_of}

@@ -102,7 +102,8 @@ fn keep_command(
     Stored::More(more, layer, to)
 }
 
-// The commands of a definition, up to its DF; none where the words lent are too few. A command that does not fit is decoded once more after the live bodies have been moved together.
+// The commands of a definition, up to its DF; none where the words lent are too few. A command that does not fit is decoded once more after the live bodies have been moved together, so
+// the loop has no range: how often a command is decoded is known only from the room.
 fn keep_body(
     text: &[u8],
     recogniser: &grammar::Recogniser,

@@ -10,6 +10,7 @@ use borrow.Author.Tests.{lt-ltb, le-ltb, ltb-false, eq-eqb, ne_eqb, eqb-true}
 use lib.Dec.{ltb, eqb}
 use lib.ListN.{length, length-append, length-map, take, replicate}
 use lib.Seq.{take_at}
+use Rattle.definition.specs.Rules.{number_of}
 use Rattle.definition.specs.Words.{Placed, bytes_of}
 use Rattle.definition.specs.declared.Refusal.{Refusal}
 use Rattle.definition.specs.Commands.{Command}
@@ -74,8 +75,8 @@ rejected_is : {t : List ℕ} {words room : ℕ} (r : Refusal) (chain : Chain) (w
 unfolding account given_back failure flat_file listing refused_line
 rejected_is {t} r chain w k =
     let h = (located k).first-number in
-    let told : List ℕ → List ℕ = λ places. r.number ∷ r.place ∷ line_of t r.place ∷ column_of t r.place ∷ places in
-    rw (ne_eqb r.number 0 (λ e. omega (arith, h, e)))
+    let told : List ℕ → List ℕ = λ places. number_of r.rule ∷ r.place ∷ line_of t r.place ∷ column_of t r.place ∷ places in
+    rw (ne_eqb (number_of r.rule) 0 (λ e. omega (arith, h, e)))
     (ap (λ (places : List ℕ). bytes_of "refused" ++ (tabbed (told places) ++ (10 ∷ []))) (told_places chain)
     ∙ ap (λ (l : List ℕ). bytes_of "refused" ++ l) (tabbed-fields (told (places_of chain))))
 

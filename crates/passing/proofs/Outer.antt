@@ -19,7 +19,7 @@ use Rattle.pieces.specs.Pieces.{letter_s}
 use Rattle.rules.specs.Letters.{letter_c, letter_d, letter_l}
 use Rattle.rules.specs.Written.{Written}
 use Rattle.rules.specs.Rules.{shapely}
-use Rattle.keeping.specs.Voices.{Silent, Voice, a_shape, a_call, a_layer, a_start, a_finish, a_delete, a_nothing}
+use Rattle.keeping.specs.Voices.{Voice, a_shape, a_call, a_layer, a_start, a_finish, a_delete, a_nothing}
 use Rattle.keeping.specs.Growth.{steps}
 use Rattle.keeping.proofs.Spoken.{silent_no}
 use Rattle.engine.specs.Outer.{Says, a_shape, a_call}

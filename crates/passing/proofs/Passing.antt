@@ -38,7 +38,7 @@ use Rattle.shapes.specs.Painting.{inked, Painted}
 use Rattle.shapes.proofs.Painting.{so_far, room-kept}
 use Rattle.library.specs.Memory.{row_numbers, needed_in}
 use Rattle.library.specs.Rows.{Sorted}
-use Rattle.keeping.specs.Keeping.{most_words, Begins, Takes, Defines, DefinesAt}
+use Rattle.keeping.specs.Keeping.{most_words, Begins, Takes, DefinesAt}
 use Rattle.keeping.specs.declared.Start.{Start}
 use Rattle.keeping.specs.declared.Stock.{Stock}
 use Rattle.keeping.specs.declared.Taken.{Taken}

@@ -1,10 +1,8 @@
 -- `keep_body` meets its contract: `KeptSoFar` holds before each command, and what is left of the text falls, or a command is tried once more.
-use mathlib.Core.Path.{refl, ◌∙◌}
+use mathlib.Core.Path.{refl}
 use mathlib.Core.Bool.{false}
-use Prim.Native.Nat.{◌+◌, ◌-◌, ◌*◌}
 use native.Mathlib.Omega.{arith}
-use lib.ListN.{length}
-use Rattle.keeping.proofs.Bodies.{unmoved, once, never_again, KeptSoFar, going_start, as_more, going_on, laid_anywhere, going-moved, body_lacking, body-whole}
+use Rattle.keeping.proofs.Bodies.{once, never_again, going_start, as_more, going_on, laid_anywhere, going-moved, body_lacking, body-whole}
 use Rattle.keeping.proofs.keep_body.Goals as goal
 
 pub loop-to-init : goal.loop-to-init
