@@ -2,16 +2,13 @@
 -- the count or that there is none.
 --     refused-first, passes_so      what the first run says.        never_counted       no run is needed.        found_or_not      what the second run says
 -- Assumes nothing.
-use Rattle.std.specs.Prelude.{if◌then◌else◌}
 use mathlib.Core.Path.{◌≡◌, refl, sym, ap, ◌∙◌, subst}
-use mathlib.Core.Bool.{Bool, true, false}
 use mathlib.Core.List.{List, []}
 use mathlib.Core.Logic.{◌⊎◌, inl, inr}
 use mathlib.Core.Option.{Option, none, some}
 use Prim.Native.Nat.{ℕ, suc, ◌+◌, ◌-◌, ◌≤◌, ◌<◌}
 use native.Mathlib.Omega.{arith}
 use borrow.Author.Tests.{eq-eqb, ne_eqb}
-use lib.Dec.{eqb}
 use lib.IntN.{ℤ, pos}
 use lib.ListN.{length, replicate, length-replicate}
 use Rattle.grammar.specs.Notation.{Letter}
@@ -27,25 +24,23 @@ use Rattle.definition.specs.Rules.{number_of, refuse}
 use Rattle.definition.specs.Commands.{commands}
 use Rattle.definition.specs.Faults.{first_fault}
 use Rattle.definition.specs.Rounded.{rounded}
-use Rattle.definition.specs.Drawing.{Chain, Drawn, Event, drew}
-use Rattle.definition.specs.Counts.{counts, finished, stopped, ending}
-use Rattle.definition.specs.Answer.{Outcome, rejected, given_back, success, failure, zeros, Promised}
+use Rattle.definition.specs.Drawing.{Chain, Drawn}
+use Rattle.definition.specs.Counts.{counts, stopped, ending}
+use Rattle.definition.specs.Answer.{Outcome, given_back, success, failure, Promised}
 use Rattle.definition.specs.Records.{stacked_drawing}
 use Rattle.definition.specs.Why.{Reason, because, refuses, WhyAnswers, why_told, PromisedWhy}
 use Rattle.laws.proofs.Rules.FaultRules.{no_first-fault}
 use Rattle.reasons.specs.Stops.{stop_of}
-use Rattle.reasons.proofs.Told.{Through, RefusedSo, FoundThere, through-when, refused-when, found_there, none_there, zero-told, beyond-told}
-use Rattle.reasons.proofs.Matrix.{TellsNet, tells-net}
+use Rattle.reasons.proofs.Told.{Through, FoundThere, through-when, refused-when, found_there, none_there, zero-told, beyond-told}
+use Rattle.reasons.proofs.Matrix.{tells-net}
 use Rattle.turns.specs.declared.Net.{Net}
 use Rattle.turns.specs.declared.Pair.{Pair}
 use Rattle.turns.specs.Nets.{as_point, turned, Carries}
-use Rattle.counts.specs.Counting.{tally}
 use Rattle.reading.specs.Refusal.{fault_said, by_verdict}
 use Rattle.reader.specs.Screened.{Screened, over, within}
 use Rattle.shapes.specs.declared.Ink.{Ink}
 use Rattle.shapes.specs.Painting.{Goes, Answered, Painted}
 use Rattle.passing.specs.Passed.{Passed}
-use Rattle.machine.specs.declared.Frame.{Frame}
 use Rattle.machine.specs.declared.State.{State}
 use Rattle.machine.specs.States.{no_frame, started}
 use Rattle.machine.specs.Underway.{Host, lends_from, all_of, NetThere, CameOut, refused_early, stopped_there, too_long_for, written_out, UnderwayFor, Over, BeginsAt}

@@ -1,13 +1,13 @@
 -- What is told of a shape (RULES 20, request 11) by what an engine answers: a refusal's numbers and chain; or, of refusal 17 at the shape that is asked for, its place and chain, and the net
 -- transformation that the engine keeps. A running account, not to be believed: the promise is `PromisedWhy` of crates/definition.
 -- Assumes nothing.
-use Rattle.std.specs.Prelude.{◌≡◌, List, [], ℕ, ◌≤◌, eqb, ℤ, pos, length, replicate, if◌then◌else◌}
+use Rattle.std.specs.Prelude.{◌≡◌, List, [], ℕ, eqb, ℤ, pos, length, replicate, if◌then◌else◌}
 use Rattle.definition.specs.declared.Answer.{Answer}
 use Rattle.definition.specs.declared.Why.{Why}
 use Rattle.definition.specs.Words.{point}
 use Rattle.definition.specs.declared.Rule.TheVariants.{NoSuchShape}
 use Rattle.definition.specs.Rules.{refuse}
-use Rattle.definition.specs.Why.{Reason, refuses, why_told}
+use Rattle.definition.specs.Why.{refuses, why_told}
 use Rattle.reasons.proofs.Told.{Through}
 use Rattle.turns.specs.declared.Net.{Net}
 use Rattle.turns.specs.Nets.{turned}

@@ -1,6 +1,5 @@
 -- `missing` meets its contract.
 use Rattle.why.proofs.Telling.{missing_made}
-use borrow.Author.Rules.{rules}
 use Rattle.why.proofs.missing.Goals as goal
 
 pub returns : goal.returns
