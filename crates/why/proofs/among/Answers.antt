@@ -8,12 +8,6 @@ use Rattle.why.proofs.among.Goals as goal
 pub returns-then-count-eq0 : goal.returns-then-count-eq0
 returns-then-count-eq0 c = never_counted c.requires.0 c.requires.1 c.missing.ensures c.then-count-eq0.either
 
-pub overflow_sub-before : goal.overflow_sub-before
-overflow_sub-before c = omega (arith, c.if-count-eq0.false)
-
-pub overflow_sub-earlier : goal.overflow_sub-earlier
-overflow_sub-earlier c = omega (arith, c.if-count-gt-MOST_SHAPES.false)
-
 pub begin_at-s-requires : goal.begin_at-s-requires
 begin_at-s-requires c = (search rules, omega arith)
 
