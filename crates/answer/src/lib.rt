@@ -6,6 +6,7 @@ ghost use Rattle.std.specs.Prelude.{◌≡◌, [], ◌++◌, length};
 ghost use Rattle.definition.specs.Answer.{success, failure};
 ghost use Rattle.counts.specs.Counting.{tally};
 ghost use Rattle.chain.specs.Chain.{run_length, chain_in};
+ghost use Rattle.answer.specs.Telling.{told_of, failing};
 ghost use Rattle.answer.specs.Words.{zeros, first_words, answer_words, words_about, summary_words, why_answer, signed_word, why_words, chain_by, answer_by};
 
 use counts::Counts;
@@ -69,18 +70,25 @@ const TRANSLATION_Y: usize = 54;
 // The highest number of 64 bits: a number below 0 is told as what it lacks of one more than this.
 const HIGHEST: u64 = 18_446_744_073_709_551_615;
 
+// A refusal as a host is told it: a number and a place. Every rule has a number, and any other can be told here too.
+#[derive(Clone, Copy)]
+pub struct Told {
+    pub number: usize,
+    pub place: usize,
+}
+
 // A refusal gives zero for the length and for every count, whatever has been counted by then, and tells where it is: line and column of its place, and the
 // calls that were open there.
-pub fn refused(text: &[u8], refusal: Refusal, run: &[usize], counted: Counts) -> Answer
+pub fn refused(text: &[u8], refusal: Told, run: &[usize], counted: Counts) -> Answer
     requires { length run.now ≡ run_length }
-    ensures { result ≡ failure text.now refusal (chain_in run.now) }
+    ensures { result ≡ failing text.now refusal (chain_in run.now) }
 {
     let none = counts::cleared(counted);
     let position = position::position_of(text, refusal.place);
     let opened = chain::opened(run);
     let chain = chain::places(run);
     Answer {
-        number: definition::number_of(refusal.rule),
+        number: refusal.number,
         place: refusal.place,
         length: 0,
         shapes: none.shapes,
@@ -95,11 +103,35 @@ pub fn refused(text: &[u8], refusal: Refusal, run: &[usize], counted: Counts) ->
 }
 
 // A refusal outside of every call (1 to 9 and 18).
-pub fn refused_outside(text: &[u8], refusal: Refusal, counted: Counts) -> Answer
-    ensures { result ≡ failure text.now refusal [] }
+pub fn refused_outside(text: &[u8], refusal: Told, counted: Counts) -> Answer
+    ensures { result ≡ failing text.now refusal [] }
 {
     let run = [0usize; chain::RUN];
     refused(text, refusal, &run, counted)
+}
+
+// A rule is told by its number.
+fn by_number(refusal: Refusal) -> Told
+    ensures { result ≡ told_of refusal }
+{
+    Told {
+        number: definition::number_of(refusal.rule),
+        place: refusal.place,
+    }
+}
+
+// The same two of a refusal by a rule, as the crates that read a text have it.
+pub fn refused_by(text: &[u8], refusal: Refusal, run: &[usize], counted: Counts) -> Answer
+    requires { length run.now ≡ run_length }
+    ensures { result ≡ failure text.now refusal (chain_in run.now) }
+{
+    refused(text, by_number(refusal), run, counted)
+}
+
+pub fn refused_outside_by(text: &[u8], refusal: Refusal, counted: Counts) -> Answer
+    ensures { result ≡ failure text.now refusal [] }
+{
+    refused_outside(text, by_number(refusal), counted)
 }
 
 // A success tells how long the flat file is, what was counted, and how many distances of the text were rounded.

@@ -16,7 +16,7 @@ fn fault_answer(text: &[u8], fault: Result<usize, Refusal>) -> Answer
 {
     match fault {
         Ok(_) => answer::accepted(0, counts::no_counts(), 0),
-        Err(refusal) => answer::refused_outside(text, refusal, counts::no_counts()),
+        Err(refusal) => answer::refused_outside_by(text, refusal, counts::no_counts()),
     }
 }
 
@@ -105,7 +105,7 @@ fn refusal_words(first: &[u8], second: &[u8], not_joined: NotJoined) -> [u64; an
         Which::First => (first, 1),
         Which::Second => (second, 2),
     };
-    let given = answer::refused_outside(text, not_joined.refusal, counts::no_counts());
+    let given = answer::refused_outside_by(text, not_joined.refusal, counts::no_counts());
     answer::words_about(given, which)
 }
 

@@ -281,7 +281,7 @@ fn stopped(text: &[u8], bodies: &mut [i32], c: Course, refusal: Refusal, here: H
 {
     let mut run = c.run;
     chain::stop(&mut run, c.level);
-    let answer = answer::refused(text, refusal, &run, counts::no_counts());
+    let answer = answer::refused_by(text, refusal, &run, counts::no_counts());
     unwind(bodies, answer, c, here)
 }
 
@@ -476,7 +476,7 @@ fn measured(
             rule: Rule::FlatFileTooLong,
             place: 0,
         };
-        let answer = answer::refused_outside(text, over_long, counts::no_counts());
+        let answer = answer::refused_outside_by(text, over_long, counts::no_counts());
         return over(bodies, answer, c.records);
     }
     *rows = [0; library::ROW_NUMBERS];
@@ -551,7 +551,7 @@ fn start(
 {
     match reader::first_fault(text) {
         Err(refusal) => {
-            let answer = answer::refused_outside(text, refusal, counts::no_counts());
+            let answer = answer::refused_outside_by(text, refusal, counts::no_counts());
             over(bodies, answer, records)
         }
         Ok(rounded) => {

@@ -40,7 +40,7 @@ fn print_refusal(text: &[u8], out: &mut [u8]) -> usize
     };
     let nothing: [u8; 0] = [];
     let mut none: [i32; 0] = [];
-    let answer = answer::refused_outside(text, over, counts::no_counts());
+    let answer = answer::refused_outside_by(text, over, counts::no_counts());
     listing::list(text, &mut none, &nothing, answer, out)
 }
 

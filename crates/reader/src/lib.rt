@@ -34,7 +34,7 @@ fn too_long(text: &[u8], counted: Counts) -> Answer
         rule: Rule::FlatFileTooLong,
         place: 0,
     };
-    answer::refused_outside(text, over, counted)
+    answer::refused_outside_by(text, over, counted)
 }
 
 // A text that refusals 1 to 9 let pass, with so many rounded distances. It is drawn twice, since no byte of the room may change before all is known: onto `scrap`, which tells how the
@@ -51,7 +51,7 @@ fn flatten_passed(
 {
     let mut drawing = [0usize; chain::RUN];
     match passing::draw(text, words, &mut drawing, scrap) {
-        Err(refusal) => answer::refused(text, refusal, &drawing, counts::no_counts()),
+        Err(refusal) => answer::refused_by(text, refusal, &drawing, counts::no_counts()),
         Ok(ink) => {
             let counted = ink.counts;
             let end = ink.pen.at;
@@ -86,7 +86,7 @@ fn read_text(text: &[u8], words: &mut [i32], room: &mut [u8]) -> Answer
     ensures { Comes text.now (length words.old) room.old result room.new }
 {
     match first_fault(text) {
-        Err(refusal) => answer::refused_outside(text, refusal, counts::no_counts()),
+        Err(refusal) => answer::refused_outside_by(text, refusal, counts::no_counts()),
         Ok(rounded) => {
             let mut nothing: [u8; 0] = [];
             flatten_passed(text, words, &mut nothing, room, rounded)

@@ -63,7 +63,7 @@ fn missing(text: &[u8]) -> Why
         rule: Rule::NoSuchShape,
         place: 0,
     };
-    let answer = answer::refused_outside(text, refusal, counts::no_counts());
+    let answer = answer::refused_outside_by(text, refusal, counts::no_counts());
     refused(answer)
 }
 

@@ -12,4 +12,4 @@ pub returns-in-Ok : goal.returns-in-Ok
 returns-in-Ok c = c.accepted.ensures ∙ ap (λ (k : Counts). success 0 (tally k) 0) c.no_counts.ensures ∙ ap (λ (f : Result ℕ Refusal). answer_of_fault c.args.text.now f) (sym c.in-Ok.is)
 
 pub returns-in-Err : goal.returns-in-Err
-returns-in-Err c = c.refused_outside.ensures ∙ ap (λ (f : Result ℕ Refusal). answer_of_fault c.args.text.now f) (sym c.in-Err.is)
+returns-in-Err c = c.refused_outside_by.ensures ∙ ap (λ (f : Result ℕ Refusal). answer_of_fault c.args.text.now f) (sym c.in-Err.is)

@@ -18,7 +18,7 @@ returns-then-room-length c =
       | then-room-length-via-then-room-length w ↦ inl w.if-room-length.true
       | then-room-length-via-else-room-length+then-length-gt-MOST_BYTES w ↦ inr w.if-length-gt-MOST_BYTES.true
     ] in
-    λ h fs m. measured_long m long c.refused_outside-answer.ensures c.over.ensures.0 c.over.ensures.1
+    λ h fs m. measured_long m long c.refused_outside_by-answer.ensures c.over.ensures.0 c.over.ensures.1
 
 pub write-requires : goal.write-requires
 write-requires c = (again-writes c.requires.1.1 c.fresh-again.ensures, (_, (_, again_at c.requires.1.1 c.fresh-again.ensures (omega (arith, c.if-room-length.false)) (omega (arith, c.if-length-gt-MOST_BYTES.false)))))

@@ -6,8 +6,8 @@ use Rattle.machine.proofs.stopped.Goals as goal
 pub stop-requires : goal.stop-requires
 stop-requires c = (c.requires.1, c.requires.0)
 
-pub refused-answer-requires : goal.refused-answer-requires
-refused-answer-requires c = c.stop.auto.run ∙ c.requires.0
+pub refused_by-answer-requires : goal.refused_by-answer-requires
+refused_by-answer-requires c = c.stop.auto.run ∙ c.requires.0
 
 pub returns : goal.returns
-returns c = stopped_so _ _ _ c.refused-answer.ensures c.stop.ensures c.unwind.ensures
+returns c = stopped_so _ _ _ c.refused_by-answer.ensures c.stop.ensures c.unwind.ensures

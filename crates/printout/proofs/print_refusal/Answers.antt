@@ -3,4 +3,4 @@ use Rattle.printout.proofs.Printing.{refusal-laid}
 use Rattle.printout.proofs.print_refusal.Goals as goal
 
 pub returns : goal.returns
-returns c = refusal-laid _ c.requires c.refused_outside-answer.ensures c.list.ensures
+returns c = refusal-laid _ c.requires c.refused_outside_by-answer.ensures c.list.ensures

@@ -14,7 +14,7 @@ pub returns-then-length-gt-MOST_BYTES : goal.returns-then-length-gt-MOST_BYTES
 returns-then-length-gt-MOST_BYTES c = over-told _ c.requires.passed (c.draw.ensures c.requires.passed) c.in-Ok.is (inr c.if-length-gt-MOST_BYTES.true) c.too_long-then-length-gt-MOST_BYTES.ensures
 
 pub returns-in-Err : goal.returns-in-Err
-returns-in-Err c = stopped-told _ c.requires.passed (c.draw.ensures c.requires.passed) c.in-Err.is c.refused.ensures
+returns-in-Err c = stopped-told _ c.requires.passed (c.draw.ensures c.requires.passed) c.in-Err.is c.refused_by.ensures
 
 pub returns-else-length-gt-MOST_BYTES : goal.returns-else-length-gt-MOST_BYTES
 returns-else-length-gt-MOST_BYTES c = written-told _ c.requires.passed (c.draw.ensures c.requires.passed) c.in-Ok.is c.draw.auto.bodies c.requires.is (omega (arith, c.if-room-length.false)) (omega (arith, c.if-length-gt-MOST_BYTES.false)) (c.write_file.ensures c.requires.passed) c.accepted.ensures

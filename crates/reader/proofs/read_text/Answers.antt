@@ -6,4 +6,4 @@ pub flatten_passed-requires : goal.flatten_passed-requires
 flatten_passed-requires c = passes c.first_fault.ensures c.in-Ok.is
 
 pub returns-in-Err : goal.returns-in-Err
-returns-in-Err c = fault-told c.first_fault.ensures c.in-Err.is c.refused_outside.ensures
+returns-in-Err c = fault-told c.first_fault.ensures c.in-Err.is c.refused_outside_by.ensures

@@ -2,4 +2,4 @@
 use Rattle.reader.proofs.too_long.Goals as goal
 
 pub returns : goal.returns
-returns c = c.refused_outside.ensures
+returns c = c.refused_outside_by.ensures
