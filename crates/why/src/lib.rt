@@ -79,6 +79,8 @@ fn told(text: &[u8], over: State) -> Why
 }
 
 // Of a text that is drawn through: the shape with this count, by the machine, before whose drawing so many shapes count as drawn that there is room for those before it and no more.
+// Out of line, so that its rows and records stand on the machine's stack after the reading, and not beneath it.
+#[inline(never)]
 fn among(text: &[u8], words: &mut [i32], room: &mut [u8], count: usize) -> Why
     requires { Drawable text.now (length words.old) × Zeroed words.old }
     ensures { PromisedWhy text.now words.old count result words.new }
