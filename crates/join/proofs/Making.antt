@@ -4,14 +4,13 @@ use Rattle.std.specs.Prelude.{if◌then◌else◌, Err, Ok, Result}
 use mathlib.Core.Path.{◌≡◌, refl, sym, ap, ap₂, ◌∙◌, subst}
 use mathlib.Core.Bool.{Bool, true, false, ◌&&◌}
 use mathlib.Core.Logic.{◌⊎◌, inl, inr}
-use mathlib.Core.List.{List, ◌++◌, append_assoc}
+use mathlib.Core.List.{List, ◌++◌}
 use Prim.Native.Nat.{ℕ, ◌+◌, ◌≤◌, ◌<◌}
 use native.Mathlib.Omega.{arith}
 use borrow.Author.Tests.{le-leb, lt-leb}
 use lib.Dec.{leb}
 use lib.ListN.{length, take, length-append}
-use lib.Seq.{length-take-le, sets-eq, drop-drop}
-use borrow.Rule.Slice.PartMut.{put_mid}
+use lib.Seq.{length-take-le}
 use Rattle.grammar.specs.Steps.{verdict_of}
 use Rattle.grammar.specs.Viable.{Grammatical}
 use Rattle.grammar.proofs.Verdicts.{Bytes}
@@ -21,19 +20,10 @@ use Rattle.definition.specs.Words.{bytes_of}
 use Rattle.definition.specs.declared.Rule.TheVariants.{FlatFileTooLong}
 use Rattle.joining.specs.Joined.{before_e, joined}
 use Rattle.digits.specs.Writes.{Writes}
-use Rattle.digits.proofs.Writing.{written, both, same_bytes, begins, measures}
+use Rattle.digits.proofs.Writing.{both, same_bytes, begins, measures}
 use Rattle.join.specs.Made.{CutAt, about, fitted, LeavesAt, Joining, judged, room_after, Made}
 use Rattle.join.specs.declared.NotJoined.{NotJoined}
 use Rattle.join.specs.declared.Which.TheVariants.{Neither, First, Second}
-
--- ---- a text copied to a part of the room
-
-pub copied : (room : List ℕ) (start many : ℕ) (t : List ℕ) {part : List ℕ} → many ≡ length t → start + length t ≤ length room → part ≡ t
-    → Writes room (put_mid start many room part) start (start + length t) t
-copied room start many t e fits is =
-    written
-    (rw (is, e) (ap (λ (r : List ℕ). take start room ++ (t ++ r)) (drop-drop (length t) start room) ∙ sym (append_assoc (take start room) t _) ∙ sym (sets-eq t room start fits)))
-    refl
 
 -- ---- the three parts of a joined text
 

@@ -50,14 +50,16 @@ fn end_of(text: &[u8]) -> usize
     last_e(text).unwrap_or(0)
 }
 
-// A text from a place of the room on; the next place.
+// A text from a place of the room on; the next place. Byte by byte, since `copy_from_slice` would need memmove, which no other function of the archive does.
 fn copy(room: &mut [u8], start: usize, text: &[u8]) -> usize
     requires { start + length text.now ≤ length room.old }
     ensures { Writes room.old room.new start result text.now }
 {
-    let next = start + text.len();
-    room[start..next].copy_from_slice(text);
-    next
+    let mut at = start;
+    for byte in text {
+        at = digits::lay(room, at, *byte);
+    }
+    at
 }
 
 // The joined text, in a room that holds it.
