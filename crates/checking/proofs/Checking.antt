@@ -6,7 +6,7 @@ use mathlib.Core.Path.{◌≡◌, refl, sym, ap, ◌∙◌, subst}
 use mathlib.Core.Bool.{Bool, true, false, not, ◌&&◌, ◌||◌}
 use mathlib.Core.List.{List, [], ◌∷◌}
 use mathlib.Core.Logic.{◌⊎◌, ⊎_elim}
-use Prim.Native.Nat.{ℕ, ◌+◌, ◌*◌, ◌%◌, ◌≤◌, ◌<◌}
+use Prim.Native.Nat.{ℕ, ◌+◌, ◌*◌, ◌/◌, ◌%◌, ◌≤◌, ◌<◌}
 use native.Mathlib.Omega.{arith}
 use borrow.Author.Tests.{ltb-false, eqb-false}
 use lib.Dec.{ltb, eqb}
@@ -17,9 +17,9 @@ use Rattle.pieces.specs.Pieces.{too_large, stream, start, Fit, Step}
 use Rattle.pieces.specs.declared.Spot.{Spot}
 use Rattle.pieces.specs.declared.Piece.{Piece}
 use Rattle.pieces.specs.declared.Piece.TheVariants.{First, Second, Number, Word, Stop}
-use Rattle.rules.specs.Letters.{letter_d, letter_l, no_refusal}
+use Rattle.rules.specs.Letters.{letter_d, letter_l, no_refusal, byte_unit}
 use Rattle.pieces.specs.Pieces.{letter_s, letter_f}
-use Rattle.rules.specs.Written.{turning}
+use Rattle.rules.specs.Written.{one, turning}
 use Rattle.rules.specs.Rules.{distance, scaleless, few, bare, many, whole_refusal}
 use Rattle.checking.specs.Account.{layer_of, refusal, scope, at_start}
 use Rattle.checking.specs.Along.{fresh, begun, idle, counted, worded, after_doing, finished, onward, runs, Fair, Sane}
@@ -27,6 +27,11 @@ use Rattle.checking.specs.declared.Scope.{Scope}
 use Rattle.checking.specs.declared.Doing.{Doing}
 use Rattle.pieces.proofs.Finds.{Finds, none, some}
 use Rattle.names.proofs.Naming.{name-room}
+
+pub with_letter_is : (c : Doing) (w t v : ℕ) → t ≡ c.turns + one (turning w) → v ≡ c.name + w * c.unit
+    → record { busy = c.busy; place = c.place; letter = c.letter; word = w; count = c.count; zero = c.zero; turns = t; unit = c.unit / byte_unit; a = c.a; b = c.b; name = v; no = c.no; at = c.at; rounded = c.rounded } ≡ worded c w
+unfolding worded
+with_letter_is c w t v et ev = rw (et, ev)
 
 -- what the code needs is kept
 abbrev FairEnd : Result Scope Refusal → Type 0

@@ -138,6 +138,13 @@ pub ends_with_nine : (n : ℕ) → 1000000000 ≤ n → shortest (n / 1000000000
 unfolding tens
 ends_with_nine n h = sym (in_parts 9 n h)
 
+pub counts-parts : (n : ℕ) → 1000000000 ≤ n → length (shortest n) ≡ length (shortest (n / 1000000000)) + 9
+counts-parts n h =
+    let l = lasts-length 9 (n % 1000000000) in
+    let a = length-append (shortest (n / 1000000000)) (lasts 9 (n % 1000000000)) in
+    let e = ap length (ends_with_nine n h) in
+    omega (arith, l, a, e)
+
 -- ---- the loop: `rest` has the digits that are left, as many as `k`, and the product is `rest` in units of 2^57 / 10^(k - 1)
 
 pub record Falling (old new : List ℕ) (at i : ℕ) (all : List ℕ) (left : ℕ) : Type 0 where

@@ -1,13 +1,14 @@
 -- Writes into a room, one after the other: what every function of the pen, and its callers, compose by.
 -- Assumes nothing.
 use mathlib.Core.Path.{◌≡◌, refl, sym, ap, ◌∙◌, subst}
+use mathlib.Core.Logic.{◌≢◌}
 use mathlib.Core.List.{List, [], ◌∷◌, ◌++◌, append_assoc, append-nil}
 use Prim.Native.Nat.{ℕ, suc, ◌+◌, ◌≤◌, ◌<◌}
 use native.Mathlib.Nat.{add-zero, add-suc, suc-add}
 use native.Mathlib.Numerals.{add-one}
 use native.Mathlib.Omega.{arith}
 use lib.ListN.{length, set, get_or, drop, length-append, drop_of_length-le}
-use lib.Seq.{set_out, sets, length-sets, sets-eq, drop-cons}
+use lib.Seq.{set_out, set_comm, sets, length-sets, sets-eq, drop-cons}
 use Rattle.digits.specs.Writes.{Writes}
 
 pub sets_append : {A : Type 0} (l : List A) (i : ℕ) (a b : List A) → sets (sets l i a) (i + length a) b ≡ sets l i (a ++ b)
@@ -19,6 +20,17 @@ sets_append l i (x ∷ a) b =
 sets_out : {A : Type 0} (l : List A) (i : ℕ) (vs : List A) → length l ≤ i → sets l i vs ≡ l
 sets_out l i [] h = refl
 sets_out {A} l i (x ∷ vs) h = ap (λ (m : List A). sets m (suc i) vs) (set_out l i x h) ∙ sets_out l (suc i) vs (omega (arith, h))
+
+set-behind : {A : Type 0} (l : List A) (i : ℕ) (vs : List A) (j : ℕ) (x : A) → i + length vs ≤ j → sets (set l j x) i vs ≡ set (sets l i vs) j x
+set-behind l i [] j x h = refl
+set-behind {A} l i (v ∷ vs) j x h =
+    let apart : j ≢ i = λ e. omega (arith, e, h) in
+    ap (λ (m : List A). sets m (suc i) vs) (set_comm l j i x v apart) ∙ set-behind (set l i v) (suc i) vs j x (omega (arith, h))
+
+-- the last may be stored before the others
+pub last-first : {A : Type 0} (l : List A) (i : ℕ) (vs : List A) (j : ℕ) (x : A) → j ≡ i + length vs → sets (set l j x) i vs ≡ sets l i (vs ++ (x ∷ []))
+last-first {A} l i vs j x e =
+    set-behind l i vs j x (omega (arith, e)) ∙ ap (λ (k : ℕ). set (sets l i vs) k x) e ∙ sets_append l i vs (x ∷ [])
 
 -- the record from what a function stores and gives back
 pub written : {old new : List ℕ} {at next : ℕ} {bytes : List ℕ} → new ≡ sets old at bytes → next ≡ at + length bytes → Writes old new at next bytes

@@ -14,7 +14,7 @@ use Rattle.definition.specs.Flat.{letter_of, numbers_of_shape}
 use Rattle.definition.specs.Table.{Step, shape, instance, setting}
 use Rattle.turns.specs.Words.{turn_words, turns_words}
 use Rattle.moves.specs.Moves.{size_count, direction_count}
-use Rattle.library.specs.Memory.{words_at, pairs, shape_in, turns_in, step_in, steps_of, steps_in, layer_after}
+use Rattle.library.specs.Memory.{words_at, pairs, shape_in, kind_in, turns_in, step_in, steps_of, steps_in, layer_after}
 use Rattle.library.specs.Sound.{letter_of_step, values_of, all_words, Fair, Proper, Sound}
 
 pub pairs-both : (ps : List (Point ℤ)) → pairs (both ps) ≡ ps
@@ -45,6 +45,13 @@ turns-back (translate p ∷ ts) = ap (λ (x : List (Turn ℤ)). translate p ∷ 
 turns-back (mirror_x ∷ ts) = mirror_x_lem (turns_words ts) ∙ ap (λ (x : List (Turn ℤ)). mirror_x ∷ x) (turns-back ts)
 turns-back (mirror_y ∷ ts) = mirror_y_lem (turns_words ts) ∙ ap (λ (x : List (Turn ℤ)). mirror_y ∷ x) (turns-back ts)
 turns-back (rotate p ∷ ts) = ap (λ (x : List (Turn ℤ)). rotate p ∷ x) (turns-back ts)
+
+kind-back : (k : Kind) → kind_in (letter_of k) ≡ k
+unfolding letter_of
+kind-back box = refl
+kind-back flash = refl
+kind-back wire = refl
+kind-back polygon = refl
 
 -- three parts, the first and the last of known length
 middle : (a p q : List ℤ) (s d : ℕ) → length a ≡ s → length q ≡ d

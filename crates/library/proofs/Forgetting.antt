@@ -7,9 +7,10 @@ use native.Mathlib.Nat.{not-suc-le-zero}
 use native.Mathlib.Omega.{arith}
 use borrow.Author.Tests.{lt-ltb, le-ltb}
 use lib.IntN.{ℤ}
+use lib.ListN.{length}
 use Rattle.definition.specs.Words.{those}
 use Rattle.definition.specs.Table.{Table, forget}
-use Rattle.library.specs.Memory.{symbol_at, definition_at, table_from}
+use Rattle.library.specs.Memory.{row_numbers, symbol_at, definition_at, table_from}
 use Rattle.library.specs.Sound.{Stocked}
 use Rattle.library.specs.Moving.{Laid}
 use Rattle.library.specs.Rows.{Sorted, Parted, Forgets}
@@ -47,3 +48,13 @@ laid_fewer h l m = record {
 
 pub stocked_fewer : {rows : List ℕ} {b : List ℤ} {live left : ℕ} → Stocked rows b live → left ≤ live → Stocked rows b left
 stocked_fewer h l = record { few = omega (arith, h.few); within = λ i m. h.within i (omega arith); sound = λ i m. h.sound i (omega arith) }
+
+-- where no row is live yet
+pub sorted_none : (rows : List ℕ) → Sorted rows 0
+sorted_none rows = record { few = omega arith; rising = λ i j h l. absurd (omega arith) }
+
+pub laid_none : (rows : List ℕ) → length rows ≡ row_numbers → Laid rows 0 0
+laid_none rows e = record { few = omega arith; sized = e; within = λ i l. absurd (omega arith); apart = λ i j k l. absurd (omega arith) }
+
+pub stocked_none : (rows : List ℕ) (b : List ℤ) → Stocked rows b 0
+stocked_none rows b = record { few = omega arith; within = λ i l. absurd (omega arith); sound = λ i l. absurd (omega arith) }

@@ -74,3 +74,6 @@ sum_rises f m (suc n) l = go (eqb m (suc n)) refl (λ k. sum_rises f m n k)
         let c = sum_next f n in
         let x = ap (sum_of f) (add-one n) in
         omega (arith, a, c, x)
+
+pub one_of_sum : (f : ℕ → ℕ) (i n : ℕ) → i < n → f i ≤ sum_of f n
+one_of_sum f i n l = let a = sum_rises f (i + 1) n (omega arith) in let c = sum_next f i in omega (arith, a, c)

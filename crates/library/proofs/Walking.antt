@@ -13,6 +13,12 @@ use Rattle.library.specs.Moving.{Laid, Moved, Tagged, Owns, Settled, Compacted}
 use Rattle.library.proofs.Packing.{Lowest, Packing, pack_start, packed, pack_by}
 use Rattle.library.proofs.Cases.{equal_or, by_row, by_place}
 
+-- ---- rows are numbered
+
+-- no two bodies start at one place
+pub start_once : {rows : List ℕ} {live n : ℕ} → Laid rows live n → (i j : ℕ) → i < live → j < live → (i ≡ j → ⊥) → 0 < length_at rows i → 0 < length_at rows j → start_at rows i ≡ start_at rows j → ⊥
+start_once h i j k l e x y z = let a = h.apart i j k l e x y (omega arith) in omega arith
+
 -- ---- the walk
 
 -- Up to `at` all is as it is to be, from there on as it stood but for the first words: `clean` is the run with all of them back.

@@ -1,7 +1,7 @@
 -- The places of the open calls, written one after the other: what a refusal's line tells after its column.
 -- Assumes nothing.
-use mathlib.Core.Path.{◌≡◌, refl, ap, ◌∙◌}
-use mathlib.Core.List.{List, [], ◌∷◌, ◌++◌, map, append_assoc}
+use mathlib.Core.Path.{◌≡◌, refl, sym, ap, ◌∙◌}
+use mathlib.Core.List.{List, [], ◌∷◌, ◌++◌, map, append_assoc, append-nil}
 use Prim.Native.Nat.{ℕ, ◌+◌, ◌≤◌, ◌<◌}
 use lib.IntN.{pos}
 use lib.ListN.{length, get_or, drop}
@@ -16,6 +16,12 @@ pub tabbed-fields : (l : List ℕ) → tabbed l ++ (10 ∷ []) ≡ fields (map (
 unfolding tabbed fields bytes_of
 tabbed-fields [] = refl
 tabbed-fields (n ∷ l) = append_assoc (9 ∷ decimal (pos n)) (tabbed l) (10 ∷ []) ∙ ap (λ (x : List ℕ). 9 ∷ (decimal (pos n) ++ x)) (tabbed-fields l)
+
+-- one more at the end
+pub tabbed-more : (l : List ℕ) (n : ℕ) → tabbed l ++ (9 ∷ decimal (pos n)) ≡ tabbed (l ++ (n ∷ []))
+unfolding tabbed
+tabbed-more [] n = sym (append-nil (9 ∷ decimal (pos n)))
+tabbed-more (m ∷ l) n = append_assoc (9 ∷ decimal (pos m)) (tabbed l) (9 ∷ decimal (pos n)) ∙ ap (λ (x : List ℕ). (9 ∷ decimal (pos m)) ++ x) (tabbed-more l n)
 
 -- what is left of them
 pub next-place : (l : List ℕ) (i : ℕ) → i < length l → tabbed (drop i l) ≡ (9 ∷ decimal (pos (get_or l i 0))) ++ tabbed (drop (i + 1) l)
